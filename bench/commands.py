@@ -2,10 +2,10 @@
 COUNT times.
 
     bench/commands.py plain NAME COUNT            without a session
-    bench/commands.py object NAME COUNT           of objects
-    bench/commands.py session NAME BINDING COUNT  reset or extend of a PCR, write or read of an index
-                                                  by its own value, in an HMAC session that is bound
-                                                  to none, owner or index
+    bench/commands.py object NAME COUNT           a command on objects
+    bench/commands.py session NAME BINDING COUNT  reset or extend of a PCR, or write or read of an
+                                                  index with its own value, in an HMAC session that
+                                                  is bound to BINDING: none, owner or index
     bench/commands.py nv NAME SIZE INDICES COUNT  read, write or increment of the first of INDICES
                                                   indices, each of SIZE bytes
 

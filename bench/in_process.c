@@ -5,7 +5,8 @@
  *     cmd HEX                         prints the response
  *     power                           power-cycles the device
  *     time COUNT HEX..                executes these commands in turn, COUNT times
- *     session COUNT HANDLE NONCE      executes TPM2_PCR_Reset COUNT times by this HMAC session
+ *     layered COUNT HEX..             does the same with the completing layer of libtpmsim
+ *     session COUNT HANDLE NONCE      executes TPM2_PCR_Reset COUNT times with this HMAC session
  *     save|open|new|cycle|snapshot|restore COUNT
  *                                     does that COUNT times with a device of libtpmsim
  *     volatile COUNT                  makes libtpms write its volatile state COUNT times
@@ -44,7 +45,7 @@ static uint64_t now(void) {
     return (uint64_t)told.tv_sec * 1000000000u + (uint64_t)told.tv_nsec;
 }
 
-/* The states that libtpms stores, each with its name, in memory. */
+/* The states that libtpms stores. They are kept in memory, each with its name. */
 static struct state {
     char name[32];
     unsigned char *bytes;
@@ -125,6 +126,9 @@ static struct tpmsim device;
 static uint8_t random_bytes[RANDOM_BYTES], room[RESPONSE_BYTES];
 static uint64_t last_ms;
 
+/* Whether commands also go through the completing layer of libtpmsim. */
+static int is_layered;
+
 static void renew(size_t count) {
     if (getrandom(random_bytes, count, 0) != (ssize_t)count) fail("there are no random bytes");
 }
@@ -152,9 +156,9 @@ static void execute(unsigned char *buffer, uint32_t size) {
     }
     struct tpmsim_answered answered;
     uint64_t ms = now() / 1000000;
-    if (tpmsim_execute(&device, buffer, size, 0, (uint32_t)(ms - last_ms), random_bytes, room,
-                       &answered) != TPMSIM_DONE)
-        fail("libtpmsim does not execute");
+    uint8_t told = (is_layered ? tpmsim_complete : tpmsim_execute)(
+        &device, buffer, size, 0, (uint32_t)(ms - last_ms), random_bytes, room, &answered);
+    if (told != TPMSIM_DONE) fail("libtpmsim does not execute");
     if (target == SIM && answered.drawn) renew(answered.drawn);
     last_ms = ms;
     response = room;
@@ -302,7 +306,11 @@ static void follow(char *line) {
         cycle_power();
     else if (strcmp(line, "time") == 0)
         time_commands(rest);
-    else if (strcmp(line, "session") == 0)
+    else if (strcmp(line, "layered") == 0) {
+        is_layered = 1;
+        time_commands(rest);
+        is_layered = 0;
+    } else if (strcmp(line, "session") == 0)
         time_session(rest);
     else if (strcmp(line, "volatile") == 0)
         time_volatile(atol(rest));

@@ -14,7 +14,7 @@ from dataclasses import dataclass, field, replace
 
 from tpmsim.caller import hmac_key, Made, sealed, storage_key
 from tpmsim.caller.prepared_commands import PreparedCommands
-from tpmsim.standard import Fields, lines
+from tpmsim.standard import command, Fields, lines, number, on_handle, RH_NULL, SHA256, sized
 from tpmsim.standard.objects import Public
 
 ROUNDS = 15
@@ -31,6 +31,10 @@ SESSION = f"StartAuthSession NULL NULL {'00' * 16} - {{}} null sha256"
 BOUND = f"StartAuthSession NULL OWNER {'00' * 32} - 0 null sha256"
 BY_SESSION = "PCR_Reset by an HMAC session"
 PARENT, KEY, LOADED = "80000000", "80000001", "80000002"
+
+# The codes of the commands on a hash sequence, and its handle in libtpmsim and in libtpms.
+HASH_SEQUENCE_START, SEQUENCE_UPDATE, SEQUENCE_COMPLETE = 0x186, 0x15C, 0x13E
+SEQUENCE, SEQUENCE_OF_LIBTPMS = 0x8000_0008, 0x8000_0002
 
 # TPM2_PCR_Allocate of only the banks that libtpmsim has: SHA-1 and SHA-256.
 BANKS = "00000004000403ffffff000b03ffffff000c03000000000d03000000"
@@ -135,6 +139,23 @@ def prepare(program: Program, target: str) -> str:
     return f"time {create(SEALED)} {load} {unseal} {flush}"
 
 
+def hash_sequence(handle: int) -> str:
+    """Returns the commands, in hex, that hash 1,024 bytes with a sequence that has this handle."""
+    commands = [
+        command(HASH_SEQUENCE_START, sized(b"") + number(SHA256, 2)),
+        on_handle(SEQUENCE_UPDATE, handle, sized(bytes.fromhex(LARGE))),
+        on_handle(SEQUENCE_COMPLETE, handle, sized(b"") + number(RH_NULL, 4)),
+    ]
+    return " ".join(it.hex() for it in commands)
+
+
+def sequence_row() -> Row:
+    """Returns the row of a hash sequence. In libtpmsim, the completing layer serves sequences."""
+    ours = f"layered {hash_sequence(SEQUENCE)}"
+    tells = {"tpms": f"time {hash_sequence(SEQUENCE_OF_LIBTPMS)}", "sim": ours, "still": ours}
+    return Row("HashSequenceStart, SequenceUpdate of 1,024 bytes and SequenceComplete", 500, tells)
+
+
 def rows(seals: dict[str, str]) -> list[Row]:
     writes = [f"NV_Write OWNER 01000000 pw:- {it * 64} 0" for it in ("22", "44")]
     read = "PCR_Read sha256:0,1,2,3,4,5,6,7"
@@ -147,6 +168,7 @@ def rows(seals: dict[str, str]) -> list[Row]:
         in_words("NV_Read of 64 bytes", 2000, "NV_Read OWNER 01000000 pw:- 64 0"),
         in_words("NV_Write of 64 bytes", 500, *writes, times_each=2),
         in_words("HMAC of 1,024 bytes", 500, f"HMAC {KEY} pw:- {LARGE} sha256"),
+        sequence_row(),
         Row(BY_SESSION, 500, {}),
         in_words("StartAuthSession, PolicyPCR and FlushContext", 500, *policy),
         Row("Create, Load, Unseal and FlushContext", 200, seals),
@@ -210,11 +232,11 @@ def main() -> None:
     program = Program(sys.argv[1])
     rounds = int(sys.argv[2]) if len(sys.argv) > 2 else ROUNDS
     table = rows(prepare_all(program))
-    for number in range(rounds + 1):
+    for past in range(rounds + 1):
         for row, target in itertools.product(table, TARGETS):
             measure(program, row, target)
         # In the first round libtpms still runs its self-test.
-        for row in table if number == 0 else []:
+        for row in table if past == 0 else []:
             row.times = {it: [] for it in TARGETS}
     print("| commands | libtpms | libtpmsim | with random bytes that stay | ratio |")
     print("|---|---|---|---|---|")

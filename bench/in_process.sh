@@ -1,5 +1,5 @@
 #!/bin/sh
-# Compares the library with libtpms, both in one process: ten measurements of commands, with their ratios; the
+# Compares the library with libtpms, both in one process: eleven measurements of commands, with their ratios; the
 # time to save and open an image, to make a device and to cycle its power; and the stack and memory that the
 # calls use. Needs python3, a C compiler, Debian's libtpms-dev and libssl-dev, and the library in dist/.
 # in_process.c contains the devices, and in_process.py takes the measurements. Not part of the gate.

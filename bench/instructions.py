@@ -2,9 +2,10 @@
 
     tools/python.sh bench/instructions.py PROGRAM FOLDER
 
-PROGRAM is built from in_process.c, and runs under callgrind; FOLDER is for its files. A figure is
-the mean over the executions of a row. The last two columns exclude digests and ciphers: the
-functions of libcrypto in libtpms, and those of the crates sha1, sha2 and tpm_aes in libtpmsim.
+PROGRAM is built from in_process.c, and runs under callgrind, which writes its files to FOLDER. A
+figure is the mean over the executions of a row. The last two columns exclude digests and ciphers:
+the functions of libcrypto in libtpms, and those of the crates sha1, sha2, tpm_aes and
+tpm_hash_state in libtpmsim.
 """
 
 import re
@@ -26,12 +27,12 @@ CALLGRIND = (
 
 # A line of callgrind_annotate: a count, and a function or the words for the total.
 LINE = re.compile(r"^ *([0-9,]+) \([0-9. ]+%\) +(.*)$", re.MULTILINE)
-DIGESTS = re.compile(r":<?(sha1|sha2|tpm_aes)::|libcrypto")
+DIGESTS = re.compile(r":<?(sha1|sha2|tpm_aes|tpm_hash_state)::|libcrypto")
 
 
 def counted(path: Path) -> tuple[int, int]:
-    """Returns two counts of instructions in a file of callgrind: all of them, and those outside
-    digests and ciphers.
+    """Returns two counts of instructions in a file of callgrind: all instructions, and those
+    outside digests and ciphers.
     """
     words = "callgrind_annotate", "--threshold=100", str(path)
     done = subprocess.run(words, capture_output=True, text=True, check=True)

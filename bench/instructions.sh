@@ -1,8 +1,8 @@
 #!/bin/sh
-# Counts the instructions of the ten measurements of in_process.sh, with the library and with libtpms, with and
-# without digests and ciphers. Needs valgrind, python3, a C compiler, Debian's libtpms-dev and libssl-dev, and
-# the library in dist/. in_process.c contains the devices, and instructions.py evaluates the counts. Not part of
-# the gate.
+# Counts the instructions of the eleven measurements of in_process.sh, for the library and for libtpms. Prints each
+# count with and without the instructions for digests and ciphers. Needs valgrind, python3, a C compiler, Debian's
+# libtpms-dev and libssl-dev, and the library in dist/. in_process.c contains the devices, and instructions.py
+# evaluates the counts. Not part of the gate.
 set -eu
 
 top=$(CDPATH='' cd "$(dirname "$0")/.." && pwd -P)

@@ -49,7 +49,7 @@ def run(words: list[str], transport: str) -> Cost:
 
 
 def instructions(words: list[str], transport: str) -> int:
-    """Returns the number of instructions that a program executes in all."""
+    """Returns the total number of instructions that a program executes."""
     counting = ["valgrind", "--tool=callgrind", "--callgrind-out-file=/dev/null"]
     environment = os.environ | {"TPM2TOOLS_TCTI": transport}
     done = subprocess.run(
@@ -96,8 +96,8 @@ class Act:
 
 
 def measure_act(act: Act, client: str, transport: str, rounds: int) -> None:
-    """Measures a task. For the processor time and the instructions, subtracts those of a process
-    that performs the task once from those of a process that repeats it.
+    """Measures a task. The processor time and the instructions are the difference between a process
+    that repeats the task and a process that performs it once.
     """
     words = [[client, transport, act.name, str(count)] for count in (1, act.count + 1)]
     elapsed = [elapsed_of_one(client, transport, act.name, act.count) for _ in range(rounds)]

@@ -1,8 +1,8 @@
 #!/bin/sh
-# Measures lines with GetRandom in words, and with the same commands in hex: the time of a million lines of each
-# kind, as the fastest of ten alternating runs; the instructions of a line; and the number of allocations, which
-# must not grow with the script. Needs GNU time, valgrind, and rt if tpmsim is not built yet. Not part of the
-# gate.
+# Measures script lines with GetRandom commands in words, and with the same commands in hex: the time of a million
+# lines of each kind, as the fastest of ten alternating runs; the instructions of a line; and the number of
+# allocations, which must not grow with the script. Needs GNU time, valgrind, and rt if tpmsim is not built yet.
+# Not part of the gate.
 set -eu
 
 top=$(CDPATH='' cd "$(dirname "$0")/.." && pwd -P)

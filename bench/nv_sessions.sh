@@ -1,9 +1,8 @@
 #!/bin/sh
 # Counts the device's instructions for TPM2_NV_Write, TPM2_NV_Read and TPM2_PCR_Extend, and how many of these
 # instructions compute hashes. An HMAC session authorizes the commands. The session is unbound, or bound to the
-# owner or to the index. Like commands.sh, this script takes the difference between the counts of a long and a
-# short script under callgrind. Needs valgrind, python3, and rt if tpmsim is not built yet. Not part of the
-# gate.
+# owner or to the index. Like commands.sh, it runs a short and a long script under callgrind, and subtracts the
+# counts. Needs valgrind, python3, and rt if tpmsim is not built yet. Not part of the gate.
 set -eu
 
 top=$(CDPATH='' cd "$(dirname "$0")/.." && pwd -P)

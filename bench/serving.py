@@ -3,7 +3,8 @@
     python3 serving.py PROGRAM BARE IMAGE
 
 PROGRAM is tpmsim. BARE is a program that reads twelve bytes at a time from a socket, and writes as
-many bytes as the response to TPM2_GetRandom of 32 bytes has. IMAGE is the image of a device."""
+many bytes as a response with 32 random bytes has. IMAGE is the image of a device.
+"""
 
 import contextlib
 import os

@@ -1,6 +1,6 @@
 #!/bin/sh
-# Measures TPM2_PCR_Reset with an HMAC session and prepared buffers: commands per second. Needs python3, GNU
-# time, and rt if tpmsim is not built yet. Not part of the gate.
+# Measures how many TPM2_PCR_Reset commands with an HMAC session are executed per second, with prepared buffers.
+# Needs python3, GNU time, and rt if tpmsim is not built yet. Not part of the gate.
 set -eu
 
 top=$(CDPATH='' cd "$(dirname "$0")/.." && pwd -P)

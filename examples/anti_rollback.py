@@ -52,9 +52,7 @@ def start(version):
 
 
 def hand_over():
-    """Sets platformAuth to a random value. It is empty after TPM2_Startup, until the boot loader sets
-    it.
-    """
+    """Sets platformAuth to a random value. From TPM2_Startup until then, platformAuth is empty."""
     global platform_auths
     platform_auths += 1
     value = hashlib.sha256(b"platform %d" % platform_auths).digest()

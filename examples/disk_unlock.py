@@ -36,7 +36,9 @@ def value_behind(pcr, measurements):
 
 
 def policy_of(measurements):
-    """Returns the authPolicy that TPM2_PolicyPCR makes after these measurements."""
+    """Returns the authPolicy: the policy digest that TPM2_PolicyPCR results in after these
+    measurements.
+    """
     values = b"".join(value_behind(pcr, measurements) for _, pcrs in CHOSEN for pcr in pcrs)
     values_digest = digest(SHA256, values)
     return policy.after_pcr(SHA256, bytes(32), selection(*CHOSEN), values_digest)

@@ -23,7 +23,7 @@ tpm = Example(__name__, __doc__)
 
 
 def measured_by(measurements):
-    """Returns the digest of the chosen PCRs' values after these measurements."""
+    """Returns the digest of the values that the chosen PCRs have after these measurements."""
     values = {
         pcr: digest(SHA256, bytes(32) + digest(SHA256, data)) for pcr, _, data in measurements
     }

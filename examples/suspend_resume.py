@@ -28,7 +28,7 @@ def boot():
 
 
 def load_key():
-    """Loads the home directory's key, which is sealed to the measurements of the start."""
+    """Loads the home directory's key, which is sealed to the PCR values after the start."""
     parent = tpm.storage_root("TPM2_CreatePrimary of the storage key")
     handle = tpm.load("TPM2_Load of the sealed key", parent, token)
     tpm.flush_objects("TPM2_FlushContext of the storage key", parent)

@@ -5,8 +5,8 @@
 
 extern char **environ;
 
-/* Writes a text to the beginning of a buffer, without its terminating zero. Returns its length, -1
-   or -2, like rattle_arg. */
+/* Writes a text, without its terminating zero, to the beginning of a buffer. Returns what
+ * rattle_arg returns: the length of the text, -1 or -2. */
 static ssize_t put(const char *text, unsigned char *buffer, size_t size) {
     if (text == NULL)
         return -1;

@@ -9,19 +9,21 @@
 #include <stdint.h>
 #include <sys/types.h>
 
-/* The result of an allocation: whether it succeeded, 0 or 1, and the block. After a failure,
- * `block` is a non-null address that must not be used. Proved code reads only one byte of `ok`. The
- * other bytes are zeros. */
+/* The result of an allocation: `ok` is 1 if it succeeded, otherwise 0. After a failure, `block` is
+ * a non-null address that must not be used. Proved code reads only one byte of `ok`. The other
+ * bytes of `ok` are zeros. */
 struct tried {
     uint64_t ok;
     void *block;
 };
 
-/* Allocates `size` bytes, less than 2^63, aligned to `alignment`, a divisor of 16. */
+/* Allocates `size` bytes, aligned to `alignment`. `size` is less than 2^63, and `alignment` divides
+ * 16. */
 struct tried rattle_alloc(size_t size, size_t alignment);
 
-/* Resizes a block to `size` bytes, and may move it. The first `kept` bytes, which fit both sizes,
- * are unchanged. If the allocation fails, the block is unchanged, and the caller still owns it. */
+/* Resizes a block to `size` bytes, and may move it. The first `kept` bytes are unchanged; `kept` is
+ * at most the old size and the new size. If the allocation fails, the block is unchanged, and the
+ * caller still owns it. */
 struct tried rattle_realloc(void *block, size_t kept, size_t size, size_t alignment);
 
 /* Frees a block that rattle_alloc or rattle_realloc returned. */

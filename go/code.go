@@ -35,8 +35,8 @@ func (code Code) Place() string {
 	}
 }
 
-// Name returns the name without its place, such as AUTH_FAIL. It is empty for a code that this
-// device never returns.
+// Name returns the code's name without the parameter, handle or session, such as AUTH_FAIL. The
+// name is empty for a code that this device never returns.
 func (code Code) Name() string {
 	if code == Success {
 		return "SUCCESS"
@@ -69,8 +69,8 @@ type Refusal struct {
 	check   uint8
 }
 
-// Check returns the check that refused the command, by its name in traces and in docs/table, such
-// as G9.
+// Check returns the name of the check that refused the command, such as G9. Traces and docs/table
+// use the same names.
 func (it *Refusal) Check() string {
 	switch {
 	case it.check == 255:

@@ -1,7 +1,7 @@
 package tpmsim
 
-// codes contains the names of the response codes without the number of a handle, parameter or
-// session (Part 2, section 6.6.3), by number.
+// codes maps the response codes, without the number of a handle, parameter or session, to their
+// names (Part 2, section 6.6.3).
 var codes = map[Code]string{
 	0x01e: "BAD_TAG",
 	0x082: "ATTRIBUTES",
@@ -54,7 +54,7 @@ var codes = map[Code]string{
 	0x921: "LOCKOUT",
 }
 
-// commands contains the names of the implemented commands (Part 2, section 6.5.2), by number.
+// commands maps the codes of the implemented commands to their names (Part 2, section 6.5.2).
 var commands = map[uint32]string{
 	0x120: "EvictControl",
 	0x122: "NV_UndefineSpace",

@@ -102,8 +102,8 @@ func front(bytes []byte) *C.uint8_t {
 	return (*C.uint8_t)(unsafe.Pointer(&bytes[0]))
 }
 
-// fault converts the return code of a call that reads a text. first is the code of the first fault
-// for which the call checks.
+// fault converts the return code of a call that reads an image or a state text. first is the return
+// code for the first entry of faults.
 func fault(told, first int, of error) error {
 	switch at := told - first; {
 	case told == C.TPMSIM_DONE:

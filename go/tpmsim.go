@@ -11,8 +11,8 @@
 // specification requires. Each test has its own TPM: TPMs share no file, lock or variable. A TPM
 // has the methods of go-tpm's transport.TPMCloser, and of the simulator of go-tpm-tools.
 //
-// It needs cgo, on Linux on amd64 or arm64. CGO_LDFLAGS=-LFOLDER selects another folder with
-// libtpmsim.a.
+// The package needs cgo, and Linux on amd64 or arm64. CGO_LDFLAGS=-LFOLDER selects another folder
+// with libtpmsim.a.
 package tpmsim
 
 import (
@@ -87,7 +87,7 @@ func WithoutStartup() Option {
 	return func(it *opening) { it.tpm.starts = false }
 }
 
-// WithCompletion puts the completing layer above the device, which answers commands on saved
+// WithCompletion puts the completing layer above the device. The layer answers commands on saved
 // contexts, and other commands that the device by design does not support.
 func WithCompletion() Option {
 	return func(it *opening) { it.tpm.completes = true }
@@ -155,13 +155,14 @@ func (tpm *TPM) execute(command []byte) (outcome, error) {
 		tpm.log.command(command, random[:told.drawn], told.response)
 	}
 	if err := tpm.source.renew(told.drawn); err != nil {
-		tpm.native.free() // so that nothing is drawn again
+		tpm.native.free() // so that no random bytes are drawn twice
 		return outcome{}, err
 	}
 	return told, nil
 }
 
-// accepted returns the bytes after the header, or the refusal. The caller must hold the lock.
+// accepted executes a command, and returns the bytes after the header of the response, or the
+// refusal. The caller must hold the lock.
 func (tpm *TPM) accepted(command []byte) ([]byte, error) {
 	told, err := tpm.execute(command)
 	if err != nil {
@@ -270,7 +271,7 @@ func (tpm *TPM) PowerCycle() error {
 	return tpm.cycle()
 }
 
-// SetLocality sets the locality of the next commands, 0 to 4, at first 0.
+// SetLocality sets the locality of the next commands, 0 to 4. At first the locality is 0.
 func (tpm *TPM) SetLocality(locality int) error {
 	tpm.lock.Lock()
 	defer tpm.lock.Unlock()

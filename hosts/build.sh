@@ -3,7 +3,7 @@
 # the same sources always result in the same bytes.
 #
 #   hosts/build.sh tcti FOLDER        libtss2-tcti-tpmsim.so.0, the module for libtss2, and tpmsim-power
-#   hosts/build.sh libtpms FOLDER     libtpms.so.0, with which swtpm uses a tpmsim; tpmsim-swtpm, which
+#   hosts/build.sh libtpms FOLDER     libtpms.so.0, with which swtpm uses tpmsim; tpmsim-swtpm, which
 #                                     starts swtpm with that library; swtpm and swtpm_setup, for libvirt's path
 #   hosts/build.sh simulator FOLDER   tpmsim-simulator
 #

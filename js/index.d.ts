@@ -39,7 +39,7 @@ export interface Row {
 export interface Answer {
   response: Uint8Array;
   row: Row;
-  /** The number of random bytes that the command drew: the first ones of its 256. */
+  /** The number of random bytes that the command drew, from the beginning of its 256. */
   drawn: number;
   /** The trace, such as `Startup L0 +0 ok 00000000`; empty with the completing layer. */
   trace: string;

@@ -1,6 +1,6 @@
-# Completion of tpmsim and its tools for bash. The programs themselves report the words: `--help`
-# lists the subcommands, the options, and the kind of each option's value, as in `--image <FILE>`;
-# `tpmsim lines` lists the names of commands.
+# Completion of tpmsim and its tools for bash. The words to complete come from the programs
+# themselves: `--help` lists the subcommands, the options, and the kind of each option's value, as
+# in `--image <FILE>`; `tpmsim lines` lists the names of commands.
 
 # Each of the following functions reads a help text. They print its subcommands, the options in its
 # indented lines, the kind of an option's value, and the kind of the first argument.

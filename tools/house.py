@@ -3,8 +3,8 @@
 highest of the crates that it depends on; crates without dependencies are at the bottom. A crate's
 colour shows its group, which is a heading of crates.txt.
 
-`tools/house.py` compares the picture with the new one, and its status is 1 if they differ;
-`tools/house.py --write` writes it.
+`tools/house.py` draws the picture again, and its status is 1 if the file differs from it;
+`tools/house.py --write` writes the file.
 """
 
 import re

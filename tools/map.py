@@ -1,8 +1,8 @@
 #!/usr/bin/env python3
 """Makes the list of crates in docs/MAP.md, from the first clause of each crate's root file.
 
-`tools/map.py` compares the list in the document with the new one, and its status is 1 if they differ;
-`tools/map.py --write` writes it.
+`tools/map.py` makes the list again, and its status is 1 if the one in the document differs;
+`tools/map.py --write` writes the list into the document.
 """
 
 import re

@@ -2,10 +2,10 @@
 """Runs the gate and writes its figures to docs/gate.json.
 
 `tools/measure.py` runs .ci/run at the top of the repository, prints its output, and adds up the CPU
-seconds of all toolchain processes, by crate and kind of process. `tools/measure.py --proofs` does
-the same with only `rt ci`. `tools/measure.py WORDS..` measures another command, prints the figures
-and writes nothing. If `taskset` limits the processors, the figures are stored separately from those
-for all processors. Runs only on Linux.
+seconds of all toolchain processes, for each crate and kind of process. `tools/measure.py --proofs`
+does the same with only `rt ci`. `tools/measure.py WORDS..` measures another command, prints the
+figures and writes nothing. If `taskset` limits the processors, the figures are stored separately
+from those for all processors. Runs only on Linux.
 
 `tools/measure.py --wrong REFUSED TRIED` stores how many wrong bodies outside the gate were refused.
 """

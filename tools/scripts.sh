@@ -16,16 +16,16 @@
 #
 # The tests work in folders in memory, if there is enough memory, or in TMPDIR, if that is set.
 #
-# NAME.tpm is run as `PROGRAM run NAME.tpm`, or as `tpmsim_lists <NAME.tpm`, and NAME.sh as
-# `sh NAME.sh PROGRAM`. A shell test whose name begins with lists_ is run only with tpmsim_lists. A shell test
-# whose name begins with library_ or attached_ is run with dist/libtpmsim.a. All other shell tests are run with
-# the other programs. NAME.out is the expected standard output, NAME.err the expected standard error (no file:
-# empty), and NAME.status the expected status (no file: 0). If there is a NAME.trace, a further test runs
-# NAME.tpm as `PROGRAM run --trace NAME.tpm` and expects NAME.trace as standard output. A shell test that cannot
-# run here ends with status 77, and prints one line with the reason. Such a test is counted as skipped, like a
-# test whose program is missing. Results are printed in the order of programs and of tests, whichever ends
-# first. The last line is `N passed, M failed`, followed by `, K skipped` if a test was skipped. If installing
-# Debian packages would allow skipped tests to run, the line before it names them.
+# NAME.tpm is run as `PROGRAM run NAME.tpm`, or as `tpmsim_lists <NAME.tpm`, and NAME.sh as `sh NAME.sh PROGRAM`. A
+# shell test whose name begins with lists_ is run only with tpmsim_lists. A shell test whose name begins with
+# library_ or attached_ is run with dist/libtpmsim.a. All other shell tests are run with the other programs.
+# NAME.out is the expected standard output, NAME.err the expected standard error (no file: empty), and NAME.status
+# the expected status (no file: 0). If there is a NAME.trace, a further test runs NAME.tpm as
+# `PROGRAM run --trace NAME.tpm` and expects NAME.trace as standard output. A shell test that cannot run here ends
+# with status 77, and prints one line with the reason. Such a test is counted as skipped, like a test whose program
+# is missing. Results are printed in the order of programs and of tests, regardless of which test ends first. The
+# last line is `N passed, M failed`, followed by `, K skipped` if a test was skipped. If installing Debian packages
+# would allow skipped tests to run, the line before it names them.
 set -u
 
 top=$(CDPATH='' cd "$(dirname "$0")/.." && pwd -P) || exit 1

@@ -51,7 +51,7 @@ static inline void put_number(text *to, uint64_t number, unsigned size) {
     while (size-- > 0) to->bytes[to->size++] = (uint8_t)(number >> 8 * size);
 }
 
-/* Appends a buffer with a size field of two bytes. */
+/* Appends a size field of two bytes, followed by the buffer. */
 static inline void put_sized(text *to, const void *bytes, size_t size) {
     put_number(to, size, 2);
     put(to, bytes, size);
@@ -67,7 +67,7 @@ static inline uint32_t number_at(const uint8_t *bytes, unsigned size) {
     return number;
 }
 
-/* Ends the program unless a condition holds that should always hold. */
+/* Ends the program if a condition that should always hold does not hold. */
 static inline void need(int holds, const char *what) {
     if (holds) return;
     fprintf(stderr, "%s\n", what);
@@ -83,7 +83,7 @@ static inline void begin(tpm *it) {
     tpmsim_execute(&it->device, startup, sizeof startup, 0, 0, it->random, it->response, &it->told);
 }
 
-/* Appends the authorization area of one entry. */
+/* Appends an authorization area with one entry. */
 static inline void put_sized_area(text *to, const text *entry) {
     put_number(to, entry->size, 4);
     put(to, entry->bytes, entry->size);

@@ -31,7 +31,7 @@ static text area(uint32_t attributes) {
     return public;
 }
 
-/* Returns the Names of the owner and of the index, for cpHash. */
+/* Returns the Names of the owner and of the index, which are part of cpHash. */
 static text names(uint32_t attributes) {
     text both = {0};
     put_number(&both, OWNER, 4);

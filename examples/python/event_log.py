@@ -1,5 +1,6 @@
 """A measured boot: each piece of software is measured into a PCR before it runs, and its digest
-goes to a log. A verifier replays the log, and trusts it if the resulting PCRs agree.
+goes to a log. A verifier replays the log, and trusts the log if the resulting PCR values are the
+same.
 """
 
 import hashlib

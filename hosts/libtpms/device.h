@@ -34,12 +34,13 @@ bool resume_device(uint64_t time);
 uint64_t time_of_device(void);
 
 /* Executes a command from a locality of 0 to 4, writes its record if recording was requested, and
-   has the permanent state written if it changed. If one of them cannot be written, the reason is
-   reported, there is no response, and no other command is executed until both are written. */
+   has the permanent state written if it changed. If the record or the state cannot be written, the
+   reason is reported, there is no response, and no other command is executed until both are
+   written. */
 bool execute(const uint8_t *buffer, size_t size, uint8_t locality, struct response *response);
 
-/* Whether the last command's record and the permanent state have been written, if they had to
- * be. */
+/* Whether everything has been written: the last command's record if it was requested, and the
+ * permanent state if it changed. */
 bool last_was_written(void);
 
 /* Writes the record and the permanent state if they have not been written yet. Reports the reason

@@ -27,8 +27,8 @@ static const struct {
 
 uint32_t TPMLIB_GetVersion(void) { return VERSION; }
 
-/* If a version is refused, swtpm reports that. It tries every version when it prints its
- * capabilities. */
+/* Reports nothing if it refuses a version: swtpm reports that itself, and tries every version when
+ * it prints its capabilities. */
 TPM_RESULT TPMLIB_ChooseTPMVersion(TPMLIB_TPMVersion ver) {
     return ver == TPMLIB_TPM_VERSION_2 ? TPM_SUCCESS : TPM_FAIL;
 }

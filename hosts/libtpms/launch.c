@@ -1,5 +1,5 @@
 /* A dynamic launch, executed as commands from locality 4: PCRs 17 to 22 are reset, and PCR 17 is
-   extended by the digests of the hashed data. */
+ * extended with the digests of the hashed data. */
 #include "launch.h"
 
 #include "callbacks.h"

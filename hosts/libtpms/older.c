@@ -1,6 +1,6 @@
 /* The lines of a journal show when its last command was executed, and whether a dynamic launch took
-   place that has not been revoked. An empty command from locality 4 marks the start of a launch,
-   and an empty command from locality 3 marks that it was revoked. */
+   place and has not been revoked. An empty command from locality 4 marks the start of a launch, and
+   an empty command from locality 3 marks that it was revoked. */
 #include "older.h"
 
 #include "report.h"

@@ -1,5 +1,5 @@
-/* The permanent state, which is the device's image. It is stored when it has changed in more than
-   the device's clock. */
+/* The permanent state, which is the device's image. It is stored when anything in it has changed
+ * except the device's clock. */
 #ifndef PERMANENT_H
 #define PERMANENT_H
 
@@ -11,7 +11,7 @@
 /* Makes the permanent state of a device; the caller has to free the bytes. */
 bool make_permanent_state(tpmsim *device, struct state *state);
 
-/* Opens the device of a permanent state, as it is after power-on. */
+/* Opens the device of a permanent state. The device is in the state after power-on. */
 bool open_permanent_state(tpmsim *device, const struct state *state);
 
 /* Remembers the image of this device as the stored one. */
@@ -23,8 +23,8 @@ bool is_permanent(tpmsim *device);
 /* Makes swtpm store the image of a device. */
 bool store_permanent(tpmsim *device);
 
-/* Makes swtpm store the image of a device if it differs from the stored one in more than the
- * clock. */
+/* Makes swtpm store the image of a device if anything in it except the clock differs from the
+ * stored image. */
 bool keep_permanent(tpmsim *device);
 
 /* Clears the remembered state, which contains secrets. */

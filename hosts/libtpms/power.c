@@ -50,7 +50,8 @@ static bool open_permanent(bool *is_to_be_stored) {
     return is_open;
 }
 
-/* Continues the device from a volatile state. Its permanent state must be the stored one. */
+/* Continues the device from a volatile state. The permanent state of the device must then be the
+ * stored one. */
 static bool resume(const struct state *state) {
     struct moment moment;
     if (!open_volatile_state(the_device(), state, &moment)) return false;

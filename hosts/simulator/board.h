@@ -28,8 +28,8 @@ void board_power_off(struct board *board);
 /* Power-cycles the device if its power is on. */
 bool board_reset(struct board *board, struct reason *reason);
 
-/* Starts a dynamic launch, which resets PCRs 17 to 22. It does not start if the power is off, or if
- * a reset is refused. */
+/* Starts a dynamic launch, which resets PCRs 17 to 22. The launch does not start if the power is
+ * off, or if the reset of a PCR is refused. */
 bool board_begin_launch(struct board *board, struct reason *reason);
 void board_add_to_launch(struct board *board, const uint8_t *text, size_t size);
 

@@ -44,7 +44,8 @@ bool client_writes(const struct client *client) {
 static bool is_later(int error) { return error == EAGAIN || error == EWOULDBLOCK; }
 
 /* Acknowledges received bytes at once. Clients send a request in pieces. Before each piece, their
-   hosts wait for the acknowledgement of the previous one, which is otherwise delayed by 40 ms. */
+ * hosts wait for the acknowledgement of the previous piece. Without this call, the acknowledgement
+ * is delayed by 40 ms. */
 static void acknowledge(const struct client *client) {
     int on = 1;
     setsockopt(client->socket, IPPROTO_TCP, TCP_QUICKACK, &on, sizeof on);
@@ -123,7 +124,7 @@ enum outcome client_go_on(struct client *client, struct reason *reason) {
 }
 
 /* Reads and discards received bytes. If a socket is closed with unread bytes, the client's
-   connection is reset, and it may lose the last answer. */
+ * connection is reset, and the client may lose the last answer. */
 static void read_rest(const struct client *client) {
     enum { PARTS = 16 };
     uint8_t unwanted[4096];

@@ -47,7 +47,7 @@ static bool keep(struct device *device, bool always, struct reason *reason) {
     return !device->has_image || image_file_keep(&device->image, &device->handle, always, reason);
 }
 
-/* Power-cycles the device: starts a journal, and its record if recording was requested. */
+/* Power-cycles the device: starts a new journal, and a new record file if recording was requested. */
 static bool cycle(struct device *device, struct reason *reason) {
     uint64_t now_ms = clock_now(&device->clock);
     size_t size = tpmsim_journal_begin(&device->handle, now_ms, device->entry, 0);

@@ -55,7 +55,7 @@ static int listen_at(const char *text, uint16_t *port) {
     return -1;
 }
 
-/* Opens two sockets with consecutive ports. Returns false with errno. */
+/* Opens two sockets with consecutive ports. On failure, returns false and sets errno. */
 static bool listen_at_two(const char *text, uint16_t port, int sockets[2]) {
     uint16_t first = port;
     sockets[0] = listen_at(text, &first);

@@ -124,7 +124,8 @@ static enum outcome do_command(struct board *board, uint32_t request, const uint
     }
 }
 
-/* Physical presence, cancelling, NV memory and the cache of keys do not affect the device. */
+/* Requests about physical presence, cancelling, NV memory and the cache of keys do not affect the
+ * device. */
 static enum outcome do_platform(struct board *board, uint32_t request, struct answer *answer,
                                 struct reason *reason) {
     switch (request) {

@@ -72,8 +72,8 @@ static bool has_room(struct server *server) {
     return true;
 }
 
-/* Returns whether too few descriptors are left. A new descriptor has the lowest free number, which
- * shows this. */
+/* Returns whether too few descriptors are left, which the number of a new socket shows: it is the
+ * lowest free number. */
 static bool is_one_too_many(int socket) {
     struct rlimit most;
     return getrlimit(RLIMIT_NOFILE, &most) == 0 && most.rlim_cur != RLIM_INFINITY &&

@@ -19,8 +19,8 @@ struct server *server_of(const struct listeners *listeners, struct board *boards
  * continue. */
 bool server_run(struct server *server, struct reason *reason);
 
-/* Closes all connections of a server, which may be NULL. This is when the client that stopped the
-   simulator sees its connection close, so close the devices before calling it. */
+/* Closes all connections of a server, which may be NULL. Only then does the client that stopped the
+ * simulator see its connection close, so close the devices before this call. */
 void server_end(struct server *server);
 
 #endif

@@ -10,7 +10,7 @@ struct bytes {
     size_t size;
 };
 
-/* Returns the number of this size at an offset; 0 if it is beyond the end. */
+/* Returns the number of `size` bytes at an offset; 0 if it extends beyond the end. */
 static uint32_t number_at(struct bytes bytes, size_t at, size_t size) {
     uint32_t number = 0;
     if (at > bytes.size || size > bytes.size - at) return 0;
@@ -45,12 +45,14 @@ static size_t handles_of(uint32_t code) {
     case TPM2_CC_GetCapability:
     case TPM2_CC_GetTestResult:
     case TPM2_CC_Hash:
+    case TPM2_CC_HashSequenceStart:
     case TPM2_CC_IncrementalSelfTest:
     case TPM2_CC_PCR_Read:
     case TPM2_CC_ReadClock:
     case TPM2_CC_SelfTest:
     case TPM2_CC_Shutdown:
     case TPM2_CC_TestParms: return 0;
+    case TPM2_CC_EventSequenceComplete:
     case TPM2_CC_EvictControl:
     case TPM2_CC_NV_Extend:
     case TPM2_CC_NV_Increment:
@@ -104,10 +106,16 @@ void loaded_follow(struct loaded *loaded, const uint8_t *command, size_t size,
     case TPM2_CC_CreatePrimary:
     case TPM2_CC_Load:
     case TPM2_CC_ContextLoad:
+    case TPM2_CC_HMAC_Start:
+    case TPM2_CC_HashSequenceStart:
     case TPM2_CC_StartAuthSession:
         remember(loaded, number_at(answered, HANDLES_AT, HANDLE_SIZE));
         break;
-    case TPM2_CC_FlushContext: forget(loaded, handle); break;
+    case TPM2_CC_FlushContext:
+    case TPM2_CC_SequenceComplete: forget(loaded, handle); break;
+    case TPM2_CC_EventSequenceComplete:
+        forget(loaded, number_at(asked, HANDLES_AT + HANDLE_SIZE, HANDLE_SIZE));
+        break;
     case TPM2_CC_ContextSave:
         if (is_session(handle)) forget(loaded, handle);
         break;

@@ -1,7 +1,7 @@
-/* The transient objects and sessions that this process has loaded into a device and not flushed.
- * With the option `rm` they are flushed when the context is finalized. The handles are those in the
- * responses that this process received. A forked child starts with an empty list, so that it does
- * not flush what its parent has loaded. */
+/* The transient objects, sequence objects and sessions that this process has loaded into a device
+ * and not flushed. With the option `rm` they are flushed when the context is finalized. The handles
+ * are those in the responses that this process received. A forked child starts with an empty list,
+ * so that it does not flush what its parent has loaded. */
 #ifndef LOADED_H
 #define LOADED_H
 #include "fork_mark.h"
@@ -20,14 +20,14 @@ struct loaded {
 
 void loaded_begin(struct loaded *loaded);
 
-/* Updates the list after a command: remembers what it loaded, and forgets what it flushed or saved,
- * except a saved object, which stays loaded. */
+/* Updates the list after a command: remembers what the command loaded or started, and forgets what
+ * it flushed or ended, and a session that it saved. A saved object or sequence stays loaded. */
 void loaded_follow(struct loaded *loaded, const uint8_t *command, size_t size,
                    const uint8_t *response, size_t response_size);
 
-/* Flushes the remaining objects and sessions, the latest first. An object or session that the
- * device refuses to flush no longer exists. Returns false with the reason if a command was not
- * answered; the objects and sessions that are left then stay loaded. */
+/* Flushes the remaining objects, sequences and sessions, the latest first. If the device refuses a
+ * flush, the object, sequence or session no longer exists. Returns false with the reason if a
+ * command was not answered; what is left then stays loaded. */
 bool loaded_flush(struct loaded *loaded, struct kept *kept, uint8_t locality,
                   struct reason *reason);
 

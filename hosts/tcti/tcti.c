@@ -1,7 +1,7 @@
 /* libtss2-tcti-tpmsim: a module for libtss2 with a device, which is either in the memory of the
  * process that loads the module, or kept in a folder. The module is a TCTI of version 2, as the
  * TCG's "TSS 2.0 TPM Command Transmission Interface" defines it. A fault is reported as a line on
- * standard error, and as a return code defined there. */
+ * standard error, and as a return code of that standard. */
 #define _GNU_SOURCE
 #include "loaded.h"
 #include "words.h"
@@ -20,8 +20,8 @@ struct context {
     TSS2_TCTI_CONTEXT_COMMON_V2 common;
     struct kept *kept;
     uint8_t locality;
-    /* The objects and sessions that this process loaded, and whether they are flushed when the
-       context is finalized. */
+    /* The objects, sequences and sessions that this process loaded, and whether they are flushed
+       when the context is finalized. */
     bool flushes;
     struct loaded loaded;
     /* Whether a response is ready to be received, its size and its bytes. */
@@ -78,7 +78,7 @@ static TSS2_RC receive(TSS2_TCTI_CONTEXT *handed, size_t *size, uint8_t *respons
     return TSS2_RC_SUCCESS;
 }
 
-/* Flushes the objects and sessions that this process has loaded and not flushed. */
+/* Flushes what this process has loaded and not flushed. */
 static void flush(struct context *context) {
     struct reason reason;
     if (!loaded_flush(&context->loaded, context->kept, context->locality, &reason))

@@ -1,4 +1,4 @@
-// Checks of arguments. Each of them throws BadArgument, which names the argument.
+// Checks of arguments. A check that fails throws BadArgument, which names the argument.
 
 import { BadArgument } from "./errors.js";
 
@@ -37,7 +37,7 @@ export function text(name, given) {
 }
 
 /**
- * Returns the argument, if it is an integer from 0 to the largest one.
+ * Returns the argument, if it is an integer from 0 to `largest`.
  * @param {string} name
  * @param {unknown} given
  * @param {number} largest

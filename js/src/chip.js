@@ -67,7 +67,7 @@ export class Chip {
     calls.device_manufacture(...[this.#holder, this.#place.at, at.random].map(BigInt));
   }
 
-  /** Returns the address of the handle, as a parameter. */
+  /** Returns the address of the handle, as the parameter of a call. */
   get #device() {
     return BigInt(this.#holder);
   }
@@ -88,7 +88,7 @@ export class Chip {
   }
 
   /**
-   * Executes a command with the completing layer above the device, which writes no trace.
+   * Executes a command with the completing layer above the device. No trace is written.
    * @param {Uint8Array} command
    * @param {number} locality
    * @param {number} elapsed milliseconds since the last command

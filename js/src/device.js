@@ -37,8 +37,9 @@ import { Words } from "./words.js";
  */
 
 /**
- * What a device is made from: a seed, for the same random bytes in each run; the 256 bytes of its
- * secrets; an image or a state text; and a module, if the package should not search for one.
+ * What a device is made from: a seed, for the same random bytes in each run; the 256 bytes from
+ * which its secrets are made; an image or a state text; and a module, if the package should not
+ * search for one.
  * @typedef {{
  *   seed?: string | Uint8Array,
  *   manufactured?: Uint8Array,
@@ -157,8 +158,8 @@ export class Device {
   }
 
   /**
-   * Plays a script line by line, while its events are iterated over. Throws BadLine, with the
-   * number `line`, at an invalid line.
+   * Plays a script line by line, while its events are iterated over. At an invalid line, throws
+   * BadLine with the number of that line.
    * @param {string | Uint8Array} script
    * @returns {Generator<Played, void, undefined>}
    */

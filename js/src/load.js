@@ -9,7 +9,7 @@ const IN_CLONE = "../../dist/tpmsim.wasm";
 /** @typedef {{process?: {getBuiltinModule?: (name: string) => any}}} Host */
 const host = /** @type {Host} */ (/** @type {unknown} */ (globalThis));
 
-// The loaded modules, by their source. All devices with the same source share one module.
+// Maps each source to its loaded module. All devices with the same source share one module.
 /** @type {WeakMap<object, Promise<Module>>} */
 const kept = new WeakMap();
 const BESIDE_PACKAGE = {};
@@ -36,7 +36,7 @@ async function found() {
 }
 
 /**
- * Returns the module of a source, or else the one next to this package.
+ * Returns the module of a source or, without a source, the module next to this package.
  * @param {BufferSource | WebAssembly.Module | undefined} source
  */
 export async function loaded(source) {

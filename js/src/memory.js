@@ -79,8 +79,8 @@ export class Memory {
   }
 
   /**
-   * Stores bytes for a call, and returns the two parameters for them. They are valid until other
-   * bytes are stored.
+   * Stores bytes for a call, and returns the two parameters that pass them, which are valid until
+   * other bytes are stored.
    * @param {Uint8Array} bytes
    */
   input(bytes) {
@@ -90,8 +90,8 @@ export class Memory {
   }
 
   /**
-   * Returns the bytes that a call writes to a buffer. The call returns their number. If they do not
-   * fit, it writes nothing, and is repeated with a larger buffer.
+   * Returns the bytes that a call writes to a buffer. The call returns the number of bytes. If they
+   * do not fit, the call writes nothing, and is repeated with a larger buffer.
    * @param {(at: bigint, size: bigint) => bigint} call
    */
   output(call) {

@@ -163,8 +163,8 @@ export class Module {
   }
 
   /**
-   * Returns the text about the line with this number in the report on a script, with a newline. It
-   * is empty for a valid line.
+   * Returns what the report on a script says about the line with this number, with a newline. The
+   * text is empty for a valid line.
    * @param {number} number
    * @param {string | Uint8Array} line
    * @param {number} waited milliseconds since the last command

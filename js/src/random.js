@@ -9,7 +9,7 @@ const encoder = new TextEncoder();
  * @typedef {{secrets(): Uint8Array, next(): Uint8Array, spend(drawn: number): void}} Source
  */
 
-/** Random bytes from the system. The next command gets those again that a command did not draw.
+/** Random bytes from the system. Bytes that a command did not draw are passed to the next command.
  * @implements {Source} */
 export class SystemBytes {
   #bytes = new Uint8Array(RANDOM_SIZE);

@@ -1,4 +1,4 @@
-// Checks that a seed results in the same random bytes in each run, and as in the Python package.
+// Checks that a seed results in the same random bytes in each run, and in the Python package.
 
 import assert from "node:assert/strict";
 import { spawnSync } from "node:child_process";

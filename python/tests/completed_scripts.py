@@ -1,6 +1,7 @@
-"""Random commands for a device with the completing layer: commands that make and flush objects and
-sessions, save and load their contexts, or read lists, commands on sequence objects, and the other
-commands that the layer answers. A few commands have changed bytes, or are sent without the layer.
+"""Random commands for a device with the completing layer. They make and flush objects, sequence
+objects and sessions, save and load the contexts of these, and read lists. There are also commands
+on sequence objects, and the other commands that the layer answers. A few commands have changed
+bytes, or are sent without the layer.
 """
 
 from tpmsim.caller import HERE, hmac_key, OPEN, storage_key
@@ -34,7 +35,7 @@ PARAMETERS = tuple(
 # The attributes of a counter that the owner writes and reads.
 COUNTER = nv.of_type(nv.Type.COUNTER) | nv.Attribute.OWNERWRITE | nv.Attribute.OWNERREAD
 
-# The offset of the buffer in a context's contextBlob.
+# The offset of the contextBlob's buffer from the start of a context.
 BLOB_AT = 18
 
 
@@ -43,10 +44,10 @@ def handle_of(chance):
     return kind << 24 | (chance.randrange(8) if chance.random() < 0.95 else 0xFFFFFF)
 
 
-def flushed(chance):
-    """Returns TPM2_FlushContext, sometimes of a sequence object."""
+def on_context(chance, code):
+    """Returns TPM2_FlushContext or TPM2_ContextSave, sometimes of a sequence object."""
     handle = chance.choice(HANDLES) if chance.random() < 0.2 else handle_of(chance)
-    return command(CC.FlushContext, number(handle, 4))
+    return command(code, number(handle, 4))
 
 
 def primary(chance):
@@ -105,14 +106,15 @@ def starting(chance):
     """Returns a command that starts a sequence."""
     auth, algorithm = chance.choice(VALUES), chance.choice((SHA256, frames.SHA1, ALG_NULL, 0x0C))
     parameters = sized(auth) + number(algorithm, 2)
-    if chance.random() < 0.6:
+    if chance.random() < 0.4:
         return command(HASH_SEQUENCE_START, parameters)
-    key = TRANSIENT << 24 | chance.randrange(8)
+    key = TRANSIENT << 24 | chance.randrange(4)
     return on_handle(HMAC_START, key, parameters, entries(chance, 1))
 
 
 def entries(chance, count):
-    """Returns passwords; seldom one too many or too few, or one with another handle or attribute.
+    """Returns password entries; rarely one too many or too few, or one with another handle or
+    attribute.
     """
     count += chance.choice((-1, 1)) if chance.random() < 0.03 else 0
     handles = frames.RS_PW, frames.HMAC_SESSION << 24
@@ -194,9 +196,9 @@ class Scripts:
             (
                 lambda: primary(chance),
                 lambda: session(chance),
-                lambda: command(CONTEXT_SAVE, number(handle_of(chance), 4)),
+                lambda: on_context(chance, CONTEXT_SAVE),
                 lambda: command(CONTEXT_LOAD, self.context()),
-                lambda: flushed(chance),
+                lambda: on_context(chance, CC.FlushContext),
                 lambda: command(STIR_RANDOM, sized(bytes(chance.choice((0, 9, 128, 129))))),
                 lambda: listing(chance),
                 lambda: command(CC.ReadPublic, number(TRANSIENT << 24 | chance.randrange(9), 4)),

@@ -1,4 +1,4 @@
-"""Runs programs that the tests use while they run."""
+"""Runs programs in the background, for tests that use them."""
 
 import atexit
 import contextlib

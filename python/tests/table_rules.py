@@ -18,8 +18,8 @@ LIST_OF_CHECKS = re.compile(r"\[the checks of [^\]]*\]\(([^)]*)\)")
 
 
 def plain(text):
-    """Returns a text as one line, with links replaced by their words. Each item of a list in it
-    ends with a semicolon.
+    """Returns a text as one line, with links replaced by their words. In the result, each item of a
+    list ends with a semicolon.
     """
     text = LINK.sub(r"\1", text).replace("`", "")
     text = re.sub(r"\n *- ", "; ", text).replace(":; ", ": ")

@@ -1,5 +1,5 @@
-"""Tests commands by their names: an example of each, the types of its response, words as values,
-and exceptions that name the field.
+"""Tests commands that are called by name: an example of each command, the types of its response,
+words as values, and exceptions that name the field.
 """
 
 import builtins

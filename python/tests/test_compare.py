@@ -1,5 +1,5 @@
-"""Plays scripts on two TPMs: on this device with different seeds, which shows no difference, and on
-other TPMs.
+"""Plays scripts on this device and on a second TPM. The second TPM is a device with different
+seeds, which shows no difference, or another TPM.
 """
 
 import pathlib
@@ -113,8 +113,8 @@ do GetRandom 4
 
 @unittest.skipUnless(library.is_there(), "there is no library")
 class Completed(unittest.TestCase):
-    """Compares a journal that was made with the completing layer with another TPM, which has
-    contexts itself.
+    """Compares a journal with another TPM. The journal was made with the completing layer; the
+    other TPM supports contexts itself.
     """
 
     def recorded(self, play):
@@ -221,6 +221,16 @@ class Sequences(unittest.TestCase):
         self.assertEqual((report.differences, report.not_comparable), ([], []))
         self.assertEqual(report.commands, 8)
 
+    def test_contexts(self):
+        """The other TPM saves and loads the contexts of its own sequence objects."""
+        with RecordedModel() as device:
+            device.journal.go_on(device.completion.numbers)
+            saved_sequences_that_move(device)
+        with Moved(model=Model(bytes(256))) as other:
+            report = Comparison(other).play(device.journal.text)
+        self.assertEqual((report.differences, report.not_comparable), ([], []))
+        self.assertEqual(report.commands, 11)
+
 
 def sequences_that_move(device):
     """Hashes with a sequence, and makes an HMAC with another; flushes a third one."""
@@ -237,6 +247,23 @@ def sequences_that_move(device):
         command(CC.FlushContext, number(HANDLES[1], 4)),
     ):
         assert not any(device.execute(buffer).response[6:10])
+
+
+def saved_sequences_that_move(device):
+    """Saves, flushes and loads two sequences in reverse order, and completes them."""
+    Caller(device).start_up()
+    contexts = []
+    for _ in range(2):
+        device.execute(command(HASH_SEQUENCE_START, sized(b"") + number(SHA256, 2)))
+    for handle in HANDLES[:2]:
+        contexts.append(saved_context(device, handle))
+        device.execute(command(CC.FlushContext, number(handle, 4)))
+    for context in reversed(contexts):
+        device.execute(command(CONTEXT_LOAD, context))
+    for handle in HANDLES[:2]:
+        parameters = sized(b"data") + number(RH_NULL, 4)
+        response = device.execute(on_handle(SEQUENCE_COMPLETE, handle, parameters)).response
+        assert not any(response[6:10])
 
 
 class Others(unittest.TestCase):

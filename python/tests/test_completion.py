@@ -59,6 +59,8 @@ DEEDS = {
     "the tag is TPM N.N's, and the answer says that there is none",
     *(f"the {kind} sequence N {did}" for kind in KINDS.values() for did in ("starts", "ends")),
     *(f"the {kind} sequence N is flushed" for kind in KINDS.values()),
+    *(f"context N of the {kind} sequence N, which stays loaded" for kind in KINDS.values()),
+    *(f"the {kind} sequence of context N is loaded as N" for kind in KINDS.values()),
     *(f"N bytes are added to the {kind} sequence N" for kind in KINDS.values()),
     *(f"the password is not that of the {kind} sequence N" for kind in KINDS.values()),
     "the event sequence N ends with TPM2_EventSequenceComplete",
@@ -153,7 +155,7 @@ class InPython(unittest.TestCase):
 
 
 class OldContexts(unittest.TestCase):
-    """Tests the explanations of why a context that the log saved can no longer be loaded."""
+    """Tests the explanations of why a context that was saved in the log can no longer be loaded."""
 
     def setUp(self):
         self.device = self.enterContext(RecordedModel())

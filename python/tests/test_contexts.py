@@ -1,5 +1,6 @@
-"""Tests the contexts of objects. They are compared byte by byte with contexts that other programs
-computed, and with those that the completing layer saves and loads.
+"""Tests the contexts of transient objects. They are compared byte by byte with contexts that other
+programs computed, and with those that the completing layer saves and loads. For the contexts of
+sequence objects see test_saved_sequences.py.
 """
 
 import itertools
@@ -123,7 +124,7 @@ class Computed(unittest.TestCase):
         of all later lines.
         """
         head, integrity = bytes.fromhex(CONTEXTS[0])[:BLOB_SIZE_AT], bytes(32)
-        bad_handle, bad_hierarchy = number(0x80000001, 4), number(RH_LOCKOUT, 4)
+        bad_handle, bad_hierarchy = number(0x80000003, 4), number(RH_LOCKOUT, 4)
         for context, wanted in (
             (head[:11], "INSUFFICIENT/p1"),
             (head[:8] + bad_handle + head[12:15], "HANDLE/p1"),
@@ -152,6 +153,7 @@ class Computed(unittest.TestCase):
             (contexts.Head.of(1, key), b""),
             (contexts.Head(1, contexts.ST_CLEAR, RH_OWNER), text),
             (contexts.Head(1, contexts.ORDINARY, RH_PLATFORM), text),
+            (contexts.Head(1, contexts.SEQUENCE, RH_OWNER), text),
         ):
             self.assertEqual(fault_of(made(head, plain)), "INTEGRITY/p1")
         self.assertEqual(fault_of(made(contexts.Head.of(1, key), text)), "opens")
@@ -199,11 +201,9 @@ def made(head, plain):
 
 def turned_fault(at, turned):
     """Returns the response code for a context in which one bit of the byte at `at` is flipped."""
-    if (
-        SAVED_HANDLE_AT <= at < HIERARCHY_AT
-        and turned[SAVED_HANDLE_AT:HIERARCHY_AT].hex() != "80000002"
-    ):
-        return "HANDLE/p1"
+    if SAVED_HANDLE_AT <= at < HIERARCHY_AT:
+        found = int.from_bytes(turned[SAVED_HANDLE_AT:HIERARCHY_AT], "big")
+        return "INTEGRITY/p1" if found in contexts.SAVED_HANDLES else "HANDLE/p1"
     if HIERARCHY_AT <= at < BLOB_SIZE_AT:
         found = int.from_bytes(turned[HIERARCHY_AT:BLOB_SIZE_AT], "big")
         return "INTEGRITY/p1" if found in image.HIERARCHIES else "VALUE/p1"
@@ -213,8 +213,8 @@ def turned_fault(at, turned):
     return "SIZE/p1" if at in (BLOB_AT, BLOB_AT + 1) else "INTEGRITY/p1"
 
 
-class OfLayer(unittest.TestCase):
-    """Tests contexts that the completing layer saves and loads."""
+class LayerCase(unittest.TestCase):
+    """A started device with the completing layer, which saves and loads contexts."""
 
     def setUp(self):
         self.device = self.enterContext(CompletedModel(START))
@@ -243,6 +243,10 @@ class OfLayer(unittest.TestCase):
     def key(self, text, attributes=HERE | OPEN):
         template = hmac_key(attributes=attributes)
         return self.tpm.create_primary(template, data=text, user_auth=text)
+
+
+class OfLayer(LayerCase):
+    """Tests contexts that the completing layer saves and loads."""
 
     def test_twelve_keys(self):
         """Twelve keys with one parent are loaded, saved and flushed in turn. Then each is used by
@@ -358,8 +362,8 @@ class OfLayer(unittest.TestCase):
         self.assertEqual(state_text(self.device.model, self.device.completion.numbers), before)
 
     def test_sequences(self):
-        """Each context of an object or a session gets the next sequence. There are 2^64 - 1
-        sequences.
+        """Each context of an object or a session gets the next sequence number. The largest one is
+        2^64 - 1.
         """
         handle, session = self.key(b"one"), self.tpm.session().handle
         kept = [self.saved(it) for it in (handle, handle, session, handle)]
@@ -383,7 +387,8 @@ class OfLayer(unittest.TestCase):
 
     def test_lengths(self):
         """The largest context is that of an HMAC key. The property for the largest context is two
-        bytes larger, since a SYMCIPHER has a larger public area, but a shorter key.
+        bytes larger: it also allows for the public area of a SYMCIPHER, which is larger but goes
+        with a shorter key.
         """
         public = hmac_key(auth_policy=bytes(32))
         largest = self.tpm.create_primary(public, data=b"d" * 128, user_auth=b"v" * 32)

@@ -113,7 +113,7 @@ class Reasons(unittest.TestCase):
 
     @unittest.skipUnless(shutil.which("swtpm"), "there is no swtpm")
     def test_of_another_maker(self):
-        """The refusals of another maker's TPM are explained as long as its responses equal this
+        """Refusals by another vendor's TPM are explained as long as its responses match this
         device's.
         """
         with StartedSwtpm() as device:

@@ -1,5 +1,5 @@
 """Makes each common mistake of a caller in random sessions. The explanation reports the mistake. If
-an HMAC is random, the explanation reports none.
+an HMAC is random, the explanation reports no mistake.
 """
 
 import random

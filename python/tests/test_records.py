@@ -139,8 +139,8 @@ class Ends(unittest.TestCase):
                 self.assertFalse(any(it.differences for it in events))
 
     def test_a_byte_left_out(self):
-        """If the last record lacks a byte, it does not count as cut off, unless its last byte is
-        missing.
+        """If a byte of the last record is missing, the record counts as cut off only if the missing
+        byte is its last one.
         """
         journal = journal_with_index()
         text = journal.text

@@ -31,7 +31,8 @@ NAMES = {SHA1: "sha1", SHA256: "sha256"}
 SIZES = 0, 1, 3, 55, 56, 63, 64, 65, 119, 120, 127, 128, 129
 FIRST = 0x8000_0008
 
-# FIPS 180-4: "abc" with its padding is one block, and its digest consists of the words after it.
+# FIPS 180-4: "abc" with its padding is one block, and the hash state after this block is the digest
+# of "abc".
 ABC = b"abc\x80" + bytes(52) + number(24, 8)
 OF_ABC = {
     SHA1: "a9993e364706816aba3e25717850c26c9cd0d89d",
@@ -45,7 +46,7 @@ def words_text(state):
 
 class States(unittest.TestCase):
     def test_cuts(self):
-        """A digest or an HMAC is that of hashlib, at whatever position the data are cut."""
+        """A digest or an HMAC equals that of hashlib, however the data are divided."""
         chance = random.Random(1)
         for algorithm, name in NAMES.items():
             for size in SIZES:
@@ -57,8 +58,8 @@ class States(unittest.TestCase):
                     self.assertEqual(found, wanted, f"{name} of {size} bytes, cut at {at}")
 
     def test_the_words(self):
-        """The words, the block and the length are those of FIPS 180-4. The bytes of the block after
-        the latest byte are those of the block before.
+        """The hash state, the block and the length are those of FIPS 180-4. In the block, the bytes
+        after the latest byte are those of the previous block.
         """
         for algorithm, digest in OF_ABC.items():
             state = HashState.empty(algorithm).after(b"abc")
@@ -113,14 +114,16 @@ class Texts(unittest.TestCase):
                 self.assertEqual(state_text.state_text(device, layer), text)
 
     def test_without_sequences(self):
-        """A layer without sequence objects is written as before there were any."""
+        """The text of a layer without sequence objects is the same as before sequence objects
+        existed.
+        """
         text = state_text.state_text(Model(), Layer(7, 1))
         body = state_text.device_text(Model()) + b"\1" + number(7, 8) + number(1, 8) + bytes(128)
         self.assertEqual(text, state_text.framed(body))
         self.assertEqual(len(text), 1811)
 
     def test_faults(self):
-        """Each byte of a slot that has only a few values is checked."""
+        """Each byte of a slot that may have only a few values is checked."""
         held = SequenceObject.of(b"pin", HashSequence.of(SHA256))
         body = self.text(held)[image.HEAD_BYTES : -image.DIGEST_AT_END]
         slots = sequence_text.slots_text([held, None, None])

@@ -1,5 +1,5 @@
-"""Tests snapshots, which are state texts. The library and the model write the same text for one
-device.
+"""Tests snapshots, which are state texts. The library and the model write the same text for the
+same device.
 """
 
 import errno

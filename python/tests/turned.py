@@ -1,6 +1,6 @@
-"""A caller that computes an HMAC with one ingredient changed, in random sessions: bound or not,
-with both hash algorithms, of both kinds, and with or without encrypted parameters. It uses no code
-of the explanation.
+"""A caller that computes an HMAC with one changed ingredient. Its sessions are random: HMAC or
+policy sessions, bound or not, with one of two hash algorithms, and with or without encrypted
+parameters. It uses no code of the explanation.
 """
 
 import hashlib

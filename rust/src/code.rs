@@ -50,8 +50,8 @@ impl ResponseCode {
         (self.0 & 0x080 != 0 && self.0 >> 8 != 0).then_some(self.0 & 0x0bf)
     }
 
-    /// Returns the name without its place, such as `AUTH_FAIL`, or `None` for a code that this
-    /// device never returns.
+    /// Returns the name without the handle, parameter or session, such as `AUTH_FAIL`, or `None`
+    /// for a code that this device never returns.
     pub fn name(self) -> Option<&'static str> {
         match self {
             ResponseCode::SUCCESS => Some("SUCCESS"),
@@ -86,7 +86,7 @@ impl fmt::Display for ResponseCode {
     }
 }
 
-/// The check that refused a command, by its name in traces and in docs/table.
+/// The check that refused a command. It is displayed by its name, as in traces and in docs/table.
 ///
 /// ```
 /// # fn main() -> tpmsim::Result<()> {

@@ -8,8 +8,8 @@ use crate::response::Response;
 use std::fmt;
 use std::time::Duration;
 
-/// The numbers in the library's header of the first fault of an image, and of the first fault of a
-/// state text.
+/// The return codes, from the library's header, for the first fault of an image and for the first
+/// fault of a state text.
 const FIRST_IMAGE_FAULT: u8 = 4;
 const FIRST_STATE_FAULT: u8 = 13;
 
@@ -111,7 +111,7 @@ impl Device {
         self.executed(Executor::Device, buffer)
     }
 
-    /// Executes a command with the completing layer above the device, which answers commands on
+    /// Executes a command with the completing layer above the device. The layer answers commands on
     /// saved contexts, and other commands that the device by design does not support. The check of
     /// the response is still that of the device.
     ///
@@ -207,9 +207,9 @@ impl Device {
     /// let mut tpm = tpmsim::Device::new()?;
     /// let before = tpm.snapshot();
     /// tpm.start_up()?;
-    /// assert!(tpm.start_up().is_err()); // it is started
+    /// assert!(tpm.start_up().is_err()); // it is already started
     /// tpm.restore(&before)?;
-    /// tpm.start_up()?; // it was not
+    /// tpm.start_up()?; // in the restored state it is not started
     /// # Ok(())
     /// # }
     /// ```

@@ -62,8 +62,8 @@ pub enum Error {
 pub type Result<T> = std::result::Result<T, Error>;
 
 impl Error {
-    /// Converts the return code of a library call that failed. `first` is the code of the first
-    /// fault for which the call checks.
+    /// Converts the return code of a library call that failed. `first` is the return code for the
+    /// first entry of `FAULTS`.
     pub(crate) fn of(told: u8, first: u8, kind: fn(Fault) -> Error) -> Error {
         match told.checked_sub(first).and_then(|at| FAULTS.get(usize::from(at))) {
             Some(fault) => kind(*fault),

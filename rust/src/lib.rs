@@ -32,8 +32,8 @@
 //! # }
 //! ```
 //!
-//! If `TPMSIM_LIB_DIR` is set, the library in that folder is linked. Otherwise it is the one in
-//! this package, which is for Linux on x86-64 and on ARM64.
+//! If `TPMSIM_LIB_DIR` is set, the library in that folder is linked. Otherwise the library in this
+//! package is linked, which is for Linux on x86-64 and on ARM64.
 #![deny(missing_docs, unsafe_op_in_unsafe_fn, unsafe_code)]
 
 mod code;

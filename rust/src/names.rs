@@ -1,7 +1,7 @@
 //! The names of response codes and of commands.
 
-/// The response codes without the number of a handle, parameter or session (TPM 2.0 Library, Part
-/// 2, section 6.6.3), by number.
+/// The response codes, without the number of a handle, parameter or session, and their names (TPM
+/// 2.0 Library, Part 2, section 6.6.3).
 pub(crate) const CODES: &[(u32, &str)] = &[
     (0x01e, "BAD_TAG"),
     (0x082, "ATTRIBUTES"),
@@ -54,7 +54,7 @@ pub(crate) const CODES: &[(u32, &str)] = &[
     (0x921, "LOCKOUT"),
 ];
 
-/// The implemented commands (Part 2, section 6.5.2), by number.
+/// The codes of the implemented commands, and their names (Part 2, section 6.5.2).
 pub(crate) const COMMANDS: &[(u32, &str)] = &[
     (0x120, "EvictControl"),
     (0x122, "NV_UndefineSpace"),

@@ -1,9 +1,9 @@
 //! The calls of libtpmsim and of `getrandom`. This is the only unsafe code of the package.
 //!
 //! These types ensure the library's preconditions. A [`Native`] is the only owner of its handle,
-//! which moves with it and is never copied. Every call except one on `&self` takes `&mut self`, and
-//! a `Native` is not `Sync`, so only one call at a time uses a handle. Each buffer has the size
-//! that its call reads or writes.
+//! which moves with it and is never copied. Calls that change the device take `&mut self`, and a
+//! `Native` is not `Sync`, so only one call at a time uses a handle. Each buffer has the size that
+//! its call reads or writes.
 #![allow(unsafe_code)]
 
 use std::io;
@@ -138,8 +138,8 @@ impl Native {
         };
         let mut room = [0; RESPONSE_BYTES];
         let mut answered = Answered::default();
-        // SAFETY: the handle is one of the library; `buffer` has its size, `random` 256 bytes and
-        // `room` 4,096; and none of these overlap.
+        // SAFETY: the handle is one of the library; `buffer` has the passed size, `random` has 256
+        // bytes and `room` 4,096; and none of these overlap.
         let done = unsafe {
             call(
                 &mut self.0,
@@ -191,7 +191,8 @@ impl Native {
         let mut room = vec![0; TEXT_BYTES];
         let holder = std::ptr::addr_of!(self.0) as *mut Holder;
         // SAFETY: the handle is one of the library, the two calls of this type do not write to it,
-        // and no other thread uses it, because a `Native` is not `Sync`; and `room` has its size.
+        // and no other thread uses it, because a `Native` is not `Sync`; and `room` has the passed
+        // size.
         let size = unsafe { call(holder, room.as_mut_ptr(), room.len()) };
         room.truncate(size);
         room
@@ -199,7 +200,7 @@ impl Native {
 
     /// Makes a call that reads a text. Returns the library's return code.
     fn read(&mut self, call: Read, text: &[u8]) -> u8 {
-        // SAFETY: the handle is one of the library, and `text` has its size.
+        // SAFETY: the handle is one of the library, and `text` has the passed size.
         unsafe { call(&mut self.0, text.as_ptr(), text.len()) }
     }
 }
@@ -220,7 +221,7 @@ pub(crate) fn version() -> u32 {
 /// Fills a buffer with the system's random bytes.
 pub(crate) fn draw(mut buffer: &mut [u8]) -> io::Result<()> {
     while !buffer.is_empty() {
-        // SAFETY: `buffer` has its size.
+        // SAFETY: `buffer` has the passed size.
         let count = unsafe { getrandom(buffer.as_mut_ptr().cast(), buffer.len(), 0) };
         match usize::try_from(count) {
             Ok(count) => buffer = &mut buffer[count..],

@@ -7,7 +7,7 @@ from tpmsim.standard import CC, digest, frames
 from tests.common.expected import buffer_of
 from tests.common.script import line
 
-# Offsets in an image: of its length field, and of the first byte after the seeds and proofs.
+# The offsets of the length field in an image, and of the first byte after the seeds and proofs.
 LENGTH_AT, BEHIND_SEEDS = 6, BODY_AT + 4 * 66
 
 # The probability that a line is altered, and the probability that a byte of the text is changed.

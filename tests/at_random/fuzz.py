@@ -1,6 +1,6 @@
 """Compares a program with the Python device on random input (tools/soak/fuzz.sh):
 
-    fuzz.py PROGRAM SECONDS [SEED]     plays rounds for this time, with the seeds from SEED on
+    fuzz.py PROGRAM SECONDS [SEED]     plays rounds for this time, beginning with the seed SEED
     fuzz.py PROGRAM --rounds N SEED    plays N rounds
     fuzz.py PROGRAM --replay FILE      plays a script or a stream that an earlier run saved
 

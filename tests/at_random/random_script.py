@@ -4,7 +4,7 @@
 
 writes COUNT commands to FOLDER/SEED.tpm, and their responses to FOLDER/SEED.out. Most commands can
 succeed. Some have one wrong field, and some have arbitrary wrong bytes. The script
-tools/soak/random_scripts.sh compares the program's responses with these.
+tools/soak/random_scripts.sh compares the program's responses with those in FOLDER/SEED.out.
 """
 
 import contextlib
@@ -41,7 +41,7 @@ INDEX_NUMBERS = range(12)
 TYPES = *(nv.Type.ORDINARY,) * 2, *nv.Type
 ASKERS = frames.RH_OWNER, frames.RH_PLATFORM
 
-# Times to wait, in milliseconds. Then the parameters of dictionary attack protection.
+# Times to wait, in milliseconds, and values for the parameters of dictionary attack protection.
 WAITS = 1, 999, 1000, 999_999, 1_000_000, 1_000_001, 2**32 - 1
 MOST_TRIES = 3, 3, 3, 10, 1, 0
 RECOVERIES = 1000, 1000, 1, 0, 2**32 - 1
@@ -86,15 +86,17 @@ class Writer(random.Random):
         return self.choice(handle_kinds.PRIMARY_HIERARCHIES)
 
     def object(self, test=lambda it: True):
-        """Returns the handle of a loaded object, if there is one. Rarely the object is missing."""
+        """Returns the handle of a loaded object, if there is one. In rare cases, returns the handle
+        of an object that does not exist.
+        """
         fitting = [it for it in self.device.objects if test(self.device.objects[it])]
         if self.happens(0.02) or not fitting:
             return self.choice((0x80000000 + self.randrange(9), 0x81000000, RH_NULL))
         return self.choice(fitting)
 
     def session(self, *kinds):
-        """Returns the handle of a session of one of these kinds. Rarely the session is missing or
-        of another kind.
+        """Returns the handle of a session of one of these kinds. In rare cases, the session does
+        not exist or is of another kind.
         """
         held = self.device.sessions
         fitting = [it for it in held if held[it].kind in kinds or self.happens(0.02)]
@@ -105,7 +107,9 @@ class Writer(random.Random):
         return self.choice((*HIERARCHIES, *held))
 
     def index(self, test=lambda it: True):
-        """Returns the handle of a defined index, if there is one. Rarely the index is undefined."""
+        """Returns the handle of a defined index, if there is one. In rare cases, returns the handle
+        of an undefined index.
+        """
         indices = self.device.indices
         fitting = [it for it in indices if test(indices[it].public) or self.happens()]
         if self.happens(0.02) or not indices:
@@ -326,8 +330,8 @@ class Writer(random.Random):
         return [self.keyed(signs=True)], sized(data) + number(algorithm, 2)
 
     def keyed(self, signs):
-        """Returns the handle of an HMAC key if `signs` is true, otherwise of sealed data. Rarely
-        the object is of a different kind.
+        """Returns the handle of an HMAC key if `signs` is true, otherwise of sealed data. In rare
+        cases, the object is of a different kind.
         """
         wanted = KEYEDHASH, signs
         is_one = lambda public: (public.kind, public.has(Attribute.SIGN)) == wanted
@@ -537,8 +541,8 @@ class Writer(random.Random):
         return self.damaged(frames.buffer_of(code, handles, entries, command.parameters))
 
     def damaged(self, buffer):
-        """Returns the buffer. Rarely flips one of its bits, or truncates it and corrects
-        commandSize.
+        """Returns the buffer. In rare cases, first flips one of its bits, or truncates it and
+        corrects commandSize.
         """
         if self.happens(0.02):
             return self.bent(buffer)

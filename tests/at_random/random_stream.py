@@ -7,8 +7,8 @@ from tests.at_random.bent_script import bent_image
 from tests.at_random.random_script import MOST_TRIES, Writer
 from tests.common import streams
 
-# The times of dictionary attack protection, in seconds. None of them elapses during the runs, so
-# the results do not depend on how much time really passes.
+# Values for the times of dictionary attack protection, in seconds. These times are too long to
+# elapse during the runs, or 0, so the results do not depend on how much time really passes.
 RECOVERIES = 1000, 2**32 - 1, 0
 LEAST_RECOVERY = 500
 
@@ -105,8 +105,8 @@ class StreamWriter(Writer):
 
 
 def random_stream(seed, runs):
-    """Returns the lines of this many runs. Rarely the device is replaced by a new one between two
-    runs.
+    """Returns the lines of this many runs. In rare cases, a new device replaces the device between
+    two runs.
     """
     writer = StreamWriter(seed)
     for at in range(runs):

@@ -1,5 +1,5 @@
-# Checks which file names a process syncs to the disk before it answers a command. Other processes were killed
-# before they synced these names. See attached/names.c.
+# Checks which file names a process syncs to the disk before it answers a command, after other processes were
+# killed before they synced these names. See attached/names.c.
 tests=$(cd "$(dirname "$0")/.." && pwd -P)
 . "$tests/common/cases.sh"
 . "$tests/common/library.sh"

@@ -1,5 +1,5 @@
-# Makes and uses a device without /proc, with any umask. See attached/ask.c. An empty file system hides /proc
-# only for this test, which needs root or a user who may be root in a namespace.
+# Makes and uses a device without /proc, with any umask. See attached/ask.c. An empty file system hides /proc, only
+# for this test. To mount it, the test must run as root or as a user who may be root in a namespace.
 if [ -z "${own_mounts:-}" ]; then
     for user in '' '--user --map-root-user'; do
         # shellcheck disable=SC2086 # word splitting is intended

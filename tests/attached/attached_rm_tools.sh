@@ -1,5 +1,5 @@
-# Tests tpm2-tools with the module's option `rm`. Many commands without tpm2_flushcontext do not run out of
-# slots, and leave nothing loaded.
+# Tests tpm2-tools with the module's option `rm`. A long series of commands without tpm2_flushcontext does not run
+# out of slots, and leaves nothing loaded.
 tests=$(cd "$(dirname "$0")/.." && pwd -P)
 . "$tests/common/cases.sh"
 . "$tests/common/library.sh"

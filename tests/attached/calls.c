@@ -1,7 +1,7 @@
-/* Tests faults of the system calls with which a device in a folder accesses its files, the clock
- * and random bytes. Each call in turn fails, transfers only half of its bytes, or is interrupted.
- * Each allocation in turn fails. The arguments are the file with the expected PCR values, and an
- * image. */
+/* Tests faults of the system calls that a device in a folder uses for its files, the clock and
+ * random bytes. Each call in turn fails, transfers only half of its bytes, or is interrupted. Each
+ * allocation in turn fails. The arguments are the file with the expected PCR values, and an image.
+ */
 #include "calls.h"
 #include <dirent.h>
 
@@ -112,8 +112,8 @@ static struct outcome outcome_of(const struct trial *trial, struct kept **kept) 
 }
 
 /* Returns whether the device has an expected state after a trial. If the sync of a power cycle or
- * an extend failed, the change may still be in the file, because it is unknown what is on the
- * disk. */
+ * of an extend failed, the file may still contain the change, because the device cannot know
+ * whether it reached the disk. */
 static bool is_right(const struct trial *trial, const struct outcome *outcome, long there) {
     if (!trial->has_state) return there == -2;
     if (!outcome->is_done && strcmp(name_of_it, "fdatasync") == 0 && there == EXTENDS + 1)
@@ -122,7 +122,7 @@ static bool is_right(const struct trial *trial, const struct outcome *outcome, l
     return there == EXTENDS + (outcome->is_done ? 1 : 0);
 }
 
-/* Checks a device after a trial, and extends it once more. */
+/* Checks a device after a trial, and extends its PCR once more. */
 static void look(struct kept *kept, const struct trial *trial, const struct outcome *outcome,
                  const struct values *values) {
     long there = extends_there(kept, values);

@@ -20,7 +20,7 @@ static enum fault fault;
 static unsigned counted, number;
 static const char *name_of_it;
 
-/* The numbers of syncs of files and folders, by fsync and by fdatasync. */
+/* The numbers of syncs of files and folders, with fsync and with fdatasync. */
 static unsigned forced, forced_data;
 
 /* A function that is called for each file or folder that is synced, or NULL. */
@@ -29,7 +29,7 @@ static void (*when_forced)(int file);
 /* The number of pages that are mapped at present. */
 static int mapped;
 
-/* Counts a call if it is of a counted kind. Returns whether it is the one that must fail. */
+/* Counts a call if it is of a counted kind. Returns whether this call must fail. */
 static bool is_the_one(const char *name, bool is_counted) {
     if (fault == NO_FAULT || !is_counted || ++counted != number) return false;
     name_of_it = name;
@@ -37,7 +37,7 @@ static bool is_the_one(const char *name, bool is_counted) {
     return true;
 }
 
-/* Returns whether a system call must fail; `again` says whether EINTR can interrupt it. */
+/* Returns whether a system call must fail; `again` says whether the call can fail with EINTR. */
 static bool fails(const char *name, bool again) {
     bool is_counted = fault == FAILS || fault == IS_KILLED;
     if (!is_the_one(name, is_counted || (fault == IS_INTERRUPTED && again))) return false;

@@ -16,7 +16,8 @@ static const uint8_t STARTUP[] = {0x80, 0x01, 0, 0, 0, 12, 0, 0, 0x01, 0x44, 0, 
 static const uint8_t GET_RANDOM[] = {0x80, 0x01, 0, 0, 0, 12, 0, 0, 0x01, 0x7b, 0, 16};
 static const uint8_t READ_CLOCK[] = {0x80, 0x01, 0, 0, 0, 10, 0, 0, 0x01, 0x81};
 
-/* TPM2_PCR_Extend of PCR 10 with a SHA-256 digest of 32 bytes 5a; TPM2_PCR_Read of PCR 10. */
+/* TPM2_PCR_Extend of PCR 10, with a SHA-256 digest whose bytes are all 0x5a; TPM2_PCR_Read of PCR
+ * 10. */
 static const uint8_t EXTEND[] = {
     0x80, 0x02, 0,    0,    0,    65,   0,    0,    0x01, 0x82, 0,    0,    0,    10,   0,    0, 0,
     9,    0x40, 0,    0,    9,    0,    0,    0,    0,    0,    0,    0,    0,    1,    0,    11,

@@ -1,9 +1,9 @@
 /* Kills processes that use a device, and crashes the host. With force=always, no answered command
- * is lost. With force=power, the device is in one of its states since power came on. `crashes
- * VALUES` kills a process before each system call in turn. Then the host crashes; in half of the
- * runs, another process continues before the crash. `crashes VALUES SECONDS SEED` kills processes
- * at random, makes calls fail and forks children as well, and prints the counts to standard error.
- * VALUES is the file with the expected PCR values. */
+ * is lost. With force=power, the device is in one of the states that it had since power came on.
+ * `crashes VALUES` kills a process before each system call in turn. Then the host crashes; in half
+ * of the runs, another process continues before the crash. `crashes VALUES SECONDS SEED` kills
+ * processes at random, makes calls fail and forks children as well, and prints the counts to
+ * standard error. VALUES is the file with the expected PCR values. */
 #include "disk.h"
 #include <stdatomic.h>
 #include <sys/prctl.h>
@@ -44,8 +44,7 @@ static void note_answer(void) {
     told->answers++;
 }
 
-/* Executes a command, and returns whether it was answered. If not, the call has returned a
- * fault. */
+/* Executes a command. Returns false if the host reported a fault instead of a response. */
 static bool is_answered(struct kept *kept, const uint8_t *buffer, size_t size) {
     uint8_t response[RESPONSE_BYTES];
     tpmsim_answered answered;

@@ -1,5 +1,5 @@
 /* The content of the disk: the synced bytes of the device's files. A crash of the host replaces the
- * folder with this content. The processes of a test share it. */
+ * folder with this content. The processes of a test share this memory. */
 #ifndef DISK_H
 #define DISK_H
 #include "calls.h"
@@ -77,15 +77,15 @@ static void put_on_disk(int file) {
     fault = before;
 }
 
-/* Adds zeros to the file on the disk at random, where the file itself has bytes that were not
- * synced. */
+/* At random, adds zeros to the file on the disk, at the offsets where the file itself has bytes
+ * that were not synced. */
 static inline void add_zeros_by_chance(struct disk_file *there) {
     size_t more = rand() % 2 ? (size_t)rand() % (FILE_MOST - there->size) : 0;
     memset(there->bytes + there->size, 0, more);
     there->size += more;
 }
 
-/* Adds some unsynced bytes of the file to the disk at random, and perhaps zeros after them. A
+/* At random, adds some unsynced bytes of the file to the disk, and perhaps zeros after them. A
  * system may write bytes to the disk before a sync. */
 static inline void add_by_chance(struct disk_file *there) {
     size_t size;

@@ -41,8 +41,8 @@ static long drain(int file) {
     return all;
 }
 
-/* Kills a process some microseconds after it began or, if it answers, after its first report.
- * Returns the number of its reports. */
+/* Kills a process some microseconds after it began or, if `answers` is true, after its first
+ * report. Returns the number of its reports. */
 static long killed_after(void (*run)(int told), unsigned microseconds, bool answers) {
     int ends[2], status;
     char first;
@@ -63,7 +63,7 @@ static long killed_after(void (*run)(int told), unsigned microseconds, bool answ
     return answered;
 }
 
-/* Resets the PCR, since the file has only the values of a limited number of extends. */
+/* Resets the PCR, because the file contains its values only up to a limited number of extends. */
 static void begin_anew(struct kept *kept) {
     struct reason reason;
     must(kept_power(kept, &reason), "the power cycle failed");

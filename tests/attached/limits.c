@@ -31,7 +31,7 @@ static const char *failing_extend(struct kept *kept) {
 }
 
 /* Makes the disk full at each byte of a record in turn. The file stays unchanged. The device
- * continues when there is space again, even if it is opened again. */
+ * continues when there is space again, and also after it is opened again. */
 static void fill(struct kept *kept, const struct values *values) {
     size_t before = size_now(), record;
     extend(kept);

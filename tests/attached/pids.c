@@ -1,6 +1,6 @@
 /* Uses one device in a process with the process ID 1 and in its forked child, which also has the
- * process ID 1, in another namespace. Tests this with a page that a fork wipes, and without such
- * pages. The argument is the file with the expected PCR values. */
+ * process ID 1, in another namespace. Tests this with a page that the kernel wipes at a fork, and
+ * without such a page. The argument is the file with the expected PCR values. */
 #include "common.h"
 #include <errno.h>
 #include <poll.h>
@@ -8,8 +8,8 @@
 #include <sys/mman.h>
 #include <sys/wait.h>
 
-/* WITHIN_MS: the parent pauses within a command for this time, in milliseconds, in which its child
-   begins a command. */
+/* WITHIN_MS: the number of milliseconds for which the parent pauses within a command, so that its
+ * child begins a command. */
 enum { EXTENDS = 500, RANDOM_BYTES = 64, WITHIN_MS = 100 };
 
 static const char FOLDER[] = "state";
@@ -17,7 +17,7 @@ static const char FOLDER[] = "state";
 /* TPM2_GetRandom of RANDOM_BYTES bytes, more than GET_RANDOM draws. */
 static const uint8_t GET_MORE[] = {0x80, 0x01, 0, 0, 0, 12, 0, 0, 0x01, 0x7b, 0, RANDOM_BYTES};
 
-/* Whether the kernel appears to the device to wipe a page at a fork. */
+/* Whether the host may use a page that the kernel wipes at a fork. If not, madvise fails. */
 static bool wipes;
 
 /* The pipes with which a parent and its child wait for each other, and whether the parent waits for

@@ -1,6 +1,7 @@
 /* Tests the option `rm` of the module for libtss2. When a process finalizes its context, the module
- * flushes the objects and sessions that the process loaded and did not flush, and nothing else.
- * Each context of the module is one client. All clients share a device in a folder. */
+ * flushes the objects, sequences and sessions that the process loaded and did not flush, and
+ * nothing else. Each context of the module is one client. The clients share a device in a folder.
+ */
 #include "common.h"
 #include <signal.h>
 #include <sys/wait.h>
@@ -22,6 +23,10 @@ static const uint8_t CREATE_PRIMARY[] = {
 static const uint8_t START_SESSION[] = {
     0x80, 1, 0, 0, 0, 43, 0, 0, 1, 0x76, 0x40, 0, 0, 7, 0x40, 0, 0, 7, 0, 16, 0, 0, 0, 0, 0,
     0,    0, 0, 0, 0, 0,  0, 0, 0, 0,    0,    0, 0, 1, 0,    16, 0, 11};
+
+/* TPM2_HashSequenceStart for a SHA-256 hash sequence, and for an event sequence. */
+static const uint8_t START_HASH[] = {0x80, 1, 0, 0, 0, 14, 0, 0, 1, 0x86, 0, 0, 0, 11};
+static const uint8_t START_EVENT[] = {0x80, 1, 0, 0, 0, 14, 0, 0, 1, 0x86, 0, 0, 0, 16};
 
 static TSS2_TCTI_CONTEXT *begun(const char *words) {
     size_t size;
@@ -67,6 +72,39 @@ static uint32_t object(TSS2_TCTI_CONTEXT *context) {
 
 static uint32_t session(TSS2_TCTI_CONTEXT *context) {
     return loaded_by(context, START_SESSION, sizeof START_SESSION);
+}
+
+static uint32_t hash(TSS2_TCTI_CONTEXT *context) {
+    return loaded_by(context, START_HASH, sizeof START_HASH);
+}
+
+static uint32_t event(TSS2_TCTI_CONTEXT *context) {
+    return loaded_by(context, START_EVENT, sizeof START_EVENT);
+}
+
+/* Sends TPM2_HMAC_Start with a key and the empty password. */
+static uint32_t hmac(TSS2_TCTI_CONTEXT *context, uint32_t key) {
+    uint8_t command[31] = {0x80, 2, 0, 0, 0, 31, 0, 0, 1, 0x5b, [17] = 9, 0x40, 0, 0, 9, [30] = 16};
+    put_number(command + 10, key);
+    return loaded_by(context, command, sizeof command);
+}
+
+/* Sends TPM2_SequenceComplete without data, for TPM_RH_NULL. */
+static void complete(TSS2_TCTI_CONTEXT *context, uint32_t handle) {
+    uint8_t command[33] = {0x80, 2, 0, 0, 0, 33, 0, 0, 1, 0x3e, [17] = 9, 0x40, 0, 0, 9};
+    uint8_t response[RESPONSE_BYTES];
+    put_number(command + 10, handle);
+    put_number(command + 29, 0x40000007);
+    done(context, command, sizeof command, response);
+}
+
+/* Sends TPM2_EventSequenceComplete without data, for PCR 16. */
+static void complete_event(TSS2_TCTI_CONTEXT *context, uint32_t handle) {
+    uint8_t command[42] = {0x80,      2,         0,    0, 0, 42, 0,           0, 1, 0x85,
+                           [13] = 16, [21] = 18, 0x40, 0, 0, 9,  [31] = 0x40, 0, 0, 9};
+    uint8_t response[RESPONSE_BYTES];
+    put_number(command + 14, handle);
+    done(context, command, sizeof command, response);
 }
 
 static void flush(TSS2_TCTI_CONTEXT *context, uint32_t handle) {
@@ -149,6 +187,46 @@ static void leave_to_others(void) {
     show("an object and a session of another client, under handles that were freed");
 }
 
+/* Starts three sequences. */
+static void leave_sequences(const char *label, const char *words) {
+    TSS2_TCTI_CONTEXT *context = begun(words);
+    hmac(context, object(context));
+    hash(context);
+    event(context);
+    ended(context);
+    show(label);
+}
+
+/* Ends sequences, with each command that does so. Another client then gets the same handles, which
+   `rm` must not flush. */
+static void leave_sequences_to_others(void) {
+    TSS2_TCTI_CONTEXT *context = begun(RM), *other = begun(NO_RM);
+    complete(context, hash(context));
+    hash(other);
+    complete_event(context, event(context));
+    hash(other);
+    flush(context, hash(context));
+    hash(other);
+    ended(context);
+    ended(other);
+    show("sequences of another client, under handles that were freed");
+}
+
+/* Saves the context of a sequence. The sequence is flushed when the client ends, but its context
+ * can still be loaded. The next client loads the context twice: it completes the first of the two
+ * sequences, and leaves the second one loaded. */
+static void save_sequence(void) {
+    uint8_t load[RESPONSE_BYTES];
+    TSS2_TCTI_CONTEXT *context = begun(RM);
+    size_t size = saved(context, hash(context), load);
+    ended(context);
+    context = begun(RM);
+    complete(context, loaded_by(context, load, size));
+    loaded_by(context, load, size);
+    ended(context);
+    show("after a context of a sequence, which was loaded twice and completed once");
+}
+
 /* Saves a session and an object. When the client ends, the saved session remains, and the object is
    flushed. Both contexts can still be loaded. */
 static void save(void) {
@@ -225,6 +303,10 @@ int main(void) {
     leave("with it", RM);
     leave_to_others();
     save();
+    leave_sequences("sequences without the word", NO_RM);
+    leave_sequences("sequences with it", RM);
+    leave_sequences_to_others();
+    save_sequence();
     forked(false);
     forked(true);
     killed();

@@ -23,8 +23,8 @@ AUDIT = pathlib.Path(__file__).parents[2] / "tools" / "audit.py"
 SEND_COMMAND, STOP, HASH_START, HASH_DATA, HASH_END = 8, 21, 5, 6, 7
 POWER_ON, POWER_OFF, RESET = 1, 2, 17
 GET_RANDOM = bytes.fromhex("80010000000c0000017b0010")
-# The values of PCR 17 after a dynamic launch with the data abc. sha1sum and sha256sum computed them
-# from zeros and the digest of abc.
+# The values of PCR 17 after a dynamic launch with the data "abc". They were computed with sha1sum
+# and sha256sum, from zeros and the digest of "abc".
 LAUNCHED = [
     "ccd5bd41458de644ac34a2478b58ff819bef5acf",
     "589f9ffed4c477966bfb8d41f37895b08c69047df8f911d6f3b57fbe08faee8d",
@@ -79,8 +79,8 @@ def has_index(tpm: Caller) -> bool:
 
 
 def keeps(*words: object) -> None:
-    """Checks that an index that one run defines still exists after SIGTERM and after SIGKILL.
-    SIGINT and the request STOP end other runs.
+    """Checks that an index that one run defines still exists after SIGTERM and after SIGKILL, and
+    that SIGINT and the request STOP end the simulator.
     """
     with Served(*words) as served:
         served.client().define(area(index=INDEX))

@@ -1,5 +1,5 @@
 /* Checks the messages about a damaged journal, for each return code of the library's function that
- * opens a journal. The file stays unchanged. The test wraps that function. */
+ * opens a journal. The test wraps that function. The file stays unchanged. */
 #include "common.h"
 
 static const char FOLDER[] = "state", JOURNAL[] = "state/journal";

@@ -67,7 +67,8 @@ both() {
     fi
 }
 
-# extended COUNT: prints the values of a SHA-256 PCR after 0, 1, .. COUNT extends. The digest is 32 bytes 5a.
+# extended COUNT: prints the values of a SHA-256 PCR after 0, 1, .. COUNT extends. Each extend has the same digest,
+# 32 bytes with the value 5a.
 extended() {
     python3 -c '
 import hashlib, sys

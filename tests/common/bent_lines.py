@@ -90,8 +90,8 @@ BYTES = {
 }
 
 
-# Functions that alter a line at one token. Their arguments are the tokens before it, the token
-# itself, and the tokens after it.
+# Functions that alter one token of a line. Their arguments are the tokens before this token, the
+# token itself, and the tokens after it.
 
 
 def replaced(word, before, token, behind):
@@ -137,8 +137,8 @@ def first_lines():
 
 
 def bent(first, bend, begin=0, step=1):
-    """Yields copies of the lines, each with one token altered. Of all tokens of all lines, it
-    alters every `step`-th one, from token number `begin` on.
+    """Yields copies of the lines, each with one token altered. The tokens of all lines are counted
+    together, and every `step`-th token is altered, starting with token number `begin`.
     """
     places = (
         (tokens, at) for tokens in (it.split(b" ") for it in first) for at in range(len(tokens))

@@ -1,5 +1,5 @@
 # Functions for the shell tests. Each test reads this file first, and gets the program's path as its argument.
-# It runs the program once for each case, in a temporary folder, and prints a line with the result.
+# For each case, the test runs the program in a temporary folder, and prints a line with the result.
 LC_ALL=C
 # shellcheck disable=SC2154 # a test names its folder before it reads this file
 PYTHONPATH=${tests%/*}/python:${tests%/*}
@@ -66,8 +66,8 @@ script() {
 # shellcheck disable=SC2034 # the tests use it
 startup='cmd 80010000000c000001440000'
 
-# told FILE: prints the lines of a file. A line that is repeated in a row is printed once, with the number of
-# times. The shell itself reads a file with few lines, which is faster than starting a program.
+# told FILE: prints the lines of a file. Equal consecutive lines are printed once, with their number. The shell
+# itself reads a file with few lines, which is faster than starting a program.
 told() {
     [ -s "$1" ] || { printf 'empty'; return; }
     text='' before='' times=0 lines=0

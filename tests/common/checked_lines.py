@@ -3,9 +3,9 @@ Python device:
 
     tools/python.sh tests/common/checked_lines.py PROGRAM
 
-The script has each line of bent_lines.py once. For each kind of fault the test prints how many bad
-lines have it, and for how many of them `tpmsim check` reports something else. The last line counts
-the good lines. Lines that begin with DIFFERS report differences.
+The script contains each line of bent_lines.py once. For each kind of fault the test prints how many
+bad lines have this fault, and for how many of them `tpmsim check` reports something else. The last
+line counts the good lines. Lines that begin with DIFFERS report differences.
 """
 
 import collections
@@ -38,8 +38,8 @@ def place_of(tokens: list[bytes], fault: str) -> int:
 
 
 def words_wanted(code: CC, tokens: list[bytes]) -> list[str]:
-    """Returns the kind of word that each position of a line must contain. It depends on the command
-    and on its number of entries.
+    """Returns the kind of word that each position of a line must contain. The kinds depend on the
+    command and on its number of entries.
     """
     name, *words = lines.form_of(code).replace("@", "").split(" ")
     handles = len(code.handles)

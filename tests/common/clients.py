@@ -16,8 +16,9 @@ One or two clients send the commands HEX. KIND is one of these:
                prints the same as `idle`
     removed    two clients; the path of their socket is removed before they send
     folder     like `removed`, but a folder replaces the socket
-    clock      starts the device, and reads its time for a second, with fifty commands at once. The
-               last time has to be the whole milliseconds since the start, by the host's clock
+    clock      starts the device, and reads its time for a second, sending fifty commands at once.
+               The last time must be the number of whole milliseconds since the start, according to
+               the host's clock
 
 `clients.py during SOCKET HEX LINE` runs the shell command LINE after the first response, before the
 client closes. `clients.py long SOCKET MILLIONS WRITE` alternates between the command WRITE, a

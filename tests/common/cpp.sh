@@ -2,8 +2,8 @@
 # shellcheck shell=sh disable=SC2154 # cases.sh has `room` and `tests`, library.sh the rest
 
 # play_header COMPILER: compiles tests/cpp/devices.cpp as C++17, and prints its output. Then it prints whether
-# the output is the same with C++20. The part that throws no exception is also compiled with -fno-exceptions, in
-# both versions. Warnings are errors.
+# the output is the same with C++20. The part that throws no exception is also compiled with -fno-exceptions, as
+# C++17 and as C++20. Warnings are errors.
 play_header() {
     for words in -std=c++17 -std=c++20 '-std=c++17 -fno-exceptions' '-std=c++20 -fno-exceptions'; do
         # shellcheck disable=SC2086 # word splitting is intended

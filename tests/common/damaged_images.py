@@ -35,8 +35,8 @@ SEED, BENT = 1, 300
 DEFAULTS = [1, 10_000]
 MOST_LEFT = 100
 
-# In a long series of images, the program opens only the first FIRST, and then one of every STEP.
-# STEP must not divide the number of ways to change a byte. The library opens all images.
+# In a long series of images, the program opens only the first FIRST images, and then every STEP-th
+# image. STEP must not divide the number of ways to change a byte. The library opens all images.
 FIRST, STEP = 100, 11
 
 # The device's clock in the damaged image, instead of the time that really passed.
@@ -80,7 +80,7 @@ class Program:
         return self.end(self.opening)
 
     def saved(self, commands):
-        """Returns the image that the program saves after a connection with these commands."""
+        """Returns the image that the program saves after a connection that sends these commands."""
         self.saving.begin()
         connection = client.connected("socket")
         connection.sendall(commands)
@@ -97,7 +97,7 @@ class Program:
 
 class Comparison:
     """Compares the program with the Python device. In a long series of images, it compares the
-    first ones, and then one of every `step`.
+    results for the first images, and then for every `step`-th image.
     """
 
     def __init__(self, program, step):

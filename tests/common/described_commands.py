@@ -170,7 +170,7 @@ def attributes(program: Program, codes: list[CC]) -> Iterator[Asked]:
 
 
 def served(program: Program, codes: list[CC]) -> Iterator[Asked]:
-    """Compares the description with the program: which commands the device supports, and which
+    """Checks that the description is right about which commands the device supports, and which
     commands a policy can name.
     """
     numbers = range(0x100, 0x200) if len(codes) == len(CC) else [int(it) for it in codes]
@@ -245,7 +245,7 @@ def words(program: Program, codes: list[CC]) -> Iterator[Asked]:
 
 
 def kinds_of_handles(program: Program, codes: list[CC]) -> Iterator[Asked]:
-    """Compares the description with the program: which handles a command accepts, both for existing
+    """Checks that the description is right about which handles a command accepts, both for existing
     and for missing entities.
     """
     for code in codes:
@@ -260,9 +260,9 @@ def kinds_of_handles(program: Program, codes: list[CC]) -> Iterator[Asked]:
 
 
 def authorizations(program: Program, codes: list[CC]) -> Iterator[Asked]:
-    """Compares the description with the program: which handles need authorization, and whether a
-    command accepts entries. A password entry is refused with a code of its own if no handle of the
-    command needs it.
+    """Checks that the description is right about which handles need authorization, and whether a
+    command accepts entries. If no handle of a command needs authorization, a password entry is
+    refused with a special response code.
     """
     for code in codes:
         handles = right_handles(code)
@@ -278,7 +278,7 @@ def authorizations(program: Program, codes: list[CC]) -> Iterator[Asked]:
 
 
 def encryption(program: Program, codes: list[CC]) -> Iterator[Asked]:
-    """Compares the description with the program: which commands and responses have a sized buffer
+    """Checks that the description is right about which commands and responses have a sized buffer
     as their first parameter. Only then may a session encrypt that parameter.
     """
     for code in codes:
@@ -298,7 +298,7 @@ def encryption(program: Program, codes: list[CC]) -> Iterator[Asked]:
 
 
 def roles(program: Program, codes: list[CC]) -> Iterator[Asked]:
-    """Compares the description with the program: which commands have the ADMIN role when an object
+    """Checks that the description is right about which commands have the ADMIN role when an object
     or an index authorizes them. The ADMIN role needs a policy that names the command; the USER role
     does not.
     """
@@ -314,7 +314,7 @@ def roles(program: Program, codes: list[CC]) -> Iterator[Asked]:
 
 
 def nv_attributes(program: Program, codes: list[CC]) -> Iterator[Asked]:
-    """Compares the description with the program: whether a command that an index authorizes needs
+    """Checks that the description is right about whether a command that an index authorizes needs
     the index's attributes for reading or those for writing. The authorization value of an index
     never authorizes the ADMIN role.
     """
@@ -352,7 +352,7 @@ def saved_state(program: Program) -> list[tuple[CC, str, str]]:
 
 
 def keeping(program: Program, codes: list[CC]) -> Iterator[Asked]:
-    """Compares the description with the program: which commands leave a saved state valid, so that
+    """Checks that the description is right about which commands leave a saved state valid, so that
     the next TPM2_Startup can resume it.
     """
     events = saved_state(program)

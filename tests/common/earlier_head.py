@@ -14,8 +14,8 @@ from tpmsim.model.object_commands import OBJECTS
 from tpmsim.records.marks import Mark, sum_from, sum_of, OFFSET_BASIS
 from tpmsim.standard import number
 
-# The size of the session numbers at the end of the body, and of the object numbers that precede
-# them in version 1, in bytes.
+# Sizes in bytes: of the session numbers at the end of the body, and of the object numbers that
+# precede the session numbers in version 1.
 OF_SESSIONS, OF_OBJECTS = 8 * 16, 2 * 8 * OBJECTS
 
 
@@ -27,8 +27,8 @@ def earlier(text: bytes) -> bytes:
 
 
 def marked(line: bytes, total: int) -> tuple[bytes, int]:
-    """Returns a line of the journal, and the checksum after the line. If the line is a mark, its
-    checksum is replaced by the new one.
+    """Returns a line of the journal, and the running checksum after the line. `total` is the
+    running checksum before the line. If the line is a mark, it gets the new checksum.
     """
     mark = Mark.read(line)
     if mark is None:

@@ -36,7 +36,7 @@ class Example(NamedTuple):
 
 
 class Chapter(NamedTuple):
-    """Examples, and the kind of handle that they change."""
+    """Examples, and the first byte of the handles of the entities that they change."""
 
     name: str
     kind: int
@@ -45,7 +45,7 @@ class Chapter(NamedTuple):
 
 step = partial(Example, is_step=True)
 
-# A session without a bind entity and salt, and therefore without a key and HMACs.
+# A session without a bind entity or salt, and therefore without a key or HMACs.
 SESSION, OTHER, POLICY = 0x0200_0000, 0x0200_0001, 0x0300_0000
 BY_SESSION = [entry(SESSION, nonce=bytes(16))]
 BY_POLICY = [entry(POLICY, nonce=bytes(16))]
@@ -53,8 +53,8 @@ BY_POLICY = [entry(POLICY, nonce=bytes(16))]
 # An entry of SESSION that decrypts the first parameter.
 BY_DECRYPTING = [entry(SESSION, bytes(16), frames.CONTINUE_SESSION | frames.DECRYPT)]
 
-# Three entries. The session of the last one ends when the command is accepted. A trial session then
-# gets its slot.
+# Three entries. When the command is accepted, the session of the last entry ends. A trial session
+# then gets the slot of that session.
 BY_THREE = [entry(), *BY_SESSION, entry(OTHER, nonce=bytes(16), attributes=0)]
 
 

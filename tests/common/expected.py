@@ -1,5 +1,5 @@
 """Writes the expected output NAME.out next to scripts NAME.tpm, without running the simulator. If
-NAME.trace exists, even an empty file, the program also writes the output of `--trace` to it.
+the file NAME.trace exists, it is overwritten with the output of `--trace`, even if it is empty.
 
     tools/python.sh tests/common/expected.py                    for every script in tests/
     tools/python.sh tests/common/expected.py tests/general/startup.tpm  for these

@@ -1,4 +1,4 @@
-# Functions for the tests of the JavaScript package. Each reads this file after cases.sh.
+# Functions for the tests of the JavaScript package, which read this file after cases.sh.
 # shellcheck shell=sh disable=SC2034,SC2154 # cases.sh has `tests`
 needs node
 top=${tests%/*}

@@ -2,7 +2,8 @@
 
     python3 kept_scripts.py PROGRAM
 
-The Python device plays the same lines. After each line the file must contain its image.
+The Python device plays the same lines. After each line, the image in the file must be that of the
+Python device.
 """
 
 import pathlib

@@ -89,7 +89,7 @@ def check(turns, buffer):
 
 
 def some(buffers):
-    """Yields the first few buffers of each command, and then one of every STEP."""
+    """Yields the first few buffers of each command, and then only every STEP-th buffer."""
     seen = collections.Counter()
     for buffer in buffers:
         code = buffer[6:10]

@@ -5,8 +5,8 @@
 Each link to a file of FOLDER must lead to an existing file or folder. Each #anchor must lead to a
 heading of the document; GitHub's rule makes anchors from headings. The program prints a line for
 each link that leads nowhere. It does not follow links to other sites. With --count the last line
-has the exact numbers; otherwise it reports only that there are some. The status is 1 if a link
-leads nowhere.
+has the exact numbers of documents and links. Otherwise it says only whether there are at least 30
+documents and 500 links. The status is 1 if a link leads nowhere.
 """
 
 import pathlib

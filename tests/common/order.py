@@ -22,7 +22,7 @@ class OrderTeller(Teller):
         both: str = "BAD_AUTH/s1",
     ) -> None:
         """Sends commands with faults in the authorization area, in the entries, and in their HMACs.
-        All of them have the truncated parameters `cut`. No password can authorize the index
+        All commands have the truncated parameters `cut`. No password can authorize the index
         `closed`. `both` is the outcome if two entries are wrong.
         """
         text, last = b"".join(number(it, 4) for it in handles), len(uses)

@@ -5,7 +5,7 @@
 ASKED lists the requested items. PAGE has tables of the differences between that list and the crates
 in FOLDER. Each requested item must exist in its crate by that name, unless PAGE names a
 replacement, which must exist. Each difference that PAGE lists must be real. The program prints a
-line for each fault. The status is 1 if there is one.
+line for each fault. The status is 1 if there is a fault.
 """
 
 import pathlib
@@ -63,7 +63,7 @@ Row = tuple[str, ...]
 
 
 def tables_of(text: str) -> dict[Row, list[Row]]:
-    """Returns the rows of all tables of a page, by the headers of the tables."""
+    """Returns, for each table header of a page, the rows of all tables with this header."""
     tables: dict[Row, list[Row]] = {}
     for head, rows in TABLE.findall(text):
         cells = tuple(cell.strip() for cell in head.split("|"))
@@ -230,7 +230,7 @@ class Comparison:
 
 
 def numbers_of(row: Row) -> tuple[int, int]:
-    """Returns the requested and the present number of lines in a row."""
+    """Returns the two numbers of lines that a row of the table states: requested and present."""
     return int(row[1].replace(",", "")), int(row[2].replace(",", ""))
 
 

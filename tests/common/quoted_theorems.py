@@ -17,7 +17,7 @@ SECTION = re.compile(r"^### (.+?)\n(.*?)(?=^##|\Z)", re.M | re.S)
 
 
 def bare(text: str) -> str:
-    """Returns a text without the white space before and after its lines."""
+    """Returns a text without the white space at the beginning and at the end of each line."""
     return "\n".join(line.strip() for line in text.splitlines())
 
 

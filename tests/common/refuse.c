@@ -1,6 +1,6 @@
-/* Replaces the C library's malloc and realloc. In each run, the calls from the turn's first number
- * to its second number fail (see turns.h). The shim marks the run when it makes the first of these
- * calls fail. */
+/* Replaces the C library's malloc and realloc, and counts their calls. In each run, the calls from
+ * number `first` to number `second` of the turn fail (see turns.h). The shim marks the run when it
+ * makes the first of these calls fail. */
 #define _GNU_SOURCE
 #include <dlfcn.h>
 #include <errno.h>

@@ -2,10 +2,10 @@
 
     python3 restored_folders.py PROGRAM
 
-After a run, the folder must contain either its old device or the device of the state text, never
-another device or none. After a run that succeeded it must contain the device of the text. After a
-run that failed it may contain that device only if the failed call came after the rename. The shim
-tear.c records the calls.
+After a run on a folder with an old device, the folder must contain this device or the device of the
+state text. After a run that succeeded it must contain the device of the text. After a run that
+failed it may contain that device only if the failed call came after the rename. The shim tear.c
+records the calls.
 """
 
 import errno

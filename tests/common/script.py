@@ -158,7 +158,7 @@ class Script:
 
     def write_below(self, folder: pathlib.Path) -> None:
         """Writes the script, its responses and its trace to FOLDER/GROUP. GROUP is the name of the
-        folder of its program.
+        folder that contains the script's program.
         """
         self.path = folder / self.path.parent.name / self.path.name
         self.path.parent.mkdir(parents=True, exist_ok=True)

@@ -16,7 +16,7 @@ for octal in 001 002 003 004 005 006 007 010 011 012 013 014 015; do
 done
 
 # begin CONNECTIONS: serves CONNECTIONS connections in the background, with the options in `options`. The
-# locality is 0 and the image is `image`, unless the test sets variables with other values.
+# locality is 0 and the image is the file `image`, unless the test sets the variables `locality` and `image`.
 begin() {
     rm -f "$room/output" "$room/error"
     # shellcheck disable=SC2086 # word splitting is intended
@@ -30,8 +30,8 @@ there() {
     until [ -S socket ]; do sleep 0.01; done
 }
 
-# talk LABEL SIZE HEX..: connects to the socket, sends the hex arguments' bytes SIZE bytes at a time, and prints
-# the responses.
+# talk LABEL SIZE HEX..: connects to the socket, sends the bytes of the arguments HEX in pieces of SIZE bytes, and
+# prints the responses.
 talk() {
     echo "$1:"
     shift

@@ -212,7 +212,7 @@ class Tears(Shim):
 
     def begun(self, words, folder=".", at=0, error=0, calls=CALLS, **told):
         """Begins a run in which call number `at` fails with an error. If `error` is 0, the call
-        succeeds, but moves only half of its bytes.
+        succeeds, but transfers only half of its bytes.
         """
         calls.unlink(missing_ok=True)
         told |= {"AT": at, "ERROR": error, "CALLS": calls.resolve()}
@@ -220,7 +220,7 @@ class Tears(Shim):
 
     @staticmethod
     def noted(calls=CALLS):
-        """Returns the calls of a run so far, each with the name of its file."""
+        """Returns the calls of a run so far, each with the name of the file that it accesses."""
         return [call.strip() for call in calls.read_text("ascii").splitlines()]
 
 

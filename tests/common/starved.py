@@ -88,7 +88,7 @@ class Service:
 
 
 def talked(turns):
-    """Returns the responses to a connection; empty if the run ends before it."""
+    """Returns the responses that a client receives; empty if the run ends before it connects."""
     client = connected(ROOM.path / "socket", turns)
     if not client:
         return b""

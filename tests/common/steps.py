@@ -185,8 +185,8 @@ class Steps(Teller):
         elements: Sequence[int | tuple[int, int]],
         more: bool = False,
     ) -> None:
-        """Checks that TPM2_GetCapability returns these numbers or pairs, and whether it reports
-        that there are more.
+        """Checks that TPM2_GetCapability returns these numbers or pairs, and that its moreData is
+        equal to `more`.
         """
         numbers = itertools.chain(*(it if isinstance(it, tuple) else (it,) for it in elements))
         listed = number(len(elements), 4) + b"".join(number(it, 4) for it in numbers)

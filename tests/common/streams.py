@@ -34,7 +34,7 @@ def random_of(buffer: bytes) -> bytes:
 
 
 def without_times(buffer: bytes, response: bytes) -> bytes:
-    """Returns a response without the host's time, which is not compared."""
+    """Returns a response with the host's time set to 0, because that time is not compared."""
     is_clock = buffer[6:10] == frames.number(CC.ReadClock, 4)
     if is_clock and len(response) == CLOCK_ANSWER_BYTES:
         return response[: TIMES.start] + bytes(16) + response[TIMES.stop :]
@@ -42,7 +42,7 @@ def without_times(buffer: bytes, response: bytes) -> bytes:
 
 
 def without_clock(device: Model) -> bytes:
-    """Returns the image of a device without its clock, which is not compared."""
+    """Returns the image of a device with its clock set to 0, because the clock is not compared."""
     clock, device.clock = device.clock, 0
     text = image(device)
     device.clock = clock
@@ -88,7 +88,7 @@ def image_told(text: bytes | None) -> str:
 
 
 def device_told(device: Model) -> str:
-    """Describes the image of a device like `image_told`."""
+    """Describes the image of a device, as `image_told` does."""
     return image_told(image(device))
 
 

@@ -113,8 +113,7 @@ int fsync(int file) {
     return NEXT(int (*)(int), "fsync")(file);
 }
 
-/* The program calls the next four functions only for a device that is kept in a folder. No test
- * with this shim keeps one. */
+/* The program calls the next four functions only for a device that is kept in a folder. */
 ssize_t pread(int file, void *bytes, size_t size, off_t place) {
     ssize_t left = left_of("pread", file, size);
     return left < 0

@@ -65,9 +65,9 @@ class Teller(ScriptCaller):
         return Said(self, words)
 
     def comes_to(self, words: str, prepared: Prepared) -> bytes:
-        """Sends a command with the outcome that `words` names. Returns the decrypted parameters of
-        its response, if any. If one of its entries is for a session, the script first sets new
-        random bytes.
+        """Sends a command, and expects the outcome that `words` names. Returns the decrypted
+        parameters of the response, if any. If an entry of the command is for a session, the script
+        first sets new random bytes.
         """
         named = [it[1] for it in OUTCOME.finditer(words) if it[1] in frames.CODES]
         if not named:
@@ -102,7 +102,9 @@ class Teller(ScriptCaller):
         self.script.chapter(text)
 
     def raw(self, words: str, *buffers: bytes, fresh: bool = False) -> bytes:
-        """Sends buffers with the outcome that `words` names. Returns the last response."""
+        """Sends buffers, and expects the outcome that `words` names for each of them. Returns the
+        last response.
+        """
         return self.script.command(words, *buffers, fresh=fresh)
 
     def locality_is(self, locality: int) -> None:

@@ -3,10 +3,10 @@
     python3 torn.py PROGRAM
 
 The shim tear.c records the calls of a run in order. Then each call is made to fail, in a run of its
-own. If the call transfers bytes, another run transfers only half of them. The table ENDINGS has the
-expected results. A client sends one command after another, and waits for each response, so that it
-knows which commands were executed. The Python device determines the expected responses and the
-expected device in the image.
+own. If the call transfers bytes, it transfers only half of them in another run. The table ENDINGS
+has the expected results. A client sends one command after another, and waits for each response, so
+that it knows which commands were executed. The Python device determines the expected responses and
+the expected device in the image.
 """
 
 import collections
@@ -131,7 +131,8 @@ COMMANDS = sum(map(len, SENT))
 
 
 def random_of(number):
-    """Returns the random bytes for the manufacture, which is number 0, or for an executed command.
+    """Returns the random bytes for the manufacture, if the number is 0, or else for the executed
+    command with this number.
     """
     return repeated(bytes([number]))
 
@@ -185,8 +186,8 @@ def served(program, text, at=0, error=0):
 
 
 class Model:
-    """The Python device, opened from an image or new. It computes responses to commands, and the
-    image.
+    """The Python device, either new or opened from an image. It computes the responses to commands,
+    and the image.
     """
 
     def __init__(self, text):

@@ -3,10 +3,10 @@
     python3 torn_scripts.py PROGRAM
 
 The shim tear.c records the calls of a run in order. Then each call is made to fail, in a run of its
-own. If the call transfers bytes, another run transfers only half of them. The client sends one line
-after another, and waits for each response. Whichever call fails, the image must have the effects of
-all answered commands, according to the Python device. The run must end with the fault of the failed
-call.
+own. If the call transfers bytes, it transfers only half of them in another run. The client sends
+one line after another, and waits for each response. Whichever call fails, the image must have the
+effects of all answered commands, according to the Python device. The run must end with the fault of
+the failed call.
 """
 
 import errno

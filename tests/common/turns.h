@@ -1,7 +1,8 @@
-/* The common part of the shims that run a program many times. The process stops before its `main`,
- * and reads the parameters of each run, a turn, from a socket. The environment variable TURNS has
- * the number of the socket. For each turn the process forks. The child continues with `main`, and
- * the process reports how the child ended. This halves the time of a run. */
+/* The common part of the shims that run a program many times. Each run is called a turn. The
+ * process stops before its `main`, and reads the parameters of each turn from a socket. The
+ * environment variable TURNS has the number of the socket. For each turn the process forks. The
+ * child continues with `main`, and the process reports how the child ended. This halves the time of
+ * a run. */
 #include <stdlib.h>
 #include <sys/mman.h>
 #include <sys/socket.h>

@@ -3,8 +3,8 @@ and sends nothing more:
 
     python3 waiting.py SOCKET ERRORS HEX
 
-All clients send the command. Each response is printed. The first client does not close its
-connection before the file ERRORS contains something. The second and the third client wait
+All clients send the command HEX. Each response is printed. The first client does not close its
+connection until the file ERRORS contains something. The second and the third client wait
 meanwhile.
 """
 

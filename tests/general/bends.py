@@ -80,7 +80,7 @@ class Walk:
             self.sized(f"the hmac in entry {place}")
 
 
-# Functions that read a parameter, by the name of its kind.
+# For each kind of parameter, a function that reads a parameter of this kind.
 FORMS = {
     "u8": lambda walk, name: walk.take(1),
     "u16": lambda walk, name: walk.take(2),
@@ -116,8 +116,9 @@ def public_area(walk):
     walk.sized("unique")
 
 
-# Functions for parameters that are sized buffers with a structure in them, by command and position.
-# They read the structure up to its last size. A private area is read up to its encrypted part.
+# For each parameter that is a sized buffer with a structure in it, a function that reads the
+# structure up to its last size. The keys are the command and the parameter's position. A private
+# area is read up to its encrypted part.
 STRUCTURES = {
     (CC.CreatePrimary, 1): parts("userAuth", "data"),
     (CC.CreatePrimary, 2): public_area,
@@ -167,14 +168,15 @@ def changed(buffer, it, by):
 
 
 def raised_and_lowered(buffer, it):
-    """Yields the buffers with a number increased and decreased by one, each after its description.
+    """Yields two altered buffers, each with a description: a number is increased by one in the
+    first buffer, and decreased by one in the second.
     """
     for by, done in ((1, "raised"), (-1, "lowered")):
         yield f"{it.name} {done}", changed(buffer, it, by)
 
 
 def bends(buffer):
-    """Yields the altered buffers, each after its description."""
+    """Yields the altered buffers, each with a description."""
     yield from raised_and_lowered(buffer, COMMAND_SIZE)
     yield "a zero byte more and commandSize corrected", changed(buffer + b"\0", COMMAND_SIZE, 1)
     for it in numbers(buffer):

@@ -40,8 +40,8 @@ def refused_alone(what: str, outcome: str, tries: int, buffer: bytes) -> None:
 
 
 def cuts_of(prepared: Prepared) -> Iterator[tuple[str, bytes]]:
-    """Yields the command with its parameters truncated to each shorter length, after its
-    description.
+    """Yields copies of the command with its parameters truncated to each shorter length, each with
+    a description.
     """
     whole, count = prepared.buffer(), len(prepared.parameters)
     for left in range(count):
@@ -56,7 +56,7 @@ def comes_whole(prepared: Prepared) -> None:
 
 def cut(name: str, prepared: Prepared, outcome: str = "AUTH_FAIL/s1", tries: int = TRY) -> None:
     """Sends a command cut to each shorter length, and with an extra byte. Each attempt must count
-    `tries` failed tries. Then sends the whole command.
+    as `tries` failed tries. Then sends the whole command.
     """
     tpm.chapter(f"{name}.")
     for what, buffer in cuts_of(prepared):

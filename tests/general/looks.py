@@ -22,7 +22,7 @@ AS_BYTES = (
     "that look are in words."
 )
 
-# The types of handles that can be listed, by their first byte.
+# For each first byte of handles that can be listed, the name of this type of handle.
 LISTED = {
     NV: "NV indices",
     HMAC_SESSION: "sessions",
@@ -123,8 +123,8 @@ class LookingScript(Script):
         return refused or SUCCESS
 
     def refuses_each(self, refused_of: Callable[[Example], Iterable[Row]]) -> None:
-        """Plays the examples of all chapters. Before each example, it sends the refused buffers
-        that `refused_of` makes from it, in rows.
+        """Plays the examples of all chapters. Before each example, sends the rows of buffers that
+        `refused_of` makes from this example. All these buffers must be refused.
         """
         for at, chapter in enumerate(CHAPTERS):
             self.kind = chapter.kind

@@ -38,8 +38,8 @@ def extending_pcr(pcr):
     return tpm.prepare(CC.PCR_Extend, [pcr], digests((SHA256, bytes(32))), b"")
 
 
-# Functions that return a successful command, by command code. Each function first sends the
-# commands that this command needs.
+# For each command code, a function that returns a command that succeeds. The function first sends
+# the other commands that this command needs.
 COMMANDS = {
     CC.SelfTest: lambda: tpm.self_test(1),
     CC.GetCapability: lambda: tpm.capability(6, 0x100, 1),

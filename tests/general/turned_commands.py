@@ -23,7 +23,9 @@ def turned(whole: bytes) -> Iterator[bytes]:
 
 
 def rows(example: Example) -> Iterator[tuple[str, str, list[bytes]]]:
-    """Yields the altered buffers that are refused, in rows with the same outcome."""
+    """Yields the altered buffers that are refused, in rows. The buffers of a row have the same
+    outcome.
+    """
     if example.is_step:
         return
     told = ((script.outcome_now(it), it) for it in turned(example.whole))

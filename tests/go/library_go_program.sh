@@ -1,5 +1,5 @@
-# Runs README's example in a program that uses the folder go/ as the module. A device that is made from a seed
-# is the same as in Python, and so are the names of response codes and of commands.
+# Runs README's example in a program that uses the folder go/ as the module. The device that is made from a seed,
+# the names of response codes and the names of commands must be the same as in Python.
 tests=$(cd "$(dirname "$0")/.." && pwd -P)
 . "$tests/common/cases.sh"
 . "$tests/common/library.sh"

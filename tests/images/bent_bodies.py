@@ -1,4 +1,4 @@
-"""Bodies of images that are altered at random, with a correct head and digest.
+"""Images whose bodies are altered at random, and whose heads and digests are correct.
 
 A seed always results in the same bodies, because only the stable functions of `random` are used.
 """
@@ -20,7 +20,7 @@ BYTES = 0, 1, 2, 3, 0x80, 0x81, 0xFF
 
 
 class Body:
-    """The fields of the body of a device's image. Each use returns a new copy of them."""
+    """The body of a device's image. Each read of `fields` returns a new copy of its fields."""
 
     def __init__(self, device):
         self.pickled = pickle.dumps(image_fields.body_of(device))
@@ -103,8 +103,8 @@ class Bender(random.Random):
         at, size = self.below(len(text) + 1), 1 + self.below(PIECE_BYTES)
         return text[:at] + bytes(self.below(256) for _ in range(size)) + text[at:]
 
-    # Methods that alter the fields. The sizes and counts that contain a changed field are
-    # corrected.
+    # Methods that alter the fields. If a changed field is in a sized buffer or in a counted list,
+    # the size or the count is corrected.
 
     def all_of(self, fields, *kinds):
         return [it for inner in within(fields) for it in inner if isinstance(it, kinds)]
@@ -134,7 +134,8 @@ class Bender(random.Random):
             field.count = wrong
 
     def resize(self, fields):
-        """Makes a field longer or shorter, and corrects the sizes that contain it."""
+        """Makes a field longer or shorter, and corrects the sizes of the buffers that contain it.
+        """
         field = self.one_of(self.all_of(fields, Plain))
         near = len(field.text) + 1, max(len(field.text) - 1, 0)
         size = self.one_of((*near, *SIZES, self.below(near[0])))

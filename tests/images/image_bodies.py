@@ -27,7 +27,7 @@ WRITTEN = BY_OWNER | Attribute.WRITTEN
 FIRST = 0x8100_0000
 WITH_VALUES = RH_OWNER, RH_ENDORSEMENT, RH_PLATFORM, RH_LOCKOUT
 
-# Offsets in a new device's image, of the three bytes for which only few values are valid. The
+# The offsets of three bytes in a new device's image for which only a few values are valid. The
 # counts of objects and indices follow the last of these bytes.
 DISABLE_CLEAR, CLOSED, SAVED = 16 + 4 * 66 + 2, 16 + 4 * 66 + 19, 361 - DIGEST_AT_END - 5
 SAVED_BANKS = SAVED_PCRS * (20 + 32)
@@ -61,7 +61,7 @@ def one_index(public, data=b"", auth_value=b"a"):
 
 
 def one_object(public=None, handle=FIRST, hierarchy=RH_OWNER, name=b"", **sensitive):
-    """Returns the image of a device with one object, whose fields can have other values."""
+    """Returns the image of a device with one object. The arguments replace values of its fields."""
     public = hmac_key() if public is None else public
     given = dict(kind=public.kind, auth_value=b"", seed_value=b"", data=b"key")
     kept = Object(public, Sensitive(**(given | sensitive)), hierarchy, name)
@@ -96,7 +96,8 @@ def with_saved(value, banks=b""):
 
 
 def of_bytes(of, words, *rows):
-    """Yields images with wrong values of a field and with right ones, each described by its length.
+    """Yields images with wrong values of a field, each with an image with a right value. The
+    descriptions state the lengths of the values.
     """
     for bad, good in rows:
         ends = ", the last a zero" if bad.endswith(b"\0") else ""
@@ -136,7 +137,9 @@ def flag_cases():
 
 
 def changed_lists():
-    """Yields altered lists of objects or indices in a full device, each with the good image."""
+    """Yields images of a full device with an altered list of objects or indices, each with the good
+    image.
+    """
     for words, find in (("objects", objects_of), ("indices", indices_of)):
         for at in (0, 7, len(find(image_fields.body_of(FULL)).groups) - 2):
             fields = image_fields.body_of(FULL)

@@ -30,8 +30,8 @@ def pair(bad, bad_text, good, good_text):
 
 
 def pairs(of, bad, good):
-    """Returns the images that `of` makes from a bad and from a good value. Each value comes after
-    its description.
+    """Returns the images that `of` makes from a bad and from a good value. In `bad` and `good`, a
+    description precedes the value.
     """
     return pair(bad[0], of(*bad[1:]), good[0], of(*good[1:]))
 

@@ -70,8 +70,8 @@ def pieces(text, size):
 
 
 def body_of(device):
-    """Returns the fields of a device's body. `objects_of` and `indices_of` return its last two
-    fields, the lists.
+    """Returns the fields of the body of a device's image. The last two fields are the lists of
+    objects and indices, which `objects_of` and `indices_of` return.
     """
     fields = []
     for hierarchy in image.HIERARCHIES:

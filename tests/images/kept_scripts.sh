@@ -68,7 +68,7 @@ look 'it is kept'
 rm image
 
 # Faults of the image, of the random bytes, and of the script. If there are several, the first one in this order
-# is reported. If no device was made, none is saved.
+# is reported. If no device was made, no image is saved.
 echo none >none
 head -c 255 entropy >short
 mkdir folder

@@ -4,9 +4,9 @@
 
 PROGRAM is a program that writes this version. It serves the device of each script NAME.tpm in
 tests/images/version_1. The commands up to each `power` line are one run. The test passes the
-script's random bytes to it, and sets its clock with tests/common/clock.c, which `cc` compiles. The
-image at the end must be that of the Python device after the same commands. If NAME.hex exists, the
-image in it must be equal. Otherwise the test writes the image there.
+script's random bytes to PROGRAM, and sets its clock with tests/common/clock.c, which `cc` compiles.
+The image at the end must be that of the Python device after the same commands. If NAME.hex exists,
+the image in it must be equal. Otherwise the test writes the image there.
 """
 
 import os
@@ -51,8 +51,8 @@ def played(runs):
 
 
 class Served:
-    """A device that a program serves in a folder. The file `clock` there contains the time of the
-    host for the program.
+    """A device that a program serves in a folder. The file `clock` in this folder contains the time
+    that the program reads as the host's time.
     """
 
     def __init__(self, program, path):

@@ -40,7 +40,8 @@ script_ends() {
     ends 'that script'
 }
 
-# serve LABEL IMAGE: runs `serve` on this image for no connections, with a separate socket.
+# serve LABEL IMAGE: runs `serve` on this image with a socket of its own. It exits without accepting a
+# connection.
 serve() {
     run "$1" serve --socket own --image "$2" --entropy entropy --locality 0 --connections 0
     [ ! -e own ] || echo '    its socket is there'

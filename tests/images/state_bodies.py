@@ -95,8 +95,8 @@ def of_object(kind=None, **fields):
 
 
 def spelled(bad, good):
-    """Returns the body of worked_state.py's device with `bad` instead of `good`, which occurs once
-    in it, and the unchanged body.
+    """Returns two bodies of worked_state.py's device: the one in which `bad` replaces `good`, and
+    the unchanged one, which contains `good` exactly once.
     """
     body = body_of(worked_state.device())
     assert body.count(good) == 1

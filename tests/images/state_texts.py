@@ -61,7 +61,7 @@ def worked():
     it is the next field of that page, with the right size. Other numbers were also compared: the
     sizes before sized fields; the numbers of types, algorithms, protection, demand and localities;
     and the byte of each slot that says whether it is in use. The values that the script sets
-    (values, nonces, command, times, counts, the layer's numbers) are in their fields.
+    (values, nonces, command, times, counts, the layer's numbers) are in the right fields.
     """
     text = worked_state.text()
     print("the worked text is as it is written:", text == worked_state.written())
@@ -72,8 +72,8 @@ def worked():
 
 def worked_sequences(text):
     """Checks the state text of the same device with three sequence objects. Their fields are in a
-    file of their own; the byte that says that there is a layer is 2. The words of the HMAC's outer
-    hash are in no standard, so the HMAC is compared with that of another implementation.
+    separate file; the byte that says that there is a layer is 2. No standard lists the state of the
+    HMAC's outer hash, so the HMAC is compared with that of another implementation.
     """
     layer = worked_state.layer_with_sequences()
     slots, kind = worked_state.written(worked_state.SEQUENCES), -DIGEST_AT_END - LAYER_BYTES - 1
@@ -88,8 +88,8 @@ def worked_sequences(text):
 
 
 def version_1():
-    """A text of version 1 is opened without the objects that were flushed, and written as version
-    2.
+    """Checks that a text of version 1 is opened without the objects that were flushed, and written
+    as version 2.
     """
     text = worked_state.written(worked_state.FIELDS_1)
     wanted = state_text.state_text(worked_state.device_1(), worked_state.layer())
@@ -106,7 +106,7 @@ def sizes():
 
 
 def faults_of(texts):
-    """Counts the texts by fault. None counts the texts without a fault."""
+    """Counts the texts by fault. The key `None` is for texts without a fault."""
     return collections.Counter(map(state_text.fault_of, texts))
 
 

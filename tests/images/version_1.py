@@ -37,5 +37,5 @@ def device_of(name):
 
 
 def image_of(device):
-    """Returns the image of a device in version 1."""
+    """Returns a device's image in format version 1."""
     return image.image(device, image.VERSION_1)

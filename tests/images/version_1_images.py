@@ -95,8 +95,8 @@ def looks(tpm):
 
 def changes(tpm):
     """Yields commands that depend on the largest value of counters or on authorization values, and
-    commands with wrong passwords. They define one more index, even if the image has the maximum of
-    its version.
+    commands with wrong passwords. One command defines another index, even if the image has the
+    maximum number of indices of its version.
     """
     for index, held in sorted(tpm.device.indices.items()):
         if held.public.kind == nv.Type.COUNTER:
@@ -138,8 +138,8 @@ def restarted(tpm):
 
 
 def taken(text, commands):
-    """Yields the buffers of commands. Each is made for the state of the device after the previous
-    ones.
+    """Yields the buffers of commands. Each command is made for the state of the device after the
+    previous commands.
     """
     device = image.open_image(text)
     for prepared in commands(Commands(device)):
@@ -149,8 +149,8 @@ def taken(text, commands):
 
 
 def executed(device, buffers, clock):
-    """Returns the outcomes of commands on the Python device, with the times that passed for the
-    program. The last command is TPM2_ReadClock, and `clock` is the program's response to it.
+    """Returns the outcomes of commands on the Python device. As much time passes as the program
+    measured: the last command is TPM2_ReadClock, and `clock` is the program's response to it.
     TPM2_Clear sets Clock to 0, so the time before TPM2_Clear is the difference of Time and Clock.
     The rest of the time passes before the last command.
     """

@@ -50,11 +50,11 @@ FOLDER = pathlib.Path(__file__).parent
 FIELDS, FIELDS_1 = FOLDER / "worked_state.txt", FOLDER / "worked_state_1.txt"
 SEQUENCES = FOLDER / "worked_sequences.txt"
 
-# The message "abc" with its padding, which is one block (FIPS 180-4). The words after this block
-# are the digest of "abc".
+# The message "abc" with its padding, which is one block (FIPS 180-4). The hash state after this
+# block is the digest of "abc".
 ABC = b"abc\x80" + bytes(52) + number(24, 8)
 
-# A key that has this block as the first block of an HMAC's inner hash.
+# A key for an HMAC. With this key, the first block of the HMAC's inner hash is ABC.
 KEY = bytes(it ^ 0x36 for it in ABC)
 
 
@@ -77,7 +77,7 @@ def layer():
 
 
 def sequences():
-    """Returns three sequence objects: of a hash, an event and an HMAC."""
+    """Returns three sequence objects: a hash sequence, an event sequence and an HMAC sequence."""
     return [
         SequenceObject.of(b"pin", HashSequence.of(SHA1).after(b"\xff\x54")),
         SequenceObject.of(b"", EventSequence().after(ABC + b"xy")),
@@ -103,8 +103,8 @@ def device_1():
 
 
 def written(fields=FIELDS):
-    """Returns the text in a file: the bytes before the first double space of each line, without
-    comments.
+    """Returns the text in a file. Each line contains some of its bytes in hex, up to the first
+    double space. Comment lines are skipped.
     """
     lines = fields.read_text("ascii").splitlines()
     return bytes.fromhex("".join(it.partition("  ")[0] for it in lines if it[:1] != "#"))

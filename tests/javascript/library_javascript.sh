@@ -1,4 +1,4 @@
-# Runs the tests of the JavaScript package in node's test runner, with the module in dist/.
+# Runs the tests of the JavaScript package with node's test runner and the module in dist/.
 tests=$(cd "$(dirname "$0")/.." && pwd -P)
 . "$tests/common/cases.sh"
 . "$tests/common/javascript.sh"

@@ -1,13 +1,14 @@
-"""Hosts of all kinds use one device that is kept in a folder, while some of them are killed at
-random moments:
+"""Hosts of all kinds (programs and modules that keep a device in a folder) use one device, while
+some of them are killed at random moments:
 
     python3 all_at_once.py PROGRAM HOSTS SHIM SECONDS PROCESSES SEED [fills]
 
-LD_PRELOAD has loaded failing.c into this process, for clocks that jump by up to a day. Each process
-increments one index of the device, power-cycles it, opens it again, and forks. Signals interrupt
-its calls all the time. Otherwise its system calls do not fail. With `fills` the disk of the working
-folder is sometimes full. At the end the index must contain each increment that was answered, and
-none that was not requested. A process must never read a number that is less than its own count.
+LD_PRELOAD has loaded the library of failing.c into this process, and the library makes clocks jump
+by up to a day. Each process increments one index of the device, power-cycles the device, opens it
+again, and forks. Signals interrupt its system calls all the time. Otherwise these calls do not
+fail. With `fills` the disk of the working folder is sometimes full. At the end the index must have
+counted all answered increments, and only requested ones. A process must never read a number that is
+less than its own count.
 """
 
 import contextlib
@@ -30,14 +31,15 @@ FOLDER, FULL, CLONE_NEWPID, SECONDS_TO_END = "state", "full", 0x20000000, 60
 INTERRUPT_EACH, KILL_EACH = 0.0007, 0.02
 ASKED, DONE, OTHER, WRONG = b"a", b"d", b"o", b"w"
 
-# The kinds of hosts, in the order in which processes begin, and the probabilities of a power cycle.
-# With an odd seed the power is cycled often; with an even seed the journals grow.
+# The kinds of hosts, in the order in which processes begin, and the probability of a power cycle:
+# first for even seeds, with which the journals grow, and then for odd seeds, with which the power
+# is cycled often.
 KINDS = ((Module, Python, Run, Module, Python), (Module, Python, Run, Module, Python, Simulator))
 CYCLES = 0.0005, 0.02
 
 
 class Worker:
-    """The work of a process with a host, until its time is up."""
+    """Uses the device with a host in one process, until the time is up."""
 
     def __init__(self, kind: type[Host], files: Files, tell: int, seed: int, until: float) -> None:
         self.kind, self.files, self.tell, self.until = kind, files, tell, until
@@ -159,7 +161,9 @@ class Counts:
 
 
 def begun(kind: type[Host], files: Files, seed: int, until: float) -> tuple[int, int]:
-    """Begins a process in its own process group. Returns its number and the pipe of its reports."""
+    """Begins a process in its own process group. Returns the process number, and the pipe of the
+    reports.
+    """
     reads, writes = os.pipe()
     child = os.fork()
     if child == 0:

@@ -58,7 +58,8 @@ def outcome(state: State, act: str) -> tuple[State, object]:
 
 
 def answer_of(act: str, response: bytes) -> object:
-    """Returns the answer in a response, in the same form as `outcome`."""
+    """Returns the answer that a response contains, in the form in which `outcome` returns answers.
+    """
     if act in (BEGIN, POWER):
         return None
     code = int.from_bytes(response[6:10], "big")

@@ -8,10 +8,10 @@ host does to its folder. A crash keeps all synced bytes, and any prefix of the o
 followed by zeros. A name that was not synced may be lost, or may refer to an earlier file again.
 
 After each line of the log the test makes some folders as a crash may leave them, and another host
-opens them. With force=always each folder must contain the device that executed the answered
-operations, and perhaps the unanswered one. Without force=always each folder must contain one of the
-devices since the last power cycle. Only one in SHARE crashes is tested; with WORD, only crashes of
-hosts whose name contains it.
+opens them. With force=always each folder must contain the device after all answered operations; the
+device may also have executed an operation that was not answered. Without force=always the device
+may be in any state that it had since the last power cycle. Only one in SHARE crashes is tested;
+with WORD, only crashes of hosts whose names contain WORD.
 """
 
 import ctypes
@@ -33,8 +33,8 @@ MOST_ZEROS, CHOICES = 5000, 3
 
 @dataclass
 class File:
-    """The content of a file, its earlier contents since it was synced, and the size of its prefix
-    on the disk.
+    """The content of a file, the earlier contents that it had since its last sync, and the size of
+    the prefix that is on the disk.
     """
 
     now: bytes = b""
@@ -115,8 +115,8 @@ class Disk:
             file.forces()
 
     def leaves(self, folder: pathlib.Path, choices: random.Random, how: int) -> None:
-        """Makes a folder as a crash may leave it, with the least content, all of it, or a random
-        part.
+        """Makes a folder as a crash may leave it. The folder contains only what must be on the disk
+        (`how` is 0), everything (1), or a random part.
         """
         shutil.rmtree(folder, ignore_errors=True)
         if not self.is_there or (not self.is_named and (how == 0 or choices.random() < 0.5)):
@@ -139,8 +139,8 @@ class Disk:
 
 
 class Allowed:
-    """The devices that the folder may contain: the one after the answered operations, or any device
-    since the last power cycle.
+    """The states of the device that the folder may contain after a crash: the state after the
+    answered operations or, without force=always, any state since the last power cycle.
     """
 
     def __init__(self, state: State, is_always: bool) -> None:
@@ -221,7 +221,9 @@ class Case:
         self.plays(self.host(self.files, {"DISK_LOG": str(log)}), folder, mark)
 
     def lines(self, folder: pathlib.Path) -> list[list[str]]:
-        """Returns the log of the changes that the host makes to the folder, and of its answers."""
+        """Returns the log of the changes that the host makes to the folder, and of the host's
+        answers.
+        """
         log = self.room / "log"
         log.unlink(missing_ok=True)
         runs = self.in_a_fork if self.host in (Module, Python) else self.as_a_program
@@ -229,8 +231,8 @@ class Case:
         return [line.split() for line in log.read_text("ascii").splitlines()]
 
     def check(self, share: int) -> tuple[int, int]:
-        """Tests one in every `share` crashes. Returns the number of tested crashes, and of wrong
-        ones.
+        """Tests one in every `share` crashes. Returns the number of tested crashes, and the number
+        of crashes after which the folder is wrong.
         """
         folder, left = self.room / "state", self.room / "left"
         self.start.put(folder)

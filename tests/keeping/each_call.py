@@ -5,10 +5,10 @@ time:
 
 HOSTS is the folder with the module and the programs. SHIM is the library of failing.c, which
 LD_PRELOAD has loaded into this process too. Only one in SHARE runs is made; with WORD, only runs of
-hosts whose name contains it. In each run a host has to do some operations, and one system call has
-a fault of VARIANTS. Then another host opens the folder. The device must have executed the answered
-operations, and perhaps the unanswered one. Standard error describes what is wrong, and reports the
-number of runs.
+hosts whose names contain WORD. In each run a host has to do some operations, and one of its system
+calls has a fault from VARIANTS. Then another host opens the folder. The device must have executed
+the answered operations, and may have executed the one that was not answered. Standard error
+describes what is wrong, and reports the number of runs.
 """
 
 import collections

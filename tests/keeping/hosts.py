@@ -52,7 +52,7 @@ class Refused(Exception):
 class Host:
     """A host and its operations. `part` is a part of the name of its library. If `answers_all` is
     false, only the next response shows that the host has begun, or has cycled the power. If
-    `comes_on` is true, beginning the host powers the device on.
+    `comes_on` is true, starting the host powers the device on.
     """
 
     name, part, answers_all, comes_on = "", "", True, False
@@ -159,8 +159,8 @@ class Module(Host):
 
 
 class OnDevice(Host):
-    """A host that a class of tpmsim.device uses. An exception of the types `ends` shows that the
-    host did not perform an operation.
+    """A host that is used through a class of tpmsim.device. If the class raises an exception of one
+    of the types in `ends`, the host did not perform the operation.
     """
 
     ends: tuple[type[Exception], ...] = (DeviceEnded, OSError)
@@ -172,7 +172,7 @@ class OnDevice(Host):
 
     @contextlib.contextmanager
     def refusing(self) -> Iterator[None]:
-        """Converts exceptions of the types `ends` into Refused, with the reason."""
+        """Converts exceptions of the types in `ends` into Refused, with the reason."""
         try:
             yield
         except self.ends as fault:
@@ -286,7 +286,8 @@ class ProgramPower(Power):
 
 
 class Simulator(OnDevice, Run):
-    """tpmsim-simulator, with a client of its protocol. Beginning it powers the device on."""
+    """tpmsim-simulator, with a client of its protocol. Starting the simulator powers the device on.
+    """
 
     name, answers_all, comes_on = "the simulator", True, True
 

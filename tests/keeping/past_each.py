@@ -65,7 +65,7 @@ def wrong(host: Host, folder: pathlib.Path, journal: bytes) -> str:
 
 
 def faults(files: Files, room: pathlib.Path, shim: Shim) -> Iterator[str]:
-    """Yields a description of what is wrong after each run; empty if nothing is."""
+    """Yields, for each run, a description of what is wrong afterwards, or an empty string."""
     make, state, kept = functools.partial(KeepingPast, files), room / "state", room / "kept"
     made(make(), kept)
     start, journal = Start("", NOTHING, kept), (kept / "journal").read_bytes()

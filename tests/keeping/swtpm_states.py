@@ -1,14 +1,14 @@
-"""Runs swtpm many times, and makes a different call on the files of its states fail each time.
-swtpm uses this repository's libtpms.so.0:
+"""Runs swtpm many times, and makes a different call on its state files fail each time. swtpm uses
+this repository's libtpms.so.0:
 
     python3 swtpm_states.py FOLDER SHIM SHARE [WORD]
 
 FOLDER is made by `hosts/build.sh libtpms`, and SHIM is the library of failing.c. Only one in SHARE
-runs is made; with WORD, only runs whose label contains it. In each run swtpm has to do some
-operations, and one call on a file in its folder has a fault of VARIANTS. Then swtpm is started
-again without a fault. Its device must have executed the answered operations, and perhaps the
-unanswered ones; or swtpm or the library must report why there is no device. Standard error
-describes what is wrong, and reports the number of runs, and of runs without a device.
+runs is made; with WORD, only runs whose labels contain WORD. In each run swtpm has to do some
+operations, and one call on a file in its folder has a fault from VARIANTS. Then swtpm is started
+again without a fault. Its device must have executed the answered operations, and may have executed
+the others. If there is no device, swtpm or the library must report why. Standard error describes
+what is wrong, and reports the number of runs, and of runs without a device.
 """
 
 import contextlib
@@ -203,7 +203,7 @@ class Case(Sweep):
 
     def tries(self, meeting: Meeting) -> tuple[str, str]:
         """Returns the call that failed, and a description of what is wrong. If there is no device,
-        it says why.
+        logs the reason to standard error.
         """
         folder = self.room / "state"
         self.start.put(folder)

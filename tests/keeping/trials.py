@@ -1,6 +1,6 @@
 """Runs a host of a kept device many times, and makes a different system call fail each time. The
 programs each_call.py, damage_each.py, past_each.py and swtpm_states.py do this with the shim
-failing.c; crash_each.py shares the starting points and the counts.
+failing.c; crash_each.py uses only the starting points and the counts.
 """
 
 import ctypes
@@ -52,7 +52,9 @@ class Meeting:
 
 
 class Shim:
-    """Controls failing.c, in this process and in programs. It reports to a file in a folder."""
+    """Controls the library of failing.c, in this process and in programs. The library reports to a
+    file in the folder `room`.
+    """
 
     def __init__(self, path: str, room: pathlib.Path) -> None:
         self.path, self.report = pathlib.Path(path).resolve(), room / "report"
@@ -175,8 +177,9 @@ def sweep(
     share: int = 1,
     variants: Iterable[tuple[Act, int]] = VARIANTS,
 ) -> Iterator[str]:
-    """Makes each call fail in turn, with each fault, but only one in `share` of these runs. Yields
-    for each run a description of what is wrong, with the fault; empty if nothing is.
+    """Makes each call fail in turn, with each fault, but makes only one in `share` of these runs.
+    Yields, for each run, the fault and a description of what is wrong, or an empty string if
+    nothing is wrong.
     """
     for turn, variant in enumerate(variants):
         for number in range(1 + turn % share, MOST_CALLS, share):
@@ -188,8 +191,7 @@ def sweep(
 
 
 class Sweep:
-    """Runs of a host in which a call fails. `right` are the words for runs of which none is wrong.
-    """
+    """Runs of a host in which a call fails. If no run is wrong, `check` prints the text `right`."""
 
     label, right = "", "as it was answered"
 
@@ -212,8 +214,8 @@ class Sweep:
 def check_all(
     cases: Callable[[pathlib.Path], Iterable[Any]], share: str, *words: str, noun: str = "runs"
 ) -> NoReturn:
-    """Checks the cases that `cases` makes in a temporary folder; if there is a word, only those whose
-    label contains it. Ends this program, with status 1 if something is wrong.
+    """Checks the cases that `cases` makes in a temporary folder; if `words` is not empty, only
+    those whose label contains the word. Ends this program, with status 1 if something is wrong.
     """
     runs = wrongs = 0
     with tempfile.TemporaryDirectory() as name:

@@ -106,7 +106,7 @@ static void save(const char *name, const uint8_t *buffer, size_t size) {
     putchar('\n');
 }
 
-/* Writes TPM2_ContextLoad of the context, and returns its size. */
+/* Writes a TPM2_ContextLoad command for the context, and returns the size of the command. */
 static size_t load_command(uint8_t command[10 + MOST_CONTEXT]) {
     static const uint8_t head[] = {0x80, 1, 0, 0, 0, 0, 0, 0, 1, 0x61};
     size_t size = sizeof head + context_size;

@@ -135,8 +135,8 @@ class Client:
 
 
 def children(client):
-    """Keys under one parent. Each is loaded, saved and flushed, and later loaded again for each
-    use, as a resource manager does.
+    """Tests keys under one parent. Each key is loaded, saved and flushed, and later loaded again
+    for each use, as a resource manager does.
     """
     parent, kept = client.tpm.create_primary(storage_key()), []
     for at in range(CHILDREN):
@@ -208,7 +208,7 @@ def bent(client):
     for hierarchy in (*PRIMARY_HIERARCHIES, RH_LOCKOUT):
         other = with_field(context, HIERARCHY_AT, hierarchy)
         print(f"of hierarchy {hierarchy:08x}: {client.load_code(other)}")
-    for saved in (0x80000000, 0x80000001, 0x80000002, 0x81000000, 0x02000000, 0x03000000):
+    for saved in (*range(0x80000000, 0x80000004), 0x81000000, 0x02000000, 0x03000000):
         other = with_field(context, SAVED_HANDLE_AT, saved)
         print(f"with savedHandle {saved:08x}: {client.load_code(other)}")
 

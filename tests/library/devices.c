@@ -32,7 +32,7 @@ static void read_pcr(struct tpmsim *device, uint8_t value[DIGEST_BYTES]) {
     memcpy(value, response + VALUE_AT, DIGEST_BYTES);
 }
 
-/* Computes the expected value of PCR 10, with the only device at that time. */
+/* Computes the expected value of PCR 10, with a new device that is freed afterwards. */
 static void value_alone(unsigned number, uint8_t value[DIGEST_BYTES]) {
     struct tpmsim alone = {0};
     start_new(&alone, 1);

@@ -26,7 +26,7 @@ static void *begin(void *unused) {
     return unused;
 }
 
-/* Writes a checkpoint at a host's time that differs greatly from the journal's time. */
+/* Writes a checkpoint when the host's time differs greatly from the journal's time. */
 static void *checkpoint(void *unused) {
     text_size = tpmsim_journal_checkpoint(&device, now + 1000 * WAITED, text, sizeof text);
     told = TPMSIM_DONE;

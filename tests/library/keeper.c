@@ -47,8 +47,8 @@ static void kill_at_each(uint8_t force, extent how_much, int has_litter) {
     tpmsim_keeper_free(&alive.keeper);
 }
 
-/* Kills a host at each task of making a device. Afterwards there is either a complete device or
- * none, and the next host can make one. */
+/* Kills a host at each task of making a device. Afterwards there is either a complete device, or no
+ * device, and then the next host can make one. */
 static void kill_beginnings(void) {
     uint8_t fault = KILLED;
     for (int task = 0; fault == KILLED; task++) {
@@ -206,8 +206,8 @@ static void check_none(void) {
     tpmsim_keeper_free(&none);
 }
 
-/* Cycles the power, and restores a state. Each of them restarts the journal instead of adding an
- * entry. */
+/* Cycles the power, and restores a state. Each of these two calls restarts the journal instead of
+ * adding an entry. */
 static void check_leaps(void) {
     static uint8_t state[TPMSIM_STATE_SIZE];
     tpmsim device = {0};
@@ -274,7 +274,7 @@ static seen files_fork(host *it, const tpmsim_ask *ask, const uint8_t *text) {
         child = fork();
         must(child >= 0, "no process");
         if (child == 0) child_goes_on(it);
-        poll(NULL, 0, 50); /* without its own lock, the child would be first */
+        poll(NULL, 0, 50); /* if the child did not wait for a lock of its own, it would be first */
     }
     return files_do(it, ask, text);
 }

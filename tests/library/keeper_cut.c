@@ -6,7 +6,7 @@
 #include "keeper_memory.h"
 #include "keeper_stack.h"
 
-/* A journal with a head and the records of STARTUP, GET_RANDOM, and some EXTENDs. */
+/* The journal has a head and RECORDS records: STARTUP, GET_RANDOM, and then only EXTENDs. */
 enum { RECORDS = 5, EXTEND_FROM = 2 };
 
 static memory folder, before;

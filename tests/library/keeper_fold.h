@@ -21,8 +21,8 @@ typedef struct mark {
     uint8_t *head;
 } mark;
 
-/* The device after a number of commands of the world's history, with the number of its seed, and
- * its time. */
+/* The device after the first `commands` commands of the world's history, with its time. `origin` is
+ * the number of its seed, and `marks` the number of stored states. */
 static struct fold {
     tpmsim device;
     int commands, origin, marks;
@@ -100,8 +100,8 @@ static inline void fold_goes_back(int commands) {
     fold.time = it->time;
 }
 
-/* Returns the clock at the time of a command. The journal's time advances to it by 0 to 2^32 - 1
- * milliseconds. */
+/* Returns the clock at the time of a command. The journal's time advances towards this clock, by 0
+ * to 2^32 - 1 milliseconds. */
 static inline uint64_t fold_clock(const uint8_t *text) {
     int is_by_clock = text[0] == BY_CLOCK;
     uint64_t told = number_at(text + MOMENT_AT, is_by_clock ? 8 : 4);
@@ -131,7 +131,7 @@ static inline size_t fold_executes(const uint8_t *text, size_t size, uint8_t *re
 }
 
 /* Executes an empty command, after which the completing layer forgets the contexts of sessions that
- * have ended. It changes nothing else. */
+ * have ended. The command changes nothing else. */
 static inline void fold_forgets_sessions(void) {
     static const uint8_t random[RANDOM_BYTES];
     uint8_t response[RESPONSE_BYTES];

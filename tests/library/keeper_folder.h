@@ -6,8 +6,8 @@
 #include <sys/mman.h>
 
 /* The definition allows any number of earlier contents and files. Here at most PAST contents and
- * OLDER files are stored; a new one then replaces a random one. COMMANDS is the maximum length of
- * the history. */
+ * OLDER files are stored; after that, each new one replaces a random one. COMMANDS is the maximum
+ * length of the history. */
 enum { PAST = 4, OLDER = 4, CONTENT_BYTES = 192 * 1024, COMMANDS = 2000, ARENA_BYTES = 4 << 20 };
 
 /* `commands` counts the commands of the history up to the last one whose entry is complete in this
@@ -35,8 +35,8 @@ typedef struct executed {
     size_t size, response_size;
 } executed;
 
-/* files[names[0]] is the journal. The other `names` are of files that had the journal's name since
- * the last sync of the folder. */
+/* files[names[0]] is the journal. The other elements of `names` refer to files that had the
+ * journal's name since the last sync of the folder. */
 typedef struct world {
     file files[1 + OLDER];
     int names[1 + OLDER], olders;
@@ -118,8 +118,8 @@ static inline void history_adds(const uint8_t *command, size_t size) {
 }
 
 /* Cuts the file to `cut` bytes, then writes the first `count` bytes of a text of `size` bytes at
- * the offset `at`. If a whole text was written, and it begins at or before the end of the synced
- * bytes, then no dropped bytes are missing any more. `adds` says whether the text ends with a
+ * the offset `at`. If the whole text was written, and it begins at or before the end of the synced
+ * bytes, then it replaces any bytes that were dropped. `adds` says whether the text ends with a
  * command's entry. */
 static inline void file_puts(file *it, size_t cut, size_t at, const uint8_t *text, size_t count,
                              size_t size, int adds) {

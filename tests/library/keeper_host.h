@@ -1,5 +1,5 @@
-/* A host of a keeper: a loop that calls a function for each task, the texts of commands and seeds,
- * and kills in the middle of a call. */
+/* A host of a keeper, as a loop that calls a function for each task. Also writes the texts of
+ * commands and seeds, and kills a host in the middle of a call. */
 #ifndef KEEPER_HOST_H
 #define KEEPER_HOST_H
 #include "common.h"
@@ -19,9 +19,9 @@ typedef struct seen {
 /* How much of a task a host does before it is killed: nothing, a part, or all. */
 typedef enum extent { NOTHING, A_PART, ALL } extent;
 
-/* A host: its function that does a task in its folder, and the function that releases its files
- * when it is killed. A test can kill the host at one task of a call, or have it report one task as
- * failed. */
+/* A host: the function that performs a task in the host's folder, and the function that releases
+ * the files when the host is killed. A test can kill the host at one task of a call, or have it
+ * report one task as failed. */
 typedef struct host host;
 struct host {
     tpmsim_keeper keeper;
@@ -74,7 +74,7 @@ static inline uint8_t host_finishes(host *it) {
     return ask.fault;
 }
 
-/* Runs a job with its text. Returns like host_finishes. */
+/* Runs a job with its text. Returns the same as host_finishes. */
 static inline uint8_t host_run(host *it, uint8_t job, const uint8_t *text, size_t size) {
     if (tpmsim_keeper_begin(&it->keeper, job, text, size) != TPMSIM_DONE)
         return TPMSIM_FAULT_MEMORY;

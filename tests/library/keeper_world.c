@@ -255,7 +255,8 @@ static void is_answered(process *it) {
     counts.answers++;
 }
 
-/* Returns the fault, or none, with which a call must end if no task and no allocation failed. */
+/* Returns the fault with which a call must end if all its tasks and allocations succeeded. The
+ * fault may be TPMSIM_FAULT_NONE. */
 static uint8_t end_of(const process *it) {
     if (journal()->number == 0)
         return it->job == TPMSIM_JOB_BEGIN ? TPMSIM_FAULT_UNREADABLE : TPMSIM_FAULT_ABSENT;

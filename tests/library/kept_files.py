@@ -44,8 +44,8 @@ def asks():
 
 
 def with_file(path, make):
-    """Returns the fault that is reported while `make` replaces the file or folder at a path. Then
-    restores the path.
+    """Moves the file or folder at a path away, and calls `make` to create another one there.
+    Returns the fault that is then reported. At the end the path is restored.
     """
     aside = pathlib.Path("aside")
     if path.exists():

@@ -92,8 +92,8 @@ def files_open():
 
 
 def in_thread(act):
-    """Returns the result of `act` in another thread. That thread waits forever if this one still
-    has the lock.
+    """Returns the result of `act` in another thread. That thread waits forever if the calling
+    thread still has the lock.
     """
     done = []
     thread = threading.Thread(target=lambda: done.append(act()), daemon=True)
@@ -103,7 +103,9 @@ def in_thread(act):
 
 
 class Lines:
-    """A device, and another holder of its folder. Interrupts an operation at each of its lines."""
+    """A device, and another holder of its folder. Interrupts an operation at each line that it
+    executes.
+    """
 
     def __init__(self, folder):
         self.folder, self.faults = folder, []
@@ -132,7 +134,7 @@ class Lines:
         return f"{self.folder}/{self.begun}"
 
     def then(self):
-        """Checks the folder after an interrupt. First it uses the other holder, which would wait if
+        """Checks the folder after an interrupt. First uses the other holder, which would wait if
         the lock had not been released.
         """
         with contextlib.suppress(Exception):

@@ -1,4 +1,4 @@
-# Makes many devices in one process, and other devices in threads with small stacks, with and without
+# Makes many devices in one process, and other devices in threads with small stacks. Both programs also run with
 # sanitizers. See library/devices.c and library/threads.c.
 tests=$(cd "$(dirname "$0")/.." && pwd -P)
 . "$tests/common/cases.sh"

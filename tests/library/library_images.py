@@ -15,15 +15,15 @@ from tests.common.damaged_images import main, RANDOM
 
 
 class Library:
-    """The library opens images and saves devices, like a program that serves clients. All images
-    use the same holder.
+    """The library, which opens images and saves devices like a program that serves clients. All
+    images are opened in the same handle.
     """
 
     def __init__(self) -> None:
         self.device = LibraryDevice(manufactured=RANDOM)
 
     def fault_of(self, text: bytes) -> str | None:
-        """Returns the fault of an image. If there is none, the holder then contains the image's
+        """Returns the fault of an image. If there is none, the handle then contains the image's
         device.
         """
         try:

@@ -57,8 +57,8 @@ static const char *as_it_was(struct tpmsim *device) {
     return "the device is as it was";
 }
 
-/* Makes two calls to execute TPM2_GetRandom, one without and one with the completing layer, which
- * the library must refuse. They must write neither the response nor the answer. Returns the
+/* Calls the library twice to execute TPM2_GetRandom, without and with the completing layer. The
+ * library must refuse both calls, and must write neither the response nor the answer. Returns the
  * fault. */
 static unsigned refused_command(struct tpmsim *device, uint8_t locality) {
     struct tpmsim_answered answered;
@@ -150,7 +150,7 @@ static size_t others_than_in_image(const uint8_t *text, size_t size) {
 }
 
 /* Checks the result of tpmsim_kept: the image without its head and its digest, and with zeros for
-   Clock. Therefore it does not change with time. */
+   Clock. Therefore the result does not change with time. */
 static void of_what_is_kept(struct tpmsim *device) {
     size_t size = tpmsim_kept(device, before, ROOM);
     must(tpmsim_save(device, image, ROOM) == HEAD_BYTES + size + DIGEST_BYTES, "another size");

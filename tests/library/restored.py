@@ -1,4 +1,5 @@
-"""Interrupts calls of devices at lines of Python. The devices can be restored from their state:
+"""Interrupts calls of devices at the lines of Python that they execute. The devices can be restored
+from their state:
 
     tools/python.sh restored.py LIBRARY
 

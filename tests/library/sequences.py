@@ -83,7 +83,7 @@ class Client:
         return self.tpm.create_primary(template, data=data, user_auth=value)
 
     def handles(self, first=0x80000000, count=20):
-        """Returns the listed handles from this one on, as words."""
+        """Returns the handles that are listed, from the handle `first` on, in hex."""
         asked = {"capability": "handles", "property": first, "propertyCount": count}
         listed = self.tpm.call("GetCapability", **asked).capabilityData.handles
         return " ".join(f"{it:08x}" for it in listed)
@@ -142,7 +142,7 @@ def completed(client, buffer, parts, hierarchy=RH_NULL):
 
 
 def hashes(client):
-    """Hashes of data in several parts; a slot becomes free at the end of each sequence."""
+    """Hashes data in several parts. A slot becomes free at the end of each sequence."""
     for algorithm, name in HASHES.items():
         found = [completed(client, start(algorithm), it) for it in DATA]
         wanted = [hashlib.new(name, b"".join(it)).digest() for it in DATA]
@@ -153,13 +153,15 @@ def hashes(client):
 
 
 def restored_hashes(client):
-    """The same, and after each command the devices are restored from their state texts."""
+    """Runs `hashes` on devices that are restored from their state texts after each command."""
     client.device.reopens = True
     hashes(client)
 
 
 def tickets(client):
-    """The ticket is an HMAC of the digest with the hierarchy's proof, the same as TPM2_Hash's."""
+    """The ticket is an HMAC of the digest with the hierarchy's proof, the same that TPM2_Hash
+    returns.
+    """
     handle = client.started(start())
     for hierarchy in (*PRIMARY_HIERARCHIES, RH_LOCKOUT):
         if hierarchy == RH_LOCKOUT:
@@ -175,7 +177,7 @@ def tickets(client):
 
 
 def generated(client):
-    """Data that begin with TPM_GENERATED_VALUE get a NULL ticket, in whatever parts they come."""
+    """Data that begin with TPM_GENERATED_VALUE get a NULL ticket, however they are divided."""
     for data in (
         GENERATED,
         GENERATED + b"more",
@@ -192,7 +194,7 @@ def generated(client):
 
 
 def events(client):
-    """An event sequence hashes by both algorithms, and extends a PCR in both banks."""
+    """An event sequence hashes with both algorithms, and extends a PCR in both banks."""
     for pcr in (PCR, RH_NULL):
         before = {it: client.pcr(it, PCR) for it in HASHES.values()}
         parts = LONG, b"event"
@@ -220,7 +222,7 @@ def events(client):
 
 
 def hmacs(client):
-    """HMACs with a key whose scheme has a hash, and with one whose scheme is NULL."""
+    """Computes HMACs with a key whose scheme has a hash, and with one whose scheme is NULL."""
     fixed, free = client.key(b"k" * 70), client.key(template=hmac_key(scheme=ALG_NULL))
     client.tpm.call("EvictControl", RH_OWNER, free, uses=[b""], persistentHandle=0x81000001)
     for words, key, data, asked, name in (
@@ -309,7 +311,7 @@ def passwords(client):
 
 
 def slots(client):
-    """There are three sequences at most. Their handles follow those of the device's objects."""
+    """There are at most three sequences. Their handles follow those of the device's objects."""
     key = client.key()
     print(
         "handles:",

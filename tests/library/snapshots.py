@@ -2,11 +2,11 @@
 
     tools/python.sh snapshots.py LIBRARY [ONE_IN]
 
-LIBRARY is the shared library. Texts in which one byte is changed, with and without the right
-digest, are restored; with ONE_IN, only one in ONE_IN bytes is changed. A text that is refused must
-not change the device. The library must write an accepted text again unchanged, or in version 2 if
-the text has version 1. If a text has no completing layer, the library adds a new layer to the
-written text.
+LIBRARY is the shared library. The test restores texts in which one byte is changed, with the right
+digest and with a wrong one. With ONE_IN, only one in ONE_IN bytes is changed. A text that is
+refused must not change the device. The library must write an accepted text again unchanged, or in
+version 2 if the text has version 1. If a text has no completing layer, the library adds a new layer
+to the written text.
 """
 
 import collections
@@ -82,7 +82,7 @@ def judge(library: Library, words: str, text: bytes) -> str:
 
 
 def kind(library: Library, words: str, texts: Iterable[bytes]) -> None:
-    """Prints the number of texts of a kind with each fault."""
+    """Prints, for one kind of texts, how many texts have each fault."""
     counts = collections.Counter(judge(library, words, it) for it in texts)
     print(f"{words}: {', '.join(f'{count:,} {it}' for it, count in sorted(counts.items()))}")
 

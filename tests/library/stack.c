@@ -5,8 +5,8 @@
  *
  * The scripts have the same form as for play.c. Each call runs on a stack that is filled with a
  * pattern. The result is the number of bytes that the call overwrites, minus those that an empty
- * call overwrites. The stack is twice as large as a call's limit. An inaccessible page at its far
- * end ends the program. */
+ * call overwrites. The stack is twice as large as a call's limit. If a call uses more than that, it
+ * reaches an inaccessible page, and the program ends. */
 #define _DEFAULT_SOURCE
 #include "common.h"
 #include <sys/mman.h>

@@ -1,6 +1,6 @@
 /* Runs four devices in four threads. The first argument is the size of each thread's stack, in
- * bytes. Each device executes commands, and is saved and opened. A different thread frees it than
- * the one that made it. All four devices must have the same image at the end. */
+ * bytes. Each device executes commands, and is saved and opened. The thread that frees a device is
+ * not the thread that made it. All four devices must have the same image at the end. */
 #define _POSIX_C_SOURCE 200809L
 #include "common.h"
 #include <pthread.h>

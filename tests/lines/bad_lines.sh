@@ -127,7 +127,7 @@ run 'the first line' run script
 printf '%s\n\n\n\ncmd 8' "$startup" >script
 run 'the last line, the fifth' run script
 
-# If two lines are invalid, the first one is reported, also if the script is read from standard input.
+# If two lines are invalid, the first one is reported, even if the script is read from standard input.
 printf '%s\nbad\nworse\n' "$startup" >script
 run 'two of them' run script
 run 'two of them on standard input' run - <script

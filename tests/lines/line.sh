@@ -1,5 +1,5 @@
-# Checks the lines that `tpmsim line` finds for the commands of all `do` and `cmd` lines in scripts, which
-# common/line.py passes to it, and for some other commands.
+# Checks the lines that `tpmsim line` finds for commands. common/line.py passes it the commands of `do` and `cmd`
+# lines in scripts. This test also passes it some other commands.
 tests=$(cd "$(dirname "$0")/.." && pwd -P)
 . "$tests/common/cases.sh"
 needs cc python3

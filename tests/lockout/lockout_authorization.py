@@ -12,7 +12,7 @@ tpm = Teller(__name__, __doc__, tries=True)
 
 
 def change(handle, *means):
-    """Returns a command that replaces an authorization value by the same value."""
+    """Returns a command that replaces an authorization value with the same value."""
     return tpm.change_auth(handle, tpm.auth_value(handle), *means)
 
 

@@ -9,7 +9,7 @@ from tests.common.vocabulary import area, CC, command, DECRYPT, ENCRYPT, hmac_ke
 from tests.common.vocabulary import ObjectAttribute, RH_ENDORSEMENT, RH_LOCKOUT, RH_NULL, RH_OWNER
 from tests.common.vocabulary import RH_PLATFORM, sealed, SHA256, storage_key, wrong
 
-# Handles of persistent objects. The owner's are below 81800000, and the platform's are not.
+# Handles of persistent objects. The owner's are below 81800000, and the platform's begin there.
 FIRST, OWNERS_LAST, PLATFORMS_FIRST, LAST = 0x8100_0000, 0x817F_FFFF, 0x8180_0000, 0x81FF_FFFF
 OTHER, THIRD = 0x8100_0001, 0x8100_0002
 

@@ -64,8 +64,8 @@ class Forger:
         return tpm.script.device.objects[self.parent]
 
     def forge(self, text, iv=b"\x5a" * aes.BLOCK, name=None, algorithm=None):
-        """Returns a private area with this encrypted text. It is computed by the equations, without
-        object_rules.py.
+        """Returns a private area with this encrypted text. The area is computed from the equations,
+        without object_rules.py.
         """
         seed = self.known.sensitive.seed_value
         algorithm = algorithm or self.known.public.name_algorithm

@@ -34,7 +34,7 @@ class Target:
     handle: int
 
     def prepared(self, public, first=None):
-        """Returns the command with these parameters, whose sizes are already included."""
+        """Returns the command with these parameters, which already include their sizes."""
         if self.code == CC.Load:
             first, rest = first or sized(b""), b""
         else:

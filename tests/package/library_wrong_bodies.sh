@@ -1,5 +1,5 @@
-# Checks that tools/soak/wrong_bodies.py can apply each deliberately wrong function body: the sources must
-# contain the lines that it replaces exactly once.
+# Checks that tools/soak/wrong_bodies.py can apply each deliberately wrong function body: the lines that it replaces
+# must occur exactly once in the sources.
 tests=$(cd "$(dirname "$0")/.." && pwd -P)
 . "$tests/common/cases.sh"
 needs python3

@@ -20,7 +20,7 @@ def refused(words, prepared, *wrong):
 
 def up_to_hmacs(text):
     """Causes all refusals that precede those of the parameters, in a command with one handle.
-    `text` is its parameters.
+    `text` contains the command's parameters.
     """
 
     def using(*uses, handle=policy.handle):

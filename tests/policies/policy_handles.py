@@ -23,7 +23,7 @@ COMMANDS = (
 # Two more commands, which are tested last.
 LATER = ((CC.PolicyCpHash, frames.sized(bytes(32))), (CC.PolicyNvWritten, b"\1"))
 
-# PCR 0, an NV index, HMAC sessions, permanent entities, objects, and handles of no defined type.
+# PCR 0, an NV index, HMAC sessions, permanent entities, objects, and handles with undefined types.
 OTHERS = (
     *(0, 0x0100_0000, 0x0200_0000, 0x0200_0001, RH_OWNER, RH_NULL, RS_PW),
     *(0x8000_0000, 0x8100_0000, 0x0400_0000, 0xFF00_0000),

@@ -138,7 +138,7 @@ run 'a line without an end' check script
 printf 'do Unseal 80000000 pw:-\n' >script
 run 'a command that the device refuses' check script
 
-# The maximum number of lines of a script, and one more.
+# A script with the maximum number of lines, and one with one more line.
 yes '' 2>"$room/yes" | head -n 1048576 >script
 run '1,048,576 lines' check script
 echo >>script

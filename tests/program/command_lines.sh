@@ -34,7 +34,7 @@ words run a b
 words run - a
 words run a -
 
-# The only option, before the script or after it.
+# `--trace` before the script and after it.
 words run --trace a
 words run a --trace
 words run --trace ./-

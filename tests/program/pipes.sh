@@ -72,7 +72,7 @@ give 'cmd\nbad\ncmd\n'
 answered 'a line before a bad one'
 ended 'a bad line'
 
-# A named pipe as the script is treated like standard input.
+# If the script is a named pipe, it is treated like standard input.
 mkfifo script
 begin script
 exec 5>script

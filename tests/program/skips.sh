@@ -64,7 +64,7 @@ done
 rm -r "$copy/tests"
 ln -s "$tests" "$copy/tests"
 
-# on_this_path LABEL NAME..: prints the results of tests that find only the tools in that folder.
+# on_this_path LABEL NAME..: prints the results of tests that find only the tools in the folder `path`.
 on_this_path() {
     # shellcheck disable=SC2123 # the tools are searched for only there
     (PATH=$room/path && played "$@")

@@ -1,8 +1,7 @@
-# Tests tools/audit.py, which judges logs. It finds nothing wrong in the log of any script of tests/ and
-# examples/. For the log in which a disk is unlocked, the whole report is printed. Other cases are logs that are
-# altered, cut or too long, or that begin with another device; scripts with an invalid line; and wrong command
-# lines. The last cases are Python models with one deliberate mistake each, which only the comparison with the
-# history can detect.
+# Tests tools/audit.py, which judges logs. It finds nothing wrong in the log of any script of tests/ and examples/.
+# For the log of examples/disk_unlock.tpm, it prints the whole report. Other cases are logs that are altered, cut
+# or too long, or that begin with another device; scripts with an invalid line; and wrong command lines. The last
+# cases are Python models with one deliberate mistake each, which only the comparison with the history can detect.
 tests=$(cd "$(dirname "$0")/.." && pwd -P)
 . "$tests/common/cases.sh"
 needs python3
@@ -15,8 +14,7 @@ trace() {
     "$program" run --trace "$1" >"$2" 2>/dev/null
 }
 
-# judge LABEL WORDS..: adds a test case, or a heading if there are no arguments. One process runs all test cases
-# at the end.
+# judge LABEL WORDS..: adds a test case or, without WORDS, a heading. One process runs all test cases at the end.
 judge() {
     tab=
     for word do

@@ -30,7 +30,7 @@ def answered_since(printed):
 
 
 def wrong_lines(log, lines, responses):
-    """Returns the lines of commands whose explanation disagrees with the response or lacks it."""
+    """Returns the lines of commands whose explanation is missing or disagrees with the response."""
     play = Play(answers="".join(f"{it}\n" for it in lines).encode() if lines else None)
     events = list(play.events(log))
     wrong = [0] if len(events) != len(responses) or play.fault or play.damages or play.cuts else []

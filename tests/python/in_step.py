@@ -29,14 +29,14 @@ SECONDS, MOST_SECONDS, LEAST_LINES = 0.1, 60, 10
 # `is_over` is set.
 coming, is_over = [lambda: None], threading.Event()
 
-# The number of bytes after a request on swtpm's control channel, by the request's number. All other
-# requests have none.
+# The number of bytes that follow a request on swtpm's control channel. The keys are the numbers of
+# the requests. No bytes follow the other requests.
 ARGUMENTS = {2: 4, 5: 1}
 SESSION_END, INITIALIZE = 20, number(0x100, 4)
 
 
 def asking(count):
-    """Returns a TPM2_GetRandom of this many bytes."""
+    """Returns a TPM2_GetRandom command for `count` bytes."""
     return bytes.fromhex("80010000000c0000017b") + number(count, 2)
 
 

@@ -1,9 +1,9 @@
-# Tests tools/audit.py with policies as a reviewer writes them. Their digests are compared with published
-# digests, and with digests that Python's hashlib computes from the bytes below. Then the audit judges logs: the
-# log of tests/policies/written_policies.tpm, with its whole report, the log of tests/sessions/lost_grounds.tpm,
-# and the log of a device that is not new. Other cases are Python models with one deliberate mistake each, and
-# broken hash functions, with which a use does not satisfy its policy. The last cases are files that are not
-# valid policies.
+# Tests tools/audit.py with policies as a reviewer writes them. Their digests are compared with published digests,
+# and with digests that Python's hashlib computes from the bytes below. Then the audit judges logs: the log of
+# tests/policies/written_policies.tpm, with its whole report, the log of tests/sessions/lost_grounds.tpm, and the
+# log of a device that is not new. In other cases a Python model has one deliberate mistake, or a hash function is
+# broken, so that a use is accepted without satisfying its policy. The last cases are files that are not valid
+# policies.
 # shellcheck disable=SC2154 # `eval` sets the hashes
 tests=$(cd "$(dirname "$0")/.." && pwd -P)
 . "$tests/common/cases.sh"
@@ -19,8 +19,8 @@ endorsement=837197674484b3f81a90cc8d46a5d724fd52d76e06520b64f2a1da1b331469aa
 index=000b000102030405060708090a0b0c0d0e0f101112131415161718191a1b1c1d1e1f
 comparisons='eq neq sgt ugt slt ult sge uge sle ule bs bc'
 
-# Computes digests with Python's hashlib only. Each line contains a name, a hash algorithm, and parts that are
-# concatenated: hex, or the name of an earlier digest.
+# Computes digests with Python's hashlib only. Each input line contains a name, a hash algorithm, and the parts of
+# the text to hash: each is hex, or the name of an earlier digest.
 comparison_hashes() {
     number=0
     before=$zeros_1
@@ -290,8 +290,7 @@ echo 'WEAK HASHES: what is told of each.'
 mkdir weak
 python3 "$scripts/weak_hashes.py" weak
 
-# judge LABEL WORDS..: adds a test case, or a heading if there are no arguments. One process runs all test cases
-# at the end.
+# judge LABEL WORDS..: adds a test case or, without WORDS, a heading. One process runs all test cases at the end.
 judge() {
     tab=
     for word do

@@ -1,5 +1,5 @@
-# Runs the unit tests of the package in python/. Tests that need a program run the program under test. The
-# package's types are not checked here, but by tools/python_types.sh, because that needs mypy.
+# Runs the unit tests of the package in python/. Tests that need a program run the program under test.
+# tools/python_types.sh checks the package's types: that needs mypy, and is not part of this test.
 tests=$(cd "$(dirname "$0")/.." && pwd -P)
 . "$tests/common/cases.sh"
 needs python3

@@ -2,11 +2,11 @@
 
     sweep.py PROGRAM COUNT [SEED]
 
-The program audits each script of tests/ and examples/, and COUNT random scripts, of which the first
-one has the seed SEED. It also audits each random script from the image of its device at a power
-cycle, and with altered lines. If a script ends with a bad line, the audit must agree up to that
-line. The program names the logs whose audit is wrong, and saves their scripts. At the end it prints
-the counts. The status is 1 if an audit is wrong.
+The program audits each script of tests/ and examples/, and COUNT random scripts, with the seeds
+from SEED on. Each random script is audited twice more: starting from the device's image at a power
+cycle, and with some of its lines altered. If a script ends with a bad line, the audit must agree up
+to that line. The program names the logs whose audit is wrong, and saves their scripts. At the end
+it prints the counts. The status is 1 if an audit is wrong.
 """
 
 import pathlib
@@ -65,7 +65,9 @@ class Sweep:
         return f"{self.agree} agree, {self.differ} differ; {self.events} events"
 
     def judge(self, path, begin, script, output, wanted=None):
-        """Audits a log. Returns whether it agrees, or has the expected fault."""
+        """Audits a log. Returns whether the result is the expected fault, or no fault if none is
+        expected.
+        """
         auditor, fault = audited(script, output, begin=begin)
         list(report(auditor))
         self.events += auditor.counts.events

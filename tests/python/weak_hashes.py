@@ -5,8 +5,9 @@ session satisfies the policy anyway.
 
     weak_hashes.py FOLDER
 
-The program prints the result for each policy, and how tools/audit.py ends on the files in FOLDER.
-The status is 1 if the audit is wrong about whether a use satisfies its policy.
+For each case the program writes files to FOLDER, and prints the result for the policy and the end
+of what tools/audit.py reports about these files. The status is 1 if the audit is wrong about
+whether a use satisfies its policy.
 """
 
 import pathlib
@@ -37,14 +38,14 @@ PLATFORM = bytes(32) + bytes.fromhex("000001514000000c")
 BY_OWNER = digest(SHA256, digest(SHA256, OWNER))
 WRITE = policy.after_command_code(SHA256, bytes(32), CC.NV_Write)
 
-# A value of PCR 16 other than zeros, and a policy for zeros.
+# A nonzero value of PCR 16, and the digest of a policy that requires zeros.
 OTHER_VALUE = b"\x11" * 32
 BY_PCR = policy.after_pcr(SHA256, bytes(32), selection((SHA256, [16])), digest(SHA256, bytes(32)))
 
 
 def script(algorithm, auth_policy, *assertions):
-    """Returns a script that defines an index which only its policy authorizes, makes assertions,
-    and writes the index.
+    """Returns a script that defines an index, satisfies assertions in a policy session, and writes
+    the index. Only the policy of the index authorizes the write.
     """
     area = nv.Public(0x0100_0001, algorithm, ATTRIBUTES, auth_policy, 8).text.hex()
     name = "sha1" if algorithm == SHA1 else "sha256"
@@ -59,7 +60,7 @@ def script(algorithm, auth_policy, *assertions):
 
 def by_either(first, second, *branches):
     """Returns a script for a policy with two branches. The session's TPM2_PolicyOR lists the
-    digests `branches` instead of the policy's.
+    digests `branches` instead of those of the policy.
     """
     told = f"PolicyOR 03000000 {'+'.join(it.hex() for it in branches)}"
     return script(SHA1, policy.after_or(SHA1, [first, second]), "PolicyLocality 03000000 0x1", told)
@@ -107,7 +108,9 @@ WEAK = (
 
 
 def weakly(other):
-    """Replaces the hash of each text in `other`, in all code for policies."""
+    """In all code for policies, replaces the hash of each text in `other` with the hash given
+    there.
+    """
     stack = ExitStack()
     weak = lambda algorithm, text: other.get(text) or digest(algorithm, text)
     for module in (policy, pcr_values, policy_texts, broken, written):
@@ -116,7 +119,9 @@ def weakly(other):
 
 
 def judged(lines, text):
-    """Audits the device's output for a script with a policy. Returns the auditor and the output."""
+    """Audits the device's output for a script, together with a policy. Returns the auditor and the
+    output.
+    """
     played = "\n".join(lines).encode()
     output = cases.printed(played)
     auditor, fault = cases.audited(played, output, [PolicyFile("policy", text.encode())])

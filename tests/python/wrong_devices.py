@@ -1,6 +1,5 @@
-"""Wrong Python devices with one error each, and for each a script that shows the error. The audit
-compares the output of a wrong device with that same device, so that only the history can reveal the
-error.
+"""Wrong Python devices with one error each, and for each device a script that shows the error. The
+audit compares a wrong device with its own output, so that only the history can reveal the error.
 
     wrong_devices.py
 
@@ -148,8 +147,8 @@ def script_of(name):
 
 
 def fault_of(name):
-    """Returns the fault that the audit finds for the Python device with a script. If the device is
-    patched, the patches apply.
+    """Returns the fault that the audit finds in the Python device's output for a script. If the
+    device is patched, the patches apply.
     """
     script = script_of(name)
     return audited(script, printed(script))[1]

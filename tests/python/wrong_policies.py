@@ -1,5 +1,5 @@
-"""Wrong Python devices with one error each. Their logs are audited with the same wrong device, and
-with policies in words:
+"""Wrong Python devices with one error each. The audit compares the log of each device with the same
+wrong device, and also judges the log by policies in words:
 
     wrong_policies.py POLICIES
 
@@ -28,7 +28,9 @@ LOST, WRITTEN = "lost_grounds", "written_policies"
 
 
 def or_of_any_digest(self, request):
-    """Executes TPM2_PolicyOR, but ignores the session's digest before it."""
+    """Executes TPM2_PolicyOR, but does not check that the session's policy digest is one of the
+    branches.
+    """
     branches = request.parameters.next().sized_list(policy.LEAST_BRANCHES, policy.MOST_BRANCHES)
     session = self.sessions[request.handles[0]]
     session.policy.digest = policy.after_or(session.algorithm, branches)

@@ -1,5 +1,5 @@
-# Tests the crate file that tools/crate.sh makes, which contains the library for each machine. A program in
-# another folder uses the unpacked crate, to run README's example. The sources must stay unchanged.
+# Tests the crate file that tools/crate.sh makes, which contains the library for each machine. README's example, a
+# program in another folder, uses the unpacked crate. The sources must stay unchanged.
 tests=$(cd "$(dirname "$0")/.." && pwd -P)
 . "$tests/common/cases.sh"
 . "$tests/common/library.sh"

@@ -71,8 +71,8 @@ ended 'no connection'
 [ ! -e image ] || echo 'an image is there'
 
 # A socket file left by an earlier run is replaced. A socket on which a process still listens is not replaced,
-# and neither is any other file. To find out, the program connects to the socket, which counts as one of the
-# other process's connections.
+# and neither is any other file. To find out whether a process listens, the program connects to the socket. This
+# counts as one of that process's connections.
 begin 2
 until [ -S socket ]; do sleep 0.01; done
 run 'a socket that is answered' serve --socket socket --image other --entropy entropy \

@@ -1,6 +1,6 @@
-# Tests a served device that has no permission to read its files, or to write to its folder. If the present
-# user is root, who has all permissions, the program runs as the user nobody. It is copied to a folder that
-# everybody may write to, like /tmp.
+# Tests `serve` without permission to read the device's files, or to write to their folder. If the present user is
+# root, who has all permissions, the program runs as the user nobody. It is copied to a folder that everybody may
+# write to, like /tmp.
 tests=$(cd "$(dirname "$0")/.." && pwd -P)
 . "$tests/common/cases.sh"
 . "$tests/common/served.sh"
@@ -41,7 +41,7 @@ chmod 555 theirs/closed
 cd theirs || exit 1
 program=$room/somebody
 
-# tried LABEL IMAGE ENTROPY SOCKET: runs `serve` for no connections, with these files.
+# tried LABEL IMAGE ENTROPY SOCKET: runs `serve` with these files. It exits without accepting a connection.
 tried() {
     run "$1" serve --socket "$4" --image "$2" --entropy "$3" --locality 0 --connections 0
 }

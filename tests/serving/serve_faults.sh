@@ -12,8 +12,8 @@ small=
 head -c 768 /dev/zero >entropy
 mkdir a_folder
 
-# serve LABEL WORDS..: runs `serve` with these options and valid values for the other options. Unless
-# --connections is among them, it exits without accepting a connection.
+# serve LABEL WORDS..: runs `serve` with these options and valid values for the other options. Unless WORDS
+# contain --connections, `serve` exits without accepting a connection.
 serve() {
     label=$1
     shift

@@ -8,7 +8,7 @@ startup=$(words 'Startup 0')
 change=$(words 'HierarchyChangeAuth OWNER pw:- 6f776e')
 back=$(words 'HierarchyChangeAuth OWNER pw:6f776e -')
 
-# tried LABEL IMAGE: runs `serve` for no connections, with this image.
+# tried LABEL IMAGE: runs `serve` with this image. It exits without accepting a connection.
 tried() {
     run "$1" serve --socket socket --image "$2" --entropy entropy --locality 0 --connections 0
 }

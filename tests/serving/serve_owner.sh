@@ -46,7 +46,7 @@ done
 [ ! -e nowhere ] || echo 'nowhere is there'
 cat target
 
-# tried LABEL PATH: runs `serve` for no connections, with the socket at this path.
+# tried LABEL PATH: runs `serve` with the socket at this path. It exits without accepting a connection.
 tried() {
     run "$1" serve --socket "$2" --image image --entropy entropy --locality 0 --connections 0
 }
@@ -67,7 +67,7 @@ tried 'no path' ''
 ls -A "$folder_of_103" "$folder_of_103"0
 
 # A run first binds its socket in a temporary folder next to the socket's path, and then removes that folder.
-# Folders that killed runs left remain.
+# Folders that killed runs have left are not removed.
 mkdir .0 .1
 tried 'two folders that were left' socket
 ls -Ad .[0-9]

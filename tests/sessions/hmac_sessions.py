@@ -13,7 +13,9 @@ tpm = PolicyTeller(__name__, __doc__)
 
 
 def other_entry(words, name, *values):
-    """Sends the right command with other values in one part of its entry. It must be refused."""
+    """Sends copies of the right command, each with another value in one part of its entry. They
+    must be refused.
+    """
     tpm.refused(words, *(right.but_entry(1, **{name: it}) for it in values))
 
 

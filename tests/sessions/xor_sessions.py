@@ -77,7 +77,8 @@ def masked(what, prepared, plain, place=1, auth_value=b""):
 
 
 def drawn(count):
-    """Returns the random bytes that the next TPM2_GetRandom returns, from the next seed."""
+    """Returns the random bytes that the next TPM2_GetRandom returns, which depend on the next seed.
+    """
     seed = hashlib.sha256(b"entropy %d" % (tpm.script.seeds + 1)).digest()[:SEED_BYTES]
     return (seed * RANDOM_BYTES)[:count]
 

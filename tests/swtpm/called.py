@@ -1,5 +1,6 @@
-"""A device in the program of caller.c, which calls libtpms.so.0 instead of swtpm. The program reads
-commands as lines, and prints the responses. The device's states are files in its working folder.
+"""A device in the program of caller.c, which takes the role of swtpm and calls libtpms.so.0. The
+program reads commands as lines, and prints the responses. The device's states are files in the
+program's working folder.
 """
 
 import pathlib
@@ -15,8 +16,8 @@ class Answered(NamedTuple):
 
 
 class Called:
-    """A running caller with a library, in a folder. Its environment contains only the variables
-    that are passed.
+    """A running program of caller.c, with a library and a working folder. Its environment contains
+    only the variables that are passed.
     """
 
     def __init__(

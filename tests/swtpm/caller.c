@@ -91,15 +91,15 @@ static void get_state(const char *type, const char *path) {
     free(bytes);
 }
 
-/* Tries to set a state. The library must refuse the state, and log the refusal in one line. Adds to
- * `wrong` if it does not refuse the state, or does not log one line. */
+/* Tries to set a state. The library must refuse the state, and log the refusal in one line. Adds 1
+ * to `wrong` if the state is not refused, and 1 if the log does not have exactly one line. */
 static void must_be_refused(const char *type, const unsigned char *bytes, size_t size, size_t *wrong) {
     if (library.set_state(type_of(type), bytes, (uint32_t)size) != TPM_FAIL) ++*wrong;
     if (logged_lines() != 1) ++*wrong;
 }
 
-/* Tries to set a state in which one byte is changed, for each byte in turn: its lowest bit, its
- * highest bit, or all bits. */
+/* Tries to set a state in which one byte is changed, for each byte in turn. The lowest bit, the
+ * highest bit, or all bits of the byte are flipped. */
 static void turn(const char *type, const char *path) {
     static const uint8_t masks[] = {0x01, 0x80, 0xff};
     size_t size, wrong = 0;
@@ -116,8 +116,8 @@ static void turn(const char *type, const char *path) {
     free(bytes);
 }
 
-/* Tries to set each prefix of a state, in a block of exactly its size, and the state with an
-   additional byte. */
+/* Tries to set each prefix of a state, in a block of exactly the prefix's size, and the state with
+   an additional byte. */
 static void cut(const char *type, const char *path) {
     size_t size, wrong = 0;
     unsigned char *bytes = read_file(path, &size);

@@ -91,7 +91,7 @@ class BrowserPage {
     return this.browser.send(method, params, this.session);
   }
 
-  /** The value of an expression in the page. */
+  /** Returns the value of an expression in the page. */
   async value(expression) {
     const { result, exceptionDetails } = await this.send("Runtime.evaluate", { expression, awaitPromise: true, returnByValue: true });
     if (exceptionDetails) throw new Error(exceptionDetails.exception?.description ?? exceptionDetails.text);
@@ -129,7 +129,7 @@ class BrowserPage {
     await this.send("Input.dispatchKeyEvent", { type: "keyUp", ...it });
   }
 
-  /** Replaces the script in the page by another one, as if a user typed it. */
+  /** Replaces the script in the page with another one, as if a user typed it. */
   async write(text) {
     await this.front();
     await this.value("(document.getElementById('text').focus(), document.getElementById('text').select())");

@@ -26,7 +26,7 @@ function perform(player, lines) {
     return player.printed.slice(from).join('');
 }
 
-/** What a call writes to the buffer for texts. @param {string} call @param {bigint[]} before its arguments before that */
+/** Returns what a call writes to the buffer for texts. @param {string} call @param {bigint[]} before the call's arguments before the buffer */
 function text(call, ...before) {
     const size = Number(calls[call](module.to('holder'), ...before, module.to('text'), 65536n));
     return module.front('text', size);

@@ -1,8 +1,8 @@
-// What the module says of commands and codes in words, for module_words.sh.
+// Prints what the module returns for commands and codes in words, for module_words.sh.
 //
-//   node module_words.mjs MODULE bent FOLDER..   prints a script of bent lines, of the scripts in these folders
+//   node module_words.mjs MODULE bent FOLDER..   prints a script of altered lines from the scripts in these folders
 //   node module_words.mjs MODULE lines           prints what `tpmsim lines` prints
-//   node module_words.mjs MODULE codes CODE..    prints what `tpmsim code` prints of each code in hex
+//   node module_words.mjs MODULE codes CODE..    prints what `tpmsim code` prints for each code in hex
 //   `node module_words.mjs MODULE spelled FOLDER..`
 //       writes the commands of these scripts as lines, and assembles the lines again
 import { readFileSync } from 'node:fs';
@@ -10,7 +10,7 @@ import { Module, hex, linesOf, play, scriptsIn } from '../../web/play.mjs';
 
 const PLACES = ['', 'handle', 'parameter', 'session'];
 
-/** Each line with a byte or a word less or more, depending on its number. @param {string} line @param {number} number */
+/** Returns a line altered in one of six ways, or unchanged, depending on its number. @param {string} line @param {number} number */
 function bent(line, number) {
     const words = line.split(' ');
     const place = number % Math.max(words.length, 1);

@@ -1,4 +1,4 @@
-// Whether people who use only keys, or a screen reader, can use the page in Chromium:
+// Tests whether people who use only keys, or a screen reader, can use the page in Chromium:
 // page_access.mjs ADDRESS. It prints a line for each condition, and the status is 1 if one does not
 // hold.
 
@@ -158,7 +158,7 @@ async function tabTo(page, id, modifiers = 0) {
   }
 }
 
-/** The tutorial by keys alone: the first task is typed, with completions, and the solutions of the others are shown. */
+/** Does the tutorial with keys alone: types the first task, with completions, and shows the solutions of the others. */
 async function tutorial() {
   const page = await open();
   const wrong = [];

@@ -21,7 +21,7 @@ SECONDS = 120
 
 
 class Firefox:
-    """A browser that answers requests, which are JSON messages after their size."""
+    """A browser that answers requests. They are JSON messages, each preceded by its size."""
 
     def __init__(self, port: int) -> None:
         self.stream = connected(port)

@@ -1,8 +1,8 @@
-// What the page decrypts: page_plain.mjs PAGE FACTS MODULE CASES.
+// Tests what the page decrypts: page_plain.mjs PAGE FACTS MODULE CASES.
 //
-// It compares the page's digests, HMACs and AES with published examples and with node. It compares
-// the decrypted parameters of scripts whose sessions encrypt with those of the Python device, also
-// in a log of another device.
+// It compares the page's digests, HMACs and AES with published examples and with node. For scripts
+// whose sessions encrypt, it compares the decrypted parameters with those of the Python device, and
+// does the same for a log of another device.
 
 import crypto from "node:crypto";
 import fs from "node:fs";

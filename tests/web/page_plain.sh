@@ -1,4 +1,4 @@
-# Checks that the page decrypts the parameters that sessions encrypt in scripts, like the Python model.
+# Checks that the page decrypts the parameters that sessions encrypt in scripts, as the Python model does.
 tests=$(cd "$(dirname "$0")/.." && pwd -P)
 . "$tests/common/cases.sh"
 needs node python3

@@ -33,8 +33,8 @@ function played(text) {
   return { run, script };
 }
 
-/** Makes an edit in the middle, and then restores the old text. Returns whether the result equals
- * that of playing the script again. */
+/** Makes an edit in the middle of a script, and then restores the old text. Returns whether the
+ * result equals that of playing the script again. */
 function isSameAfterEdit(run, script) {
   const wanted = answersOf(run).join();
   const lines = [...script.lines];

@@ -1,15 +1,14 @@
 #!/bin/sh
-# Tests a device in a folder, with its completing layer, with other clients of libtss2, through the module that
-# hosts/build.sh builds: Debian's tpm2-pytss, clevis with an AES parent, and tpm2-abrmd with tpm2-tools on top
-# of it. The script reports for each client whether it succeeded. For FAPI, whose profiles all need RSA or ECC
-# keys, it reports at which call tss2_provision fails. Not part of the gate. It installs nothing, and leaves no
-# files.
+# Tests a device in a folder, with its completing layer, through the module that hosts/build.sh builds. The clients
+# of libtss2 are Debian's tpm2-pytss, clevis with an AES parent, and tpm2-abrmd with tpm2-tools on top of it. The
+# script reports for each client whether it succeeded. For FAPI, whose profiles all need RSA or ECC keys, it
+# reports at which call tss2_provision fails. Not part of the gate. It installs nothing, and leaves no files.
 #
 #   tools/interop/clients.sh
 #
 # Needs Debian's tpm2-tools with its tss2_provision, libtss2-fapi1, python3-tpm2-pytss, clevis-tpm2,
-# tpm2-abrmd, dbus and libtss2-dev. A missing client is reported as skipped. TPMSIM_ARCHIVE names another
-# archive of the library.
+# tpm2-abrmd with its libtss2-tcti-tabrmd0, dbus and libtss2-dev. A missing client is reported as skipped.
+# TPMSIM_ARCHIVE names another archive of the library.
 set -u
 
 top=$(CDPATH='' cd "$(dirname "$0")/../.." && pwd -P) || exit 1
@@ -43,6 +42,8 @@ has() {
 
 pytss() {
     cat >pytss.py <<'END'
+import hashlib
+import hmac
 import sys
 
 from tpm2_pytss import ESAPI, ESYS_TR, TPM2_ALG, TPM2_SE, TPM2_SU, TPMT_SYM_DEF
@@ -51,6 +52,7 @@ parts = {
     "random": lambda esapi: len(esapi.get_random(16)) == 16,
     "session": lambda esapi: policy(esapi),
     "object": lambda esapi: primary(esapi),
+    "sequences": lambda esapi: sequences(esapi),
 }
 
 
@@ -77,11 +79,41 @@ def primary(esapi):
     return True
 
 
+def sequences(esapi):
+    """Hashes, authenticates and measures 3,000 bytes with sequences that passwords authorize."""
+    from tpm2_pytss import TPM2B_PUBLIC, TPM2B_SENSITIVE_CREATE, TPMA_OBJECT, TPMS_SENSITIVE_CREATE
+
+    def fed(handle):
+        esapi.tr_set_auth(handle, word)
+        esapi.sequence_update(handle, data[:1024])
+        esapi.sequence_update(handle, data[1024:2048])
+        return handle
+
+    data, word = bytes(3000), b"word"
+    last, sha256 = data[2048:], TPM2_ALG.SHA256
+    hashing = fed(esapi.hash_sequence_start(word, sha256))
+    digest, ticket = esapi.sequence_complete(hashing, last, ESYS_TR.OWNER)
+    attributes = TPMA_OBJECT.SIGN_ENCRYPT | TPMA_OBJECT.USERWITHAUTH
+    template = TPM2B_PUBLIC.parse(alg="hmac:sha256", objectAttributes=attributes)
+    secret = TPM2B_SENSITIVE_CREATE(TPMS_SENSITIVE_CREATE(userAuth=word, data=b"key"))
+    key, *_ = esapi.create_primary(secret, template)
+    esapi.tr_set_auth(key, word)
+    mac, _ = esapi.sequence_complete(fed(esapi.hmac_start(key, word, sha256)), last, ESYS_TR.NULL)
+    event = fed(esapi.hash_sequence_start(word, TPM2_ALG.NULL))
+    banks = esapi.event_sequence_complete(ESYS_TR.PCR16, event, last)
+    return (
+        bytes(digest) == hashlib.sha256(data).digest()
+        and len(ticket.digest) == 32
+        and bytes(mac) == hmac.digest(b"key", data, "sha256")
+        and [bytes(it) for it in banks] == [hashlib.sha1(data).digest(), hashlib.sha256(data).digest()]
+    )
+
+
 with ESAPI(sys.argv[1]) as esapi:
     esapi.startup(TPM2_SU.CLEAR)
     sys.exit(not parts[sys.argv[2]](esapi))
 END
-    for part in random session object; do
+    for part in random session object sequences; do
         check "tpm2-pytss: $part" /usr/bin/python3 pytss.py "$TPM2TOOLS_TCTI" "$part"
     done
 }
@@ -115,12 +147,14 @@ tpm2 unseal -c object.context | cmp - secret
 tpm2 startauthsession -S session.context
 tpm2 policypcr -S session.context -l sha256:10
 tpm2 flushcontext session.context
+[ "$(tpm2 hash -g sha256 --hex large)" = "$(sha256sum <large | cut -d ' ' -f 1)" ]
 END
     echo 'a secret' >secret
-    check 'tpm2-abrmd: objects and sessions of six tools' dbus-run-session -- sh abrmd.sh
+    head -c 3000 /dev/zero >large
+    check 'tpm2-abrmd: objects, sessions and a hash sequence of seven tools' dbus-run-session -- sh abrmd.sh
 }
 
-# fapi: prints the last fault of tss2_provision and of tss2_getinfo, with a keystore in this folder.
+# fapi: runs tss2_provision and tss2_getinfo with a keystore in this folder, and prints the last fault of each.
 fapi() {
     mkdir -p fapi/user fapi/system fapi/log
     cat >fapi/config <<END

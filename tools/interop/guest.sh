@@ -1,9 +1,10 @@
 #!/bin/sh
 # Boots Linux guests in QEMU, whose TPM is tpmsim in swtpm. The firmware is SeaBIOS or OVMF, each with tpm-tis
 # and tpm-crb. Firmware and kernel must leave the same PCR values as with swtpm's own libtpms. The guest extends
-# a PCR, seals data to it, sleeps and wakes (S3), reboots and unseals the data. In another run of QEMU, the
-# guest unseals the data again. Then a running guest is saved with its TPM, and continues in another QEMU. Not
-# part of the gate, because it takes minutes. It installs nothing, and leaves only its folder, if one is named.
+# a PCR, seals data to it, hashes a file with a sequence, sleeps and wakes (S3), reboots and unseals the data.
+# In another run of QEMU, the guest unseals the data again. Then a running guest is saved with its TPM, and
+# continues in another QEMU. Not part of the gate, because it takes minutes. It installs nothing, and leaves only
+# its folder, if one is named.
 #
 #   tools/interop/guest.sh [FOLDER]                   all of these tests
 #   tools/interop/guest.sh FOLDER FIRMWARE DEVICE     one combination, for example seabios tpm-tis
@@ -174,7 +175,7 @@ combination() {
         diff "$folder/wanted" "$folder/given"
     fi
     boot "$name-first" tpmsim "$name-state" 'guest=work sleep'
-    check "$name-first" 2 21
+    check "$name-first" 2 23
     boot "$name-again" tpmsim "$name-state" guest=work
     check "$name-again" 1 5
     for run in "$name-pcrs" "$name-first" "$name-again"; do replays "$run"; done

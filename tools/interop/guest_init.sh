@@ -6,8 +6,8 @@
 #   pcrs   prints the PCRs that firmware and kernel left
 #   move   extends PCR 20 from locality 2, waits while its machine moves to another QEMU, extends PCR 20 again,
 #          and extends PCR 15 from locality 0
-#   work   prints the PCRs too. Then it makes an NV index and a sealed object, and reboots. If they exist
-#          already, it opens them. With `sleep` it sleeps in between (S3)
+#   work   prints the PCRs too. Then it makes an NV index and a sealed object, and reboots. If these two
+#          already exist, it opens them. With `sleep` it sleeps in between (S3)
 /bin/busybox mkdir -p /proc /sys /dev /tmp /bin /sbin
 /bin/busybox --install -s /bin
 mount -t proc proc /proc
@@ -119,6 +119,9 @@ same 'they are what was sealed' disk-key
 TPM2TOOLS_TCTI=device:/dev/tpmrm0
 tool 'they are opened by the resource manager' unseal -c 0x81000002 -p pcr:sha256:15
 same 'they are what was sealed' disk-key
+head -c 20000 /dev/urandom >large
+tool 'a large file is hashed by the resource manager' hash -C n -g sha256 --hex large
+same 'its digest is right' "$(sha256sum large | cut -d ' ' -f 1)"
 TPM2TOOLS_TCTI=device:/dev/tpm0
 
 if grep -q sleep /proc/cmdline; then

@@ -1,8 +1,9 @@
 #!/bin/sh
-# Uses a device of tpmsim-simulator with the tools of IBM's TSS (Debian: tss2), over Microsoft's simulator
-# protocol, which these tools use by default. It reports for each tool whether it succeeded: TPM2_Startup, PCRs,
+# Runs the tools of IBM's TSS (Debian: tss2) on a device of tpmsim-simulator, over Microsoft's simulator protocol,
+# which these tools use by default. The script reports for each tool whether it succeeded: TPM2_Startup, PCRs,
 # sessions that encrypt with AES and with XOR, the four types of NV index, policies, sealed primary objects,
-# lockout, TPM2_Clear. Not part of the gate. It installs nothing, and leaves no files.
+# lockout, TPM2_Clear; and with the completing layer, sequences. Not part of the gate. It installs nothing, and
+# leaves no files.
 #
 #   tools/interop/ibm_tools.sh [PROGRAM]
 set -u
@@ -36,9 +37,9 @@ tool() {
     fi
 }
 
-# same: checks that the unsealed data are the sealed data.
+# same A B: checks that two files are the same.
 same() {
-    cmp -s secret unsealed || { echo 'FAILED: other bytes'; failed=$((failed + 1)); }
+    cmp -s "$1" "$2" || { echo 'FAILED: other bytes'; failed=$((failed + 1)); }
 }
 
 starts_and_pcrs() {
@@ -78,7 +79,7 @@ indices() {
 sealing() {
     tool createprimary -hi o -bl -kt f -kt p -if secret -pwdk kkk
     tool unseal -ha 80000000 -pwd kkk -of unsealed
-    same
+    same secret unsealed
     tool flushcontext -ha 80000000
     tool startauthsession -se t -sym aes
     tool policypcr -ha 03000000 -halg sha256 -bm 10000
@@ -88,7 +89,7 @@ sealing() {
     tool startauthsession -se p -sym aes
     tool policypcr -ha 03000000 -halg sha256 -bm 10000
     tool unseal -ha 80000000 -se0 03000000 1 -of unsealed
-    same
+    same secret unsealed
     tool policyrestart -ha 03000000
     tool flushcontext -ha 03000000
     tool flushcontext -ha 80000000
@@ -103,22 +104,68 @@ lockout() {
     tool shutdown
 }
 
+# fed WORDS..: starts a sequence with this tool, and sends it the first 1,024 bytes of the data.
+fed() {
+    tool "$@" -pwda aaa
+    tool sequenceupdate -hs 80000008 -pwds aaa -if first
+}
+
+# sequences: hashes, authenticates and measures 2,000 bytes in two parts, with password authorization. TPM2_Hash
+# and TPM2_HMAC take only the first part.
+sequences() {
+    tool powerup
+    tool startup
+    head -c 2000 /dev/zero >data
+    head -c 1024 data >first
+    tail -c 976 data >last
+    python3 -c 'import hashlib, sys; sys.stdout.buffer.write(hashlib.sha256(bytes(2000)).digest())' >hashed
+    fed hashsequencestart -halg sha256
+    tool sequencecomplete -hs 80000008 -pwds aaa -if last -hi o -of digest
+    same hashed digest
+    tool hash -hi o -halg sha256 -if first -oh digest
+    tool createprimary -hi o -kh -halg sha256 -pwdk kkk
+    fed hmacstart -hk 80000000 -pwdk kkk -halg sha256
+    tool sequencecomplete -hs 80000008 -pwds aaa -of mac
+    tool hmac -hk 80000000 -pwdk kkk -halg sha256 -if first -os whole
+    same whole mac
+    tool flushcontext -ha 80000000
+    fed hashsequencestart -halg null
+    tool eventsequencecomplete -hs 80000008 -pwds aaa -ha 16 -if last -of1 digest1 -of2 digest2
+    same hashed digest2
+    fed hashsequencestart -halg sha1
+    tool flushcontext -ha 80000008
+}
+
+# begin WORDS..: starts the simulator with these options.
+begin() {
+    made/tpmsim-simulator --port "$port" "$@" >served &
+    server=$!
+    until [ -s served ]; do
+        kill -0 "$server" || exit 1
+        sleep 0.1
+    done
+}
+
+end() {
+    kill "$server"
+    wait "$server"
+    server=
+    rm served
+}
+
 echo secret >secret
 port=${PORT:-24331}
 export TPM_INTERFACE_TYPE=socsim TPM_SERVER_NAME=127.0.0.1 TPM_DATA_DIR=. TPM_ENCRYPT_SESSIONS=0
 export TPM_COMMAND_PORT="$port" TPM_PLATFORM_PORT="$((port + 1))"
 "$top/hosts/build.sh" simulator made || exit 1
-made/tpmsim-simulator --port "$port" --image image >served &
-server=$!
-until [ -s served ]; do
-    kill -0 "$server" || exit 1
-    sleep 0.1
-done
+begin --image image
 starts_and_pcrs
 indices
 sealing
 lockout
-kill "$server"
-wait "$server"
+end
+begin --complete
+sequences
+end
 echo "$failed failed"
 [ "$failed" -eq 0 ]

@@ -1,8 +1,8 @@
 #!/bin/sh
-# Uses a device that `tpmsim serve` serves with the tools of IBM's TSS (Debian: tss2). Each tool makes one TCP
-# connection, through socat. It reports for each tool whether it succeeded. The sessions encrypt with
-# TPM_ALG_XOR, and stay loaded from one tool to the next. Not part of the gate. It installs nothing, and leaves
-# no files. Needs tss2 and socat, and rt if tpmsim is not built yet.
+# Runs the tools of IBM's TSS (Debian: tss2) on a device that `tpmsim serve` serves. Each tool makes one TCP
+# connection, through socat. The script reports for each tool whether it succeeded. The sessions encrypt with
+# TPM_ALG_XOR, and stay loaded from one tool to the next. Not part of the gate. It installs nothing, and leaves no
+# files. Needs tss2 and socat, and rt if tpmsim is not built yet.
 #
 #   tools/interop/ibm_tss.sh [PORT]    on this port of 127.0.0.1; by default 2321
 set -u

@@ -1,15 +1,15 @@
 #!/usr/bin/env python3
-"""Starts boot loaders in QEMU, with tpmsim in swtpm and with swtpm's own libtpms. With both TPMs,
-each loader must extend the same PCRs with the same SHA-1 and SHA-256 digests, and every extend must
-succeed.
+"""Starts each boot loader twice in QEMU: with tpmsim in swtpm, and with swtpm's own libtpms. Both
+times, the loader must extend the same PCRs with the same SHA-1 and SHA-256 digests, and every
+extend must succeed.
 
     tools/interop/loaders.py ATTACHED [LOADER..]
 
-ATTACHED is the folder of `hosts/build.sh libtpms`. The loaders are uboot (its EFI, on arm64), aavmf
-(UEFI on arm64), ovmf (UEFI on x86-64) and grub (its module tpm, after ovmf). By default, all
-loaders are started. Needs Debian's swtpm, qemu-system-arm, qemu-system-x86, u-boot-qemu,
-qemu-efi-aarch64, ovmf, grub-efi-amd64-bin and grub-common. Not part of the gate: it takes minutes.
-It leaves no files.
+ATTACHED is the folder of `hosts/build.sh libtpms`. The loaders are uboot (U-Boot's EFI, on arm64),
+aavmf (UEFI on arm64), ovmf (UEFI on x86-64) and grub (GRUB with its module tpm, started by ovmf).
+By default, all loaders are started. Needs Debian's swtpm, qemu-system-arm, qemu-system-x86,
+u-boot-qemu, qemu-efi-aarch64, ovmf, grub-efi-amd64-bin and grub-common. Not part of the gate: it
+takes minutes. It leaves no files.
 """
 
 from __future__ import annotations

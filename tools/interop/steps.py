@@ -27,10 +27,11 @@ class Step:
     # The response code with which the device must refuse the step's command, or empty if it must
     # succeed.
     code: str = ""
-    # The name of the reason why tpmsim supports less than swtpm here, or empty if it supports the
-    # same.
+    # The name of the reason why the step passes only on swtpm, or empty if it also passes on
+    # tpmsim.
     reason: str = ""
-    # Whether the step is compared. Preparations and power cycles are not.
+    # Whether the outcome of the step is compared. The outcomes of preparations and power cycles are
+    # not compared.
     counts: bool = True
 
     @property

@@ -1,8 +1,8 @@
 #!/bin/sh
-# Tests tpmsim in swtpm: with Debian's tpm2-tools, including the policy tools, through libtss2's TCTI `swtpm`,
-# and with swtpm_ioctl. It reports for each test whether the result was as expected. It restarts swtpm, moves
-# the running device from one swtpm to another, kills swtpm, fills its disk, and damages its stored state. Not
-# part of the gate. It installs nothing, and leaves no files.
+# Tests tpmsim in swtpm, with swtpm_ioctl and with Debian's tpm2-tools, including the policy tools. The tools use
+# libtss2's TCTI `swtpm`. The script reports for each test whether the result was as expected. It restarts swtpm,
+# moves the running device from one swtpm to another, kills swtpm, fills its disk, and damages its stored state.
+# Not part of the gate. It installs nothing, and leaves no files.
 #
 #   tools/interop/swtpm_tools.sh
 #

@@ -1,7 +1,8 @@
 #!/usr/bin/env python3
-"""Runs each tool of Debian's tpm2-tools, with the steps of day.steps and rest.steps, on tpmsim
-through the module for libtss2, on tpmsim as a server and on swtpm, and compares the outcomes with
-the list of tools in docs/USING.md. Not part of the gate. It installs nothing, and leaves no files.
+"""Runs each tool of Debian's tpm2-tools, with the steps of day.steps and rest.steps. Runs them on
+tpmsim through the module for libtss2, on tpmsim as a server, and on swtpm. Then compares the
+outcomes with the list of tools in docs/USING.md. Not part of the gate. It installs nothing, and
+leaves no files.
 
     tools/interop/tool_table.py           reports if the document differs from the outcomes
     tools/interop/tool_table.py --write   writes the list into the document
@@ -88,7 +89,9 @@ def listed(tools: list[str]) -> str:
 
 
 def rows(tools: list[str], results: Results) -> Iterator[str]:
-    """Yields the rows of the table: for each tool, one for each reason that applies to it."""
+    """Yields the rows of the table: one for each reason that applies to at least one tool, with the
+    tools to which it applies.
+    """
     for reason, sentence in REASONS.items():
         less = [tool for tool in tools if reason in results.reasons_of(tool)]
         if less:

@@ -88,7 +88,7 @@ loaded() {
     tpm2 getcap handles-transient 2>error | sed -n 's/^- //p'
 }
 
-# PCR 10 after it was extended with a digest of zeros that ends with 1, as computed by hashlib.
+# The value of PCR 10, computed with hashlib, after an extend with a digest of zeros whose last byte is 1.
 extended=$(python3 -c 'import hashlib; print(hashlib.sha256(bytes(63) + b"\1").hexdigest())')
 
 # Tests the tools that need no completing layer.

@@ -30,8 +30,8 @@ tell() {
     done
 }
 
-# Proves the crates in this folder. Crates that do not use each other are proved at the same time. The caller
-# has to check the result by the files that exist afterwards.
+# Proves the crates in this folder. Crates that do not use each other are proved at the same time. The caller has
+# to check which files exist afterwards.
 prove_all() {
     git init --quiet && sh "$top/tools/lib/rt_ci.sh" </dev/null 2>&1 | tell
 }

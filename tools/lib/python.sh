@@ -1,4 +1,4 @@
-# A function for the tests and for tools/scripts.sh, which checks the installed Python. They source this file.
+# A function that checks the installed Python. The tests and tools/scripts.sh source this file.
 # shellcheck shell=sh
 
 # python_is_whole: succeeds if python3 has all modules of the standard library of Python 3.11 that the tests

@@ -3,12 +3,12 @@
 
     tools/man/documents.py ROOT FOLDER [PATH=PLACE]..
 
-They are installed in FOLDER below ROOT, each with its path in the repository. PATH is a file of the
-repository that is installed elsewhere, and PLACE is its path below ROOT. Links between documents
-lead to installed files; any other link is replaced with its text. The names of programs are
-replaced with their installed names, which packaging/pages.toml lists, except in README.md, which is
-about the sources. Documents for developers are not installed. The name of the program that wrote a
-script is removed from the script, because that program is not installed. Needs only python3.
+Each file is installed below ROOT in FOLDER, with its path in the repository. PATH is a file of the
+repository that is installed elsewhere: at the path PLACE below ROOT. Links between documents lead
+to installed files; any other link is replaced with its text. The names of programs are replaced
+with their installed names, which packaging/pages.toml lists, except in README.md, which is about
+the sources. Documents for developers are not installed. The name of the program that wrote a script
+is removed from the script, because that program is not installed. Needs only python3.
 """
 
 import functools
@@ -54,7 +54,7 @@ def paths(*patterns: str) -> list[str]:
 
 
 class Documents:
-    """The files of the repository that are installed, by their paths below the root."""
+    """The files of the repository that are installed, with their paths below the root."""
 
     def __init__(self, folder: str, others: dict[str, str]) -> None:
         ours = set(paths(*DOCUMENTS, *COPIED, SCRIPTS))

@@ -1,7 +1,8 @@
 """Converts the part of Markdown that the documents use to roff, with the macros of man(7).
 
-It reads headings, paragraphs, lists with `-`, tables, fenced or indented code, and, within a line,
-code, links, `**words**` and `*words*`. A table row becomes a paragraph tagged with the first cell.
+The program reads headings, paragraphs, lists with `-`, tables, and fenced or indented code; and
+within a line, code, links, `**words**` and `*words*`. A table row becomes a paragraph tagged with
+the first cell.
 """
 
 import re

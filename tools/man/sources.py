@@ -27,7 +27,7 @@ def pages_told() -> dict[str, Any]:
 
 
 def installed(text: str) -> str:
-    """Returns a text with the programs' names replaced with their installed names."""
+    """Returns a text in which the programs' names are replaced with their installed names."""
     for path, name in pages_told()["names"].items():
         text = re.sub(rf"(?<![\w/.]){re.escape(path)}(?![\w/])", name, text)
     return text
@@ -87,8 +87,8 @@ def said(words: list[str], program: str) -> str:
 
 
 def help_parts(text: str) -> dict[str, str]:
-    """Returns the parts of a help text by their headings. The part before the first heading has the
-    key "".
+    """Returns the parts of a help text, keyed by their headings. The part before the first heading
+    has the key "".
     """
     pieces = re.split(r"^(\w+):(?: |\n|$)", text, flags=re.M)
     return {"": pieces[0].strip(), **dict(zip(pieces[1::2], pieces[2::2]))}

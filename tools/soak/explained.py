@@ -16,7 +16,9 @@ OTHERWISE = "the response is another one than was recorded, by its sum"
 
 
 def faults_of(play, events):
-    """Returns the faults of a log that a test has damaged deliberately."""
+    """Returns the faults that show that a log is damaged. A response that differs from the recorded
+    one does not count.
+    """
     words = [it.words for event in events for it in event.differences if it.words != OTHERWISE]
     return [*([play.fault] if play.fault else []), *play.damages, *words]
 
@@ -27,8 +29,8 @@ def others_of(events):
 
 
 def logs(folder):
-    """Returns the events of each undamaged log, and the number of logs with an incomplete end.
-    Prints the damaged logs.
+    """Returns the events of each undamaged log, and a text with the number of these logs, and of
+    those with an incomplete end. Prints the damaged logs.
     """
     found, cuts = dict[pathlib.Path, list](), 0
     for path in sorted(pathlib.Path(folder).iterdir()):

@@ -1,8 +1,9 @@
 #!/bin/sh
-# Runs tools/scripts.sh of the last commit in new Debian systems: with git and python3; also with a C compiler;
-# with python3-minimal; with all packages that packaging/debian_packages lists; and without git and python3. No
-# test may fail there. If the tests name packages with which more tests could run, it installs them, and runs
-# the tests again; now no package may be named. It takes half an hour or more, and is not part of the gate.
+# Runs tools/scripts.sh of the last commit in new Debian systems: one with git and python3, others also with a C
+# compiler, with python3-minimal, or with all packages that packaging/debian_packages lists, and one without git
+# and python3. No test may fail there. If the tests name packages with which more tests could run, it installs
+# them, and runs the tests again, which must then name no package. It takes half an hour or more, and is not part
+# of the gate.
 #   tools/soak/fresh_machines.sh           each machine of the list below
 #   tools/soak/fresh_machines.sh NAME..    only these machines
 #

@@ -34,7 +34,9 @@ class Function:
     owner: str | None
 
     def fails_in(self, said: list[str]) -> str | None:
-        """Returns the prover's message line about a failing goal of this function."""
+        """Returns the line of the prover's messages that reports a failing goal of this function,
+        or None.
+        """
         return next((line for line in said if self._is_told(line)), None)
 
     def _is_told(self, line: str) -> bool:

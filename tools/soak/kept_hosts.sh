@@ -1,9 +1,8 @@
 #!/bin/sh
-# Stress-tests all programs and modules that keep a device in a folder (hosts). First each call of each host
-# fails in turn, in some 13,000 runs; tests/keeping/library_each_call.sh makes one in ten of them. Then the
-# system crashes after each change to a folder. Finally hosts of each kind use one device at the same time,
-# while they are killed and interrupted, and fork. It is not part of the gate. Needs cc, libtss2-dev and
-# python3.
+# Stress-tests all programs and modules that keep a device in a folder (hosts). First each call of each host fails
+# in turn, in some 13,000 runs; tests/keeping/library_each_call.sh makes every tenth of these runs. Then the system
+# crashes after each change to a folder. Finally hosts of each kind use one device at the same time, while they are
+# killed and interrupted, and fork. It is not part of the gate. Needs cc, libtss2-dev and python3.
 #
 #   tools/soak/kept_hosts.sh             all calls, and ten minutes of processes
 #   tools/soak/kept_hosts.sh 60 7        all calls, and one minute of processes, with seed 7

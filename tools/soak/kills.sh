@@ -1,7 +1,7 @@
 #!/bin/sh
-# Kills a served device at random moments while clients connect one after another, and checks the image after
-# each kill, as tests/serving/killed.sh does a few times. Then it serves a device with --save-each the same
-# number of times, and kills it immediately after a response, as tests/serving/save_each.sh does. It is not
+# Kills a served device at random moments while clients connect one after another, and checks the image after each
+# kill, as tests/serving/killed.sh does a few times. Then the script serves a device with --save-each the same
+# number of times, and kills the device immediately after a response, as tests/serving/save_each.sh does. It is not
 # part of the gate. Needs python3.
 #
 #   tools/soak/kills.sh               1,000 kills, with seed 1

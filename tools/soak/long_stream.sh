@@ -1,5 +1,5 @@
 #!/bin/sh
-# Sends millions of commands to a served device over one connection, while it reads the responses, as
+# Sends millions of commands to a served device over one connection, and reads the responses at the same time, as
 # tests/serving/serve_clients.sh does with five million bytes. It is not part of the gate. Needs python3.
 #
 #   tools/soak/long_stream.sh          100 million bytes of commands

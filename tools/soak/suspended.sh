@@ -1,7 +1,7 @@
 #!/bin/sh
-# Plays random commands on devices in swtpm that are suspended and resumed, and on devices that are never
-# suspended. There is one script for each seed, by default with 1,000 commands. Needs python3, cc and
-# libtpms-dev. Not part of the gate.
+# Plays random commands on devices of libtpms.so.0 that are suspended and resumed, and on devices that are never
+# suspended. There is one script for each seed, by default with 1,000 commands. Needs python3, cc and libtpms-dev.
+# Not part of the gate.
 #
 #   tools/soak/suspended.sh            the seeds 1 to 50
 #   tools/soak/suspended.sh 7          the seed 7

@@ -1,11 +1,11 @@
 #!/bin/sh
-# Tries the patches under wrong/turned. Each patch changes the code of a command consistently with its row, the
-# definition of the command's behaviour, and with the proofs that repeat the row. The device then behaves
-# wrongly, although all crates below tpm_step can still be proved. But the history of the device determines a
-# different behaviour. Therefore a law of tpm_step, or of another crate of laws, must fail. All patches are
-# tried before a piece of work is declared done. Patches that name different laws of one crate are tried in one
-# copy of that crate and of the crates below it. `rt ci` proves the copy, from scratch if the kit has stored no
-# proofs. Needs `rt` and git.
+# Tries the patches under wrong/turned. Each patch changes the code of a command and, in the same way, its row (the
+# definition of the command's behaviour) and the proofs that repeat the row. The device then behaves wrongly,
+# although all crates below tpm_step can still be proved. But the history of the device determines a different
+# behaviour. Therefore a law of tpm_step, or of another crate of laws, must fail. All patches are tried before a
+# piece of work is declared done. Patches that name different laws of one crate are tried in one copy of that crate
+# and of the crates below it. `rt ci` proves the copy, from scratch if the kit has stored no proofs. Needs `rt` and
+# git.
 #
 #   tools/soak/turned_rows.sh                    all patches
 #   tools/soak/turned_rows.sh pcr_16_restored    one patch, or several
@@ -82,9 +82,9 @@ law_at() {
 # refused_laws CRATE: prints the laws of a crate that are refused according to the log, each as FILE NAME. Omits
 # laws that were not checked because they depend on a refused law.
 refused_laws() {
-    grep -E '^\./proofs/[A-Za-z]+\.antt:[0-9]+:[0-9]+: error: ' "$room/log" |
+    grep -E '^\./proofs/[A-Za-z/]+\.antt:[0-9]+:[0-9]+: error: ' "$room/log" |
         grep -vE 'which was (rejected|not admitted)' |
-        sed 's|^\./proofs/\([A-Za-z]*\)\.antt:\([0-9]*\):.*|\1 \2|' |
+        sed 's|^\./proofs/\([A-Za-z/]*\)\.antt:\([0-9]*\):.*|\1 \2|' |
         while read -r file line; do
             echo "$file $(law_at "$1" "$file" "$line")"
         done | sort -u

@@ -242,8 +242,9 @@ class Crate:
         return WrongBody(edit.name, turns, frozenset(), frozenset(naming))
 
     def _naming(self, file: str, lines: list[str]) -> set[Function]:
-        """Returns the functions that name an item or belong to it: the last item in these first
-        lines of a file in src/, or any definition of a file in specs/ that clauses use.
+        """Returns the functions that name an item or belong to it. For a file in src/, the item is
+        the last one in `lines`, the first lines of the file. For a file in specs/, it is any of the
+        definitions in the file that clauses use.
         """
         if file.startswith("src/"):
             names = [match[1] for line in lines if (match := ITEM.match(line))][-1:]
@@ -403,7 +404,9 @@ def is_not_proved(status: int, said: list[str]) -> bool:
 
 
 def is_of_a_contract(said: list[str]) -> bool:
-    """Returns whether a refusal shows more than that a proof file uses a removed name."""
+    """Returns whether a refusal shows something about a contract, not only that a proof file uses a
+    removed name.
+    """
     told = [line for line in said if is_fault(line)]
     return not told or any(not GONE.match(line) for line in told)
 
@@ -440,8 +443,8 @@ def refusal_alone(crate: Crate, body: WrongBody) -> str:
 
 
 def refusals_told(group: Group, status: int, said: list[str]) -> dict[WrongBody, str]:
-    """Returns the bodies that a check of the whole group refuses, with the messages. Returns none
-    if the check does not show which bodies are refused.
+    """Returns the bodies that a check of the whole group refuses, with the messages. The result is
+    empty if the check does not show which bodies are refused.
     """
     if not is_not_proved(status, said):
         return {}

@@ -23,15 +23,15 @@ told_text tell.NumberAndValue e = to_be_bytes w32 e.number ++ to_be_bytes w32 e.
 abbrev pub is_from : ℕ → Element → Bool
 is_from from e = nat_le from e.number
 
--- the number of elements whose number is at least `from` (`found_count`), and how many of these
--- elements are listed (`told_count`): as many as requested, but at most 64
+-- the number of elements whose number is at least `from`
 abbrev pub found_count : ℕ → List Element → ℕ
 found_count from elements = count_by (is_from from) elements
 
+-- the number of elements that are listed: as many as requested, but at most 64
 abbrev pub told_count : (from count : ℕ) → List Element → ℕ
 told_count from count elements = min (found_count from elements) (min count 64)
 
--- the encoding of the first elements whose number is at least `from`, at most `count` of them
+-- the encoding of the first `count` elements whose number is at least `from`
 abbrev pub text_of : Telling → (from count : ℕ) → List Element → List ℕ
 text_of telling from count elements =
     flat_map (told_text telling) (take count (filter (is_from from) elements))

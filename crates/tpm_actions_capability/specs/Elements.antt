@@ -43,22 +43,24 @@ permanent_elements =
     ∷ by_itself platform_handle.number
     ∷ []
 
--- the handles of types 02 and 03: the sessions of every type, in the order of their slots. The slot
--- number is compared with the requested property, but the listed value is the handle
+-- the session in this slot, if there is one. The slot number is compared with the requested
+-- property, but the listed value is the handle
 abbrev pub session_element : Record → (place : ℕ) → List Element
 session_element r place =
     option_map_or (λ (s : Session). record { number = place; told = (handle_of s.kind place).number } ∷ [])
     (at_place r.sessions place) []
 
+-- the handles of types 02 and 03: the sessions of every type, in the order of their slots
 abbrev pub session_elements : Record → List Element
 session_elements r = flat_map (session_element r) (numbers_below session_limit)
 
--- the handles of type 80: the transient objects
+-- the transient object in this slot, if there is one
 abbrev pub object_element : Record → ℕ → List Element
 object_element r place =
     let handle : Handle = numbered (number_of 0x80 place) in
     if_there (is_some (object_at r.objects handle)) (by_itself handle.number)
 
+-- the handles of type 80: the transient objects
 abbrev pub object_elements : Record → List Element
 object_elements r = flat_map (object_element r) (numbers_below object_limit)
 

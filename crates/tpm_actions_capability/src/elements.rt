@@ -144,7 +144,7 @@ fn command(code: CommandCode) -> Element
     }
 }
 
-/// Lists these commands.
+/// Lists the given commands.
 #[tactic(auto, using(crate::proofs::Listing::one_more))]
 fn list_commands(codes: &[CommandCode], elements: &mut Elements)
     requires empty { elements.old.items ≡ [] }

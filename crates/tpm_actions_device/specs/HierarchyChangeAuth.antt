@@ -13,7 +13,7 @@ use Rattle.tpm_record.specs.rows.Request.{Request, first_handle}
 use Rattle.tpm_record.specs.rows.Answer.{nothing}
 use Rattle.tpm_record.specs.rows.Rows.{Success, only}
 
--- the hierarchies after the authorization value of the hierarchy with this handle was replaced
+-- the hierarchies, with a new authorization value for the hierarchy with this handle
 abbrev pub with_auth_of : Hierarchies → Handle → List ℕ → Hierarchies
 with_auth_of h handle value =
     option_map_or (λ auth. with_hierarchy_auth h auth value) (hierarchy_auth_of handle) h

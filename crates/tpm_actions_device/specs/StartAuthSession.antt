@@ -76,7 +76,7 @@ parameters_pass p = do
   a2 ← refused_if (not (length p.salt == 0)) (parameter_refusal action.Second 2 code.Value)
   refused_if (has_other_mask p.symmetric p.hash) (parameter_refusal action.Third 4 code.Hash)
 
--- the binding of a session to the entity that bind names, as this entity is now, or None if bind is
+-- the binding of a session to the entity of the handle bind, as the entity is now; None if bind is
 -- TPM_RH_NULL
 unfoldable pub binding_of : Record → Handle → Option Binding
 binding_of r bind =

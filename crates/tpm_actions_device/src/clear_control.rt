@@ -15,7 +15,7 @@ use tpm_record::rows::refusals::action_refusal;
 use tpm_types::{ActionCheck, Handle, Refused, ResponseCode, read_yes_no};
 
 /// TPM2_ClearControl: disables or enables TPM2_Clear. Returns AUTH_FAIL if TPM_RH_LOCKOUT is used
-/// to enable it.
+/// to enable TPM2_Clear.
 #[tactic(auto, unfolding(crate::specs::ClearControl::clear_control_row))]
 pub fn clear_control<K: Keep>(
     keep: &mut K,

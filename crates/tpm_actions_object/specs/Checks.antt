@@ -30,12 +30,13 @@ creation_refusal before creation.AuthValueSize = parameter_refusal (action_named
 creation_refusal before creation.Attributes = parameter_refusal (action_named (before + 2)) 2 code.Attributes
 creation_refusal before creation.DataSize = parameter_refusal (action_named (before + 3)) 1 code.Size
 
--- the checks of a public area (`public_passes`), and of inSensitive (`given_passes`)
+-- the checks of a public area
 abbrev pub public_passes : (before : ℕ)
     → (parent_is_fixed : Bool) → Public → Result (Unit {0}) Refused
 public_passes before parent_is_fixed p =
     or_refusal (template_refusal before) (template_passes parent_is_fixed p)
 
+-- the checks of inSensitive
 abbrev pub given_passes : (before : ℕ) → SensitiveValues → Public → Result (Unit {0}) Refused
 given_passes before given template =
     or_refusal (creation_refusal before) (creation_passes given template)

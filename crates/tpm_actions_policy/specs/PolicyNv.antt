@@ -36,10 +36,10 @@ nv_parameters text = do
   ended ← all_read operation.1
   Ok (record { operand = operand.0; offset = offset.0; operation = operation.0 })
 
--- the bytes that are compared with the operand: as many bytes of the index's data, from the offset
--- on, as the operand has. Refused by A1 to A3, the checks of every command that reads an index; by
--- A4 if the bytes extend past the end of the data. Once checks A1 to A3 have passed, the read can
--- fail for no other reason (reading_laws of tpm_record)
+-- the bytes that are compared with the operand: as many bytes as the operand has, from the offset
+-- in the index's data. Refused by A1 to A3, the checks of every command that reads an index; by A4
+-- if the bytes extend past the end of the data. Once checks A1 to A3 have passed, the read can fail
+-- for no other reason (reading_laws of tpm_record)
 abbrev pub compared : Record → Target → Parameters → Result (List ℕ) ActionFault
 compared r target p = do
   readable ← reading_passes target

@@ -38,8 +38,7 @@ get_or-expanded_key : (key : List ℕ) (n : ℕ) → n < 11
 unfolding expanded_key
 get_or-expanded_key key n within = get_or-map-range_with_len (round_key key) 0 11 n n [] within (omega arith)
 
--- If the bytes of 11 keys are the bytes of the round keys 0 to 10, then these keys together are the
--- expanded key.
+-- A list of 11 keys is the expanded key if each entry is the key for its round.
 pub expanded_key_from : (keys : List (List ℕ)) (key : List ℕ) → length keys ≡ 11
     → ((k : ℕ) → k < 11 → bytes_of (slice_index_or keys k []) ≡ round_key key k)
     → map bytes_of keys ≡ expanded_key (bytes_of (slice_index_or keys 0 []))
@@ -55,8 +54,8 @@ pub record HasKeysBelow (keys : List (List ℕ)) (key : List ℕ) (n : ℕ) : Ty
   pub size : length keys ≡ 11
   pub each : (k : ℕ) → k < n → bytes_of (slice_index_or keys k []) ≡ round_key key k
 
--- Suppose that entries 0 to n - 1 are the keys for rounds 0 to n - 1. If the key for round n is
--- then stored at index n, entries 0 to n are the keys for rounds 0 to n.
+-- One step of the key expansion: if entries 0 to n - 1 are the keys for their rounds, storing the
+-- key for round n at index n makes entries 0 to n the keys for their rounds.
 pub round_keys_more : (keys : List (List ℕ)) (key next : List ℕ) (n : ℕ) → 1 ≤ n → n < length keys
     → ((k : ℕ) → k < n → bytes_of (slice_index_or keys k []) ≡ round_key key k)
     → bytes_of next ≡ next_round_key n (bytes_of (slice_index_or keys (n - 1) []))
@@ -70,8 +69,7 @@ round_keys_more keys key next n low within so_far is_next =
     (λ k h. let other : k ≢ n = omega arith in rw get_or-set_other (so_far k h))
     (rw get_or-set_same value)
 
--- If a list of keys is the expanded key of a cipher key, its entry n has the bytes of the key for
--- round n.
+-- Entry n of an expanded key has the bytes of the key for round n.
 pub round_key_at : (keys : List (List ℕ)) (key : List ℕ) → length keys ≡ 11
     → bytes_of (slice_index_or keys 0 []) ≡ key
     → map bytes_of keys ≡ expanded_key (bytes_of (slice_index_or keys 0 [])) → (n : ℕ) → n < 11

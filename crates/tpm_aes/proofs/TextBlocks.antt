@@ -33,8 +33,7 @@ pieces_to-suc piece n =
     ∙ flat_map-append piece (range_with_len 0 n) ((0 + n) ∷ [])
     ∙ ap (λ (xs : List ℕ). pieces_to piece n ++ xs) (append-nil (piece (0 + n)) ∙ ap piece number)
 
--- The first n + 1 pieces, concatenated, are the first n pieces followed by piece n. This lemma says
--- `n + 1` where `pieces_to-suc` says `suc n`.
+-- Like `pieces_to-suc`, but with `n + 1` instead of `suc n`.
 pub pieces_to-add-one : (piece : ℕ → List ℕ) (n : ℕ) → pieces_to piece (n + 1) ≡ pieces_to piece n ++ piece n
 pieces_to-add-one piece n = ap (pieces_to piece) (add-one n) ∙ pieces_to-suc piece n
 
@@ -60,8 +59,7 @@ rest_left piece old now i start done at within =
     ap (drop start) done.value
     ∙ drop_at (pieces_to piece i) (drop (16 * i) old) start (length-done piece old now i done (omega arith) ∙ sym at)
 
--- If the remaining bytes start with block i, they start with block i + 1 after this block is
--- removed.
+-- Removing block i from the bytes that start with it leaves the bytes that start with block i + 1.
 drop_block : (old : List ℕ) (i size : ℕ) → 16 * i ≤ length old → size ≡ min 16 (length old - 16 * i)
     → drop size (drop (16 * i) old) ≡ drop (16 * (i + 1)) old
 drop_block old i size within is_size =
@@ -85,8 +83,8 @@ block_left piece old now i start end done at within stop =
     let size : end - start ≡ min 16 (length rest) = omega (arith, length-drop (16 * i) old) in
     ap (take (end - start)) left ∙ ap (λ (k : ℕ). take k rest) size ∙ take_min 16 rest
 
--- If the first i blocks were replaced, and block i is then replaced by its piece, the first i + 1
--- blocks are replaced.
+-- Once the first i blocks are replaced, replacing block i by its piece completes the first i + 1
+-- blocks.
 pub done_to_more : (piece : ℕ → List ℕ) (old now new part : List ℕ) (i start end : ℕ) → IsDoneTo piece old now i
     → start ≡ 16 * i → start ≤ length old → end ≡ start + min 16 (length old - start)
     → part ≡ piece i → length part ≡ end - start

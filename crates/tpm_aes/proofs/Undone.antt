@@ -68,7 +68,7 @@ xor_of-twice (x ∷ xs) (y ∷ ys) whole =
     let byte : bit_xor (bit_xor x y) y ≡ x = xor_assoc x y y ∙ ap (bit_xor x) (xor_self y) ∙ xor_zero_r x in
     ap (λ (k : ℕ). k ∷ xor_of (xor_of xs ys) ys) byte ∙ ap (λ (t : List ℕ). x ∷ t) (xor_of-twice xs ys (omega arith))
 
--- If all pieces before the last are full blocks, block i of their concatenation is piece i.
+-- If all pieces before the last are full blocks, block i of the concatenated pieces is piece i.
 block_at-pieces_to : (piece : ℕ → List ℕ) (n : ℕ) → ((i : ℕ) → i < n → length (pieces_to piece i) ≡ 16 * i)
     → ((i : ℕ) → length (piece i) ≤ 16) → (i : ℕ) → i < n → block_at (pieces_to piece n) i ≡ piece i
 block_at-pieces_to piece zero whole short i low = absurd (omega arith)
@@ -87,7 +87,7 @@ block_at-pieces_to piece (suc n) whole short i low =
           ∙ take_all 16 (piece n) (short n) ∙ ap piece same
     ]
 
--- If the pieces have the sizes of the blocks of a list, block i of their concatenation is piece i.
+-- If the pieces have the sizes of a list's blocks, block i of the concatenated pieces is piece i.
 block_at-joined : (piece : ℕ → List ℕ) (text : List ℕ) → AreLikeBlocks piece text
     → (i : ℕ) → i < block_count text → block_at (pieces_to piece (block_count text)) i ≡ piece i
 block_at-joined piece text like =
@@ -95,7 +95,7 @@ block_at-joined piece text like =
     (λ i low. length-pieces_to piece text like i ∙ omega (arith, block_count-inside text i low))
     (λ i. omega (arith, like i, length-block_at text i))
 
--- If the pieces are equal, their concatenations are equal.
+-- Equal pieces have equal concatenations.
 pieces_to-same : (f g : ℕ → List ℕ) (n : ℕ) → ((i : ℕ) → i < n → f i ≡ g i) → pieces_to f n ≡ pieces_to g n
 pieces_to-same f g zero each = pieces_to-zero f ∙ sym (pieces_to-zero g)
 pieces_to-same f g (suc n) each =

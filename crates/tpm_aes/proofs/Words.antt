@@ -62,8 +62,7 @@ get_or-xored_front (x ∷ xs) (y ∷ ys) zero within fits = refl
 get_or-xored_front (x ∷ xs) (y ∷ ys) (suc i) within fits =
     get_or-xored_front xs ys i (omega arith) (omega arith)
 
--- If the first i bytes of a list are XORed and byte i is XORed next, then the first i + 1 bytes are
--- XORed.
+-- XORing byte i after the first i bytes XORs the first i + 1 bytes.
 set-xored_front : (old other : List ℕ) (i : ℕ) → i < length old → length old ≤ length other
     → slice_set (xored_front old other i) i (bit_xor (slice_index_or old i 0) (slice_index_or other i 0))
     ≡ xored_front old other (suc i)
@@ -73,8 +72,7 @@ set-xored_front (x ∷ xs) (y ∷ ys) zero within fits = refl
 set-xored_front (x ∷ xs) (y ∷ ys) (suc i) within fits =
     ap (λ (t : List ℕ). bit_xor x y ∷ t) (set-xored_front xs ys i (omega arith) (omega arith))
 
--- If the first i bytes of a list are XORed and byte i is XORed next, then the first i + 1 bytes are
--- XORed. Unlike `set-xored_front`, this lemma reads byte i from the list that is being changed.
+-- Like `set-xored_front`, but reads byte i from the list that is being changed.
 pub xored_more : (old other bytes : List ℕ) (i : ℕ) → i < length old → length old ≤ length other
     → bytes ≡ xored_front old other i
     → slice_set bytes i (bit_xor (slice_index_or bytes i 0) (slice_index_or other i 0)) ≡ xored_front old other (i + 1)

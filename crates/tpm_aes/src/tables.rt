@@ -33,9 +33,9 @@ fn sub_byte(a: u8) -> u8
     S_BOX[usize::from(a)]
 }
 
-/// Each table entry matches the standard by itself, and not only in the sum of the entries for a
-/// column. The definition of the S-box is checked against two values that the standard prints (FIPS
-/// 197, 5.1.1, figure 7). This function is only a proof: it has no effect at run time.
+/// Each single table entry matches the standard, not only the sum of the entries for a column. The
+/// definition of the S-box is checked against two values that the standard prints (FIPS 197, 5.1.1,
+/// figure 7). This function is only a proof: it has no effect at run time.
 #[inline(always)]
 #[tactic(auto, using(crate::proofs::Entries::s_box_entries, crate::proofs::Entries::mixed_entries, crate::proofs::Vectors::published_bytes))]
 pub fn table_laws()

@@ -39,8 +39,8 @@ mac_some s value parts is =
     let some = digest_some s.hash in
     absurd (omega (arith, size, none, some))
 
--- If the HMAC of an entry is accepted, and the entry's HMAC is empty but the computed one is not,
--- then the HMAC key is empty.
+-- If an entry's empty HMAC is accepted although the computed HMAC is not empty, the HMAC key is
+-- empty.
 by_test : (key hmac mac : List ℕ) → (length key == 0 && length hmac == 0 || bytes_eq hmac mac) ≡ true → hmac ≡ [] → (mac ≡ [] → ⊥) → key ≡ []
 by_test [] hmac mac is empty some = refl
 by_test (byte ∷ key) hmac mac is empty some =

@@ -20,8 +20,8 @@ use Rattle.tpm_auth.specs.Grant.{authorize, authorized, grant, grants_pass}
 use Rattle.tpm_auth.specs.Granting.{IsGranted, IsGranting}
 use Rattle.tpm_auth.specs.declared.session_grant.Grant.{Grant}
 
--- If each success of the second step has a property, for every result of the first step, then each
--- success of both steps in sequence has it.
+-- Every success of `x >>= f` has a property, if every success of `f`, called with the success of
+-- `x`, has it.
 ok_bind_is : {A B E : Type 0} (Q : B → Type 0) (x : Result A E) (f : A → Result B E) → ((a : A) → x ≡ Ok a → IfOk (f a) Q) → IfOk (x >>= f) Q
 ok_bind_is Q (Ok a) f h = h a refl
 ok_bind_is Q (Err e) f h = tt
@@ -34,8 +34,7 @@ checked_ok check (Err rc) y is = absurd cc
 -- ---- checking the entries in order
 
 module _ (r : Record) (c : Whole) (locality : ℕ) where
-  -- The list `given` contains the grants of the entries `es`. The position of the first of them is
-  -- `first`.
+  -- The list `given` contains the grants of the entries `es`, whose positions start at `first`.
   record AreOf (first : ℕ) (es : List Entry) (given : List (Option Grant)) : Type 0 where
     as_many : length given ≡ length es
     each : (place i : ℕ) (e : Entry) (granted : Option Grant) → place ≡ first + i → slice_get es i ≡ Some e → slice_get given i ≡ Some granted → IsGranted r c locality place e granted
@@ -50,7 +49,7 @@ module _ (r : Record) (c : Whole) (locality : ℕ) where
       each_of place zero x granted at entry there = let here : first ≡ place = omega arith in cc
       each_of place (suc i) x granted at entry there = others.each place i x granted (omega arith) entry there
 
-  -- Checking the remaining entries adds their grants to those of the entries before them.
+  -- Checking the remaining entries appends their grants to the grants of the earlier entries.
   walk : (before : List (Option Grant)) (es : List Entry) → IfOk (grants_pass r c locality before es) (λ grants. (given : List (Option Grant)) × (before ++ given ≡ grants) × AreOf (length before) es given)
   walk before [] = ([], append-nil before, none (length before))
   walk before (e ∷ es) =

@@ -14,7 +14,7 @@ use Rattle.tpm_auth.specs.SessionGrant.{takes_value}
 use Rattle.tpm_auth.specs.Used.{IsToGrant, IsUsed, IsUsedFor, grant_by}
 use Rattle.tpm_auth.specs.declared.used.Granted.{Granted}
 
--- The first entity found is that of the first handle, and the rest are those of the other handles.
+-- The first entity found belongs to the first handle, and the others to the other handles.
 first_found : (r : Record) (x : Resolved) (xs : List Resolved) (h : Handle) (hs : List Handle) → AreFound r (x ∷ xs) (h ∷ hs) → (found_by x ≡ found_at r h) × AreFound r xs hs
 first_found r x xs h hs are = (cc, cc)
 
@@ -25,7 +25,7 @@ as_many r [] (h ∷ hs) are = absurd cc
 as_many r (x ∷ xs) [] are = absurd cc
 as_many r (x ∷ xs) (h ∷ hs) are = let others = as_many r xs hs (first_found r x xs h hs are).1 in omega (arith, others)
 
--- The entity found at a position is that of the handle at that position.
+-- Each entity found belongs to the handle at the same position.
 pub found_in : (r : Record) (resolved : List Resolved) (handles : List Handle) (place : ℕ) (x : Resolved) → AreFound r resolved handles → slice_get resolved place ≡ Some x → (slice_get handles place ≡ Some x.handle) × IsFound r x
 found_in r [] handles place x are is = absurd cc
 found_in r (y ∷ ys) [] place x are is = absurd cc
@@ -36,7 +36,7 @@ found_in r (y ∷ ys) (h ∷ hs) zero x are is =
     (ap Some (sym handle), ap (λ (f : Found). f.entity) here ∙ ap (entity_at r) (sym handle))
 found_in r (y ∷ ys) (h ∷ hs) (suc place) x are is = found_in r ys hs place x (first_found r y ys h hs are).1 is
 
--- The first n entities found are those of the first n handles.
+-- The first n entities found belong to the first n handles.
 taken_found : (r : Record) (n : ℕ) (resolved : List Resolved) (handles : List Handle) → AreFound r resolved handles → AreFound r (take n resolved) (take n handles)
 taken_found r zero [] [] are = refl
 taken_found r (suc n) [] [] are = refl
@@ -49,8 +49,7 @@ taken_found r (suc n) (x ∷ xs) (h ∷ hs) are =
     let here = both.0 in
     ap (λ f. f ∷ map found_by (take n xs)) here ∙ ap (λ l. found_at r h ∷ l) others
 
--- If an entity was found at a position among the first n handles, it is the entity of the handle at
--- that position.
+-- An entity found among the first n handles belongs to the handle at the same position.
 pub used_in : (r : Record) (handles : List Handle) (resolved : List Resolved) (n place : ℕ) (used : Resolved) → AreFound r resolved handles → slice_get (take n resolved) place ≡ Some used → IsUsedFor r (slice_get (take n handles) place) (Some used)
 used_in r handles resolved n place used are is =
     let both = found_in r (take n resolved) (take n handles) place used (taken_found r n resolved handles are) is in (both.0, record { found = both.1 })
@@ -68,7 +67,7 @@ nothing_in r handles resolved n place are is = none_in r (take n resolved) (take
 
 -- ---- Names
 
--- The Name of the entity found at the next position is the Name of the handle at that position.
+-- The Name of the entity at a position is the Name of the handle at the same position.
 pub next_named : (r : Record) (resolved : List Resolved) (handles : List Handle) (place : ℕ) (x : Resolved) (name : List ℕ) → AreFound r resolved handles → slice_get resolved place ≡ Some x → name ≡ entity_name x.handle (entity_seen x.entity) → Some name ≡ option_map (name_of r) (slice_get handles place)
 unfolding name_of
 next_named r resolved handles place x name are is name_is =
@@ -84,7 +83,7 @@ head_of_map f [] n x y at is = absurd cc
 head_of_map f (z ∷ zs) zero x y at is = absurd cc
 head_of_map f (z ∷ zs) (suc n) x y at is = cc
 
--- If the handle at the next position equals the first handle, its Name is the first Name.
+-- A handle that equals the first handle has the first Name.
 pub next_again : (r : Record) (resolved : List Resolved) (handles : List Handle) (names : List (List ℕ)) (place : ℕ) (first x : Resolved) (name : List ℕ) → AreFound r resolved handles → names ≡ map (name_of r) (take (length names) handles) → slice_get resolved 0 ≡ Some first → slice_get resolved place ≡ Some x → slice_get names 0 ≡ Some name → first.handle.number ≡ x.handle.number → Some name ≡ option_map (name_of r) (slice_get handles place)
 next_again r resolved handles names place first x name are names_are at_first at_x at_name same =
     let one = found_in r resolved handles 0 first are at_first in
@@ -93,8 +92,7 @@ next_again r resolved handles names place first x name are names_are at_first at
     let again : name ≡ name_of r x.handle = named ∙ ap (name_of r) (same_handle first.handle x.handle same) in
     sym (ap (option_map (name_of r)) other.0 ∙ ap Some (sym again))
 
--- A prefix of a mapped list, followed by the next mapped element, is the prefix that is longer by
--- one.
+-- Adding the next mapped element to a prefix of a mapped list gives the next longer prefix.
 one_more : {X Y : Type 0} (f : X → Y) (xs : List X) (n m : ℕ) (y : Y) → m ≡ suc n → Some y ≡ option_map f (slice_get xs n) → map f (take n xs) ++ y ∷ [] ≡ map f (take m xs)
 one_more f [] n m y next is = absurd cc
 one_more f (x ∷ xs) zero m y next is =

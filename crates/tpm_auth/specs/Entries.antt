@@ -27,11 +27,11 @@ session_of r e = session_at r.sessions e.session
 abbrev pub is_password : Entry → Bool
 is_password e = e.session.number == password_handle.number
 
--- whether an entry's session decrypts the command's first parameter, or encrypts the first
--- parameter of the response
+-- whether an entry's session decrypts the command's first parameter
 abbrev pub decrypts : Entry → Bool
 decrypts e = of_session.decrypts e.attributes
 
+-- whether an entry's session encrypts the first parameter of the response
 abbrev pub encrypts : Entry → Bool
 encrypts e = of_session.encrypts e.attributes
 

@@ -113,8 +113,7 @@ authorize r c locality = do
       (refusal check.Others (at (place.Parameter 1) (plain code.Insufficient)))
   Ok grants
 
--- The code's result, and its grants for these entries and for those before them, match the
--- definition.
+-- The code's result and its list of the grants so far match the definition.
 abbrev pub AreGranted : Result (List (Option Grant)) Refused
     → Result (Unit {0}) Refused → List (Option Grant) → Type 0
 AreGranted granted (Ok u) grants = granted ≡ Ok grants

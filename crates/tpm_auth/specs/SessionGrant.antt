@@ -32,29 +32,30 @@ use Rattle.tpm_types.specs.declared.check.Check.TheVariants as check
 use Rattle.tpm_types.specs.declared.refused.Refused.{Refused}
 use Rattle.tpm_auth.specs.declared.session_grant.Grant.{Grant}
 
--- a session is bound to an entity as long as the entity has the Name and the authorization value
--- that it had when the session started
+-- whether a session is bound to an entity: the entity still has the Name and the authorization
+-- value that it had when the session started
 unfoldable pub is_bound_to : Record → Session → Handle → Bool
 is_bound_to r s handle =
     option_map_or (λ (b : Binding).
     bytes_eq b.name (name_of r handle) && bytes_eq b.auth_value (auth_value_of r handle))
     s.binding false
 
--- whether the policy requires the authorization value in the HMAC key; and whether it requires the
--- value as a password
+-- whether the policy requires the authorization value in the HMAC key
 abbrev pub is_in_key : Demand → Bool
 is_in_key demand.None = false
 is_in_key demand.AuthValue = true
 is_in_key demand.Password = false
 
+-- whether the policy requires the authorization value as a password
 abbrev pub is_password_demand : Demand → Bool
 is_password_demand demand.None = false
 is_password_demand demand.AuthValue = false
 is_password_demand demand.Password = true
 
--- whether the HMAC key includes the authorization value of the handle that an entry authorizes. For
--- an HMAC session it does, unless the session is bound to the handle. For a policy session it does
--- only if the policy requires it, whether or not the session is bound
+-- whether the HMAC key includes the authorization value of the handle that an entry authorizes. The
+-- key of an HMAC session includes the value, unless the session is bound to the handle. The key of
+-- a policy session includes the value only if the policy requires it, whether or not the session is
+-- bound
 abbrev pub has_value_in_key : SessionType → (bound : Bool) → Demand → Bool
 has_value_in_key type.Hmac bound demand = not bound
 has_value_in_key type.Policy bound demand = is_in_key demand
@@ -138,8 +139,9 @@ or_protection protection.Tries other = protection.Tries
 or_protection protection.Lockout other = protection.Lockout
 
 -- the dictionary-attack protection that applies to a session's entry. If the entry uses the
--- authorization value of a protected entity, in the HMAC key or as a password, it is the protection
--- of that entity. Otherwise, it is that of the entity to which the session was bound
+-- authorization value of a protected entity, in the HMAC key or as a password, this is the
+-- protection of that entity. Otherwise, it is the protection of the entity to which the session was
+-- bound
 unfoldable pub entry_protection : Record → Session → Option Grant → Protection
 entry_protection r s None = binding_protection s
 entry_protection r s (Some grant) =

@@ -93,8 +93,8 @@ fn check_password<K: Keep>(
     }
 }
 
-/// Checks the entry with this number, and whether it authorizes the handle that it has to
-/// authorize, if any. Returns what the entry authorizes.
+/// Checks the entry with this number, which has to authorize the handle at its position, if there
+/// is one. Returns what the entry authorizes.
 #[tactic(auto, unfolding(crate::specs::Grant::grant))]
 fn check_grant<K: Keep>(
     keep: &K,
@@ -134,8 +134,8 @@ fn check_grant<K: Keep>(
     }
 }
 
-/// Checks the remaining entries, after those whose grants are already in `grants`, and adds the
-/// grant of each. Returns the error of the first entry that fails.
+/// Checks the remaining entries, and adds their grants to the grants of the earlier entries.
+/// Returns the error of the first entry that fails.
 fn check_grants<K: Keep>(
     keep: &K,
     sent: &Sent,
@@ -179,7 +179,7 @@ fn resolved_at<'a>(resolved: &[Resolved<'a>], place: usize) -> Resolved<'a>
 }
 
 /// The Name of the next handle. `names` contains the Names of the handles before it. If the handle
-/// equals the first one, the first Name is copied.
+/// equals the first handle, the first Name is copied.
 fn next_name<K: Keep>(keep: &K, sent: &Sent, names: &[Name], latest: &mut LatestName) -> Name
     requires resolved { IsResolved (K.record_of keep.now) sent.now }
     requires named { names.now ≡ map (name_of (K.record_of keep.now))
@@ -215,8 +215,8 @@ fn make_names<K: Keep>(
     }
 }
 
-/// Checks whether each handle is authorized by the entry at the same position, and then the
-/// remaining entries. Returns what each entry authorizes.
+/// Checks that the entry at each position authorizes the handle at this position, and then checks
+/// the remaining entries. Returns what each entry authorizes.
 fn check_resolved<K: Keep>(keep: &K, sent: &Sent, cache: &mut Cache) -> Result<Grants, Refused>
     requires { IsResolved (K.record_of keep.now) sent.now }
     ensures { Gives granted_by (grants_pass (K.record_of keep.now) (whole_of sent.now.command.now)
@@ -296,8 +296,7 @@ fn check_one_password<K: Keep>(
     Ok(Grants { grants: entries })
 }
 
-/// Checks all entries in order. Nothing is hashed if there is no entry, or if the only one is a
-/// password.
+/// Checks all entries in order. Nothing is hashed if there is no entry, or only a password entry.
 fn check_all<K: Keep>(
     keep: &K,
     command: &Command,

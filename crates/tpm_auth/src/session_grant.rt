@@ -53,8 +53,8 @@ fn or_protection(protection: Protection, other: Protection) -> Protection
     }
 }
 
-/// The dictionary-attack protection for a session's entry that has to authorize this handle. It is
-/// that of the entity whose authorization value the entry uses.
+/// The dictionary-attack protection for a session's entry that has to authorize this handle: the
+/// protection of the entity whose authorization value the entry uses.
 #[tactic(auto, unfolding(crate::specs::SessionGrant::entry_protection, tpm_record::specs::Entity::protection_of))]
 fn granted_protection<K: Keep>(keep: &K, session: &Session, granted: &Granted) -> Protection
     requires { IsToGrant (K.record_of keep.now) session.now granted.now }
@@ -69,7 +69,7 @@ fn granted_protection<K: Keep>(keep: &K, session: &Session, granted: &Granted) -
     }
 }
 
-/// The dictionary-attack protection for a session's entry. It is that of the entity whose
+/// The dictionary-attack protection for a session's entry: the protection of the entity whose
 /// authorization value the entry uses.
 #[tactic(auto, unfolding(crate::specs::SessionGrant::entry_protection))]
 fn entry_protection<K: Keep>(keep: &K, session: &Session, granted: Option<Granted>) -> Protection

@@ -7,8 +7,7 @@ use Rattle.tpm_actions_capability.specs.declared.element.Element.{Element}
 use Rattle.tpm_commands.specs.declared.command_code.CommandCode.{CommandCode}
 use Rattle.tpm_completion.specs.Capability.{commands_by}
 
--- appending the elements for code `i + 1` to those for the first `i` codes gives the elements for
--- the first `i + 1` codes
+-- listing one more code appends the elements of that code
 pub commands_more : (codes : List CommandCode) (i : ℕ) (d : CommandCode) (so new : List Element) → i < length codes → so ≡ flat_map commands_by (take i codes) → new ≡ so ++ commands_by (get_or codes i d) → new ≡ flat_map commands_by (take (i + 1) codes)
 commands_more codes i d so new below is more =
     let one : flat_map commands_by (get_or codes i d ∷ []) ≡ commands_by (get_or codes i d) = append-nil (commands_by (get_or codes i d)) in

@@ -5,7 +5,7 @@ use Rattle.std.specs.Prelude.{◌==◌}
 use Rattle.std.specs.Str.{bytes_eq}
 use Rattle.tpm_bytes.specs.declared.cursor.Short.{Short}
 use Rattle.tpm_record.specs.Record.{Record}
-use Rattle.tpm_step.specs.Answer.{framed}
+use Rattle.tpm_step.specs.step.Answer.{framed}
 use Rattle.tpm_completion.specs.Answer.{is_refusal}
 use Rattle.tpm_completion.specs.Capability.{asked_at, capability_told, handles_told, told_of}
 use Rattle.tpm_completion.specs.Command.{Command, plain_command, tag_of}
@@ -34,7 +34,7 @@ and_right : (a b : Bool) → b ≡ false → (a && b) ≡ false
 and_right false b e = refl
 and_right true b e = e
 
--- No refusal after which the layer may answer is this response.
+-- The response is not one of the refusals after which the layer may answer.
 record NoGap (response : List ℕ) : Type 0 where
   code : is_refusal 0x143 response ≡ false
   value : is_refusal 0x1c4 response ≡ false
@@ -68,7 +68,7 @@ none_of_three true b c x y z w e = absurd (false≢true (sym e))
 no_handles : (r : Record) (c : Completion) (asked : Asked) (kind : ℕ) → ((kind == 0x02) || ((kind == 0x03) || (kind == 0x80))) ≡ false → handles_told r c asked kind ≡ None
 no_handles r c asked kind none = none_of_three (kind == 0x02) (kind == 0x03) (kind == 0x80) _ _ _ None none
 
--- if no test of the capability selects a list of the layer, the result is `None`
+-- if no test of the capability selects a list, the result is `None`
 none_by : {X : Type 0} (handles commands properties kinds : Bool) (of_handles of_commands of_properties : Option X) → (commands || (properties || (handles && kinds))) ≡ false → (kinds ≡ false → of_handles ≡ None) → (if handles then of_handles else (if commands then of_commands else (if properties then of_properties else None))) ≡ None
 none_by true false false kinds h c p none of = of none
 none_by false false false kinds h c p none of = refl
@@ -128,7 +128,7 @@ none_sent r c buffer response gap =
     if_false (r.fixed.started && is_refusal 0x143 response) _ None
     (and_right r.fixed.started (is_refusal 0x143 response) (no_gap response gap).code)
 
--- if neither refusal is the response, the layer has no answer
+-- the layer has no answer if the response is neither of the two refusals
 neither : (stopped a b : Bool) (x y : Option Reply) → a ≡ false → b ≡ false → (if stopped then None else (if a then x else (if b then y else None))) ≡ None
 neither true a b x y e f = refl
 neither false false false x y e f = refl

@@ -1,4 +1,4 @@
--- The answers to the completion of a sequence depend only on all its data.
+-- When a sequence completes, the answer depends only on all its data.
 use Rattle.std.proofs.Common.{◌≡◌, ℕ, Bool, List, [], ◌∷◌, Option, Some, refl, ap, ap₂, ◌∙◌}
 use Rattle.std.specs.Prelude.{if◌then◌else◌}
 use Rattle.tpm_hash_state.proofs.Absorbing.{digest_is_hash}

@@ -1,5 +1,5 @@
--- When a list is written, the bytes written so far, followed by the encodings of the remaining
--- elements, are the whole encoding.
+-- While a list is written, the bytes written so far, followed by the encodings of the remaining
+-- elements, equal the whole encoding.
 use Rattle.std.proofs.Common.{arith, ◌≡◌, ℕ, zero, suc, ◌-◌, ◌≢◌, true, false, List, ◌∷◌, ◌++◌, filter, take, refl, ap, sym, ◌∙◌}
 use Rattle.std.proofs.lemmas.List.{append_assoc}
 use Rattle.std.proofs.lemmas.List.Concat.{flat_map-cons}
@@ -8,7 +8,7 @@ use Rattle.tpm_completion.specs.Listing.{text_of, told_text}
 use Rattle.tpm_actions_capability.specs.declared.element.Element.{Element}
 use Rattle.tpm_completion.specs.declared.listing.Form.{Form}
 
--- after an element is written, one element fewer may be written
+-- after an element is written, the number of elements that may still be written is one less
 pub told_one : (form : Form) (from left : ℕ) (text new : List ℕ) (e : Element) (es : List Element) → left ≢ 0 → is_from from e ≡ true → new ≡ text ++ told_text form e → new ++ text_of form from (left - 1) es ≡ text ++ text_of form from left (e ∷ es)
 told_one form from zero text new e es some is told = absurd (some refl)
 told_one form from (suc left) text new e es some is told =

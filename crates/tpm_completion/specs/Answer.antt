@@ -2,13 +2,13 @@
 -- (command and response structures), and Part 2, section 6.6 (TPM_RC).
 use Rattle.std.specs.Prelude.{ℕ, Bool, List, []}
 use Rattle.std.specs.Str.{bytes_eq}
-use Rattle.tpm_step.specs.Answer.{framed}
+use Rattle.tpm_step.specs.step.Answer.{framed}
 
--- the response that reports success, with these bytes after its header; below, the response that
--- reports an error code
+-- the response that reports success, with these bytes after its header
 abbrev pub success : List ℕ → List ℕ
 success body = framed 0x8001 0 body
 
+-- the response that reports this error code, with nothing after its header
 abbrev pub refusal : ℕ → List ℕ
 refusal code = framed 0x8001 code []
 

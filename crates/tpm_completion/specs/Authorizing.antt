@@ -21,37 +21,38 @@ use Rattle.tpm_completion.specs.declared.completion.Completion.{Completion}
 
 -- ---- refusals
 
--- the refusal of handle n, by check G6
+-- check G6's refusal of handle n
 abbrev pub handle_refused : ℕ → ResponseCode → Refused
 handle_refused n fault = refusal check.Handles (at (place.Handle n) (plain fault))
 
--- the refusal of entry n, by check G8
+-- check G8's refusal of entry n
 abbrev pub entry_refused : ℕ → ResponseCode → Refused
 entry_refused n fault = refusal check.Entries (entry_fault n fault)
 
--- the refusal if entry n has the wrong password, by check G9. It is no failed try, because sequence
+-- check G9's refusal of a wrong password in entry n. It is not a failed try, because sequence
 -- objects are not protected against dictionary attacks
 abbrev pub password_refused : ℕ → Refused
 password_refused n = refusal check.Authorization (entry_fault n code.BadAuth)
 
--- the refusal if an entry is missing, by check G7
+-- check G7's refusal if an entry is missing
 abbrev pub missing_refused : Refused
 missing_refused = refusal check.Sessions (plain code.AuthMissing)
 
--- the refusal if handle 1, or handle 2, does not name a sequence object, by check G6
+-- check G6's refusal if handle 1 or handle 2 does not name a sequence object; `reference` says
+-- which handle
 abbrev pub absent_refused : ResponseCode → Refused
 absent_refused reference = refusal check.Handles (plain reference)
 
 -- ---- handles
 
--- handle n of a command, and the remaining bytes: INSUFFICIENT if it is truncated
+-- handle n of a command, and the bytes after it; INSUFFICIENT if the handle is truncated
 unfoldable pub handle_at : (n : ℕ) → List ℕ → Result (Handle × List ℕ) Refused
 handle_at n text = do
   number ← or_fault (number_at w32 text) (handle_refused n code.Insufficient)
   Ok (numbered number.0, number.1)
 
--- the slot of the sequence object that handle n of a command names: VALUE if the handle is not that
--- of a transient object, and `reference` if it does not name a sequence object
+-- the slot of the sequence object that handle n of a command names. The refusal is VALUE if the
+-- handle is not a transient object's, and `reference` if it does not name a sequence object
 unfoldable pub sequence_named : Completion → (n : ℕ) → (reference : ResponseCode) → Handle
     → Result ℕ Refused
 sequence_named c n reference handle = do
@@ -60,14 +61,14 @@ sequence_named c n reference handle = do
 
 -- ---- entries
 
--- the entries at the start of the bytes, and the remaining bytes: AUTHSIZE if the authorization
+-- the entries at the start of the bytes, and the remaining bytes; AUTHSIZE if the authorization
 -- area is malformed
 unfoldable pub entries_at : List ℕ → Result (List Entry × List ℕ) Refused
 entries_at text = checked check.Entries (area_at text)
 
--- the checks of entry n: SIZE if its nonce or password has more than 32 bytes; HANDLE if it is the
--- entry of a session, since only passwords authorize these commands; RESERVED_BITS or ATTRIBUTES if
--- an attribute other than continueSession is set
+-- the checks of entry n. They refuse with SIZE if the nonce or password has more than 32 bytes;
+-- with HANDLE if the entry is a session's, since only passwords authorize these commands; with
+-- RESERVED_BITS or ATTRIBUTES if an attribute other than continueSession is set
 unfoldable pub is_password_entry : (n : ℕ) → Entry → Result (Unit {0}) Refused
 is_password_entry n e = do
   sizes ← refused_if (nat_lt 32 (length e.nonce) || nat_lt 32 (length e.hmac))
@@ -77,7 +78,8 @@ is_password_entry n e = do
   reserved ← refused_if (has_reserved_bits e.attributes) (entry_refused n code.ReservedBits)
   refused_if (audits e.attributes || uses_cipher e.attributes) (entry_refused n code.Attributes)
 
--- the only entry of a command with one handle: HANDLE for a second entry, which authorizes nothing
+-- the only entry of a command with one handle. A second entry authorizes nothing, and is refused
+-- with HANDLE
 unfoldable pub only_entry : List Entry → Result Entry Refused
 only_entry [] = Err missing_refused
 only_entry (e ∷ []) = do
@@ -87,8 +89,8 @@ only_entry (e ∷ f ∷ more) = do
   valid ← is_password_entry 1 e
   Err (entry_refused 2 code.Handle)
 
--- the two entries of a command with two handles: AUTH_MISSING if there is only one entry, and
--- HANDLE for a third entry
+-- the two entries of a command with two handles. A missing second entry is refused with
+-- AUTH_MISSING, a third entry with HANDLE
 unfoldable pub two_entries : List Entry → Result (Entry × Entry) Refused
 two_entries [] = Err missing_refused
 two_entries (e ∷ []) = do

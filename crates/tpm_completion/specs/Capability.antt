@@ -32,8 +32,8 @@ asked_at text = do
   Ok (record { capability = capability.0; property = property.0; count = count.0 })
 
 -- ---- algorithms
--- the algorithms with their attributes (TPMA_ALGORITHM): symmetric is 2, hash 4, object 8, signing
--- 100, encrypting 200, and method 400
+-- the algorithms with their attributes (TPMA_ALGORITHM). In hexadecimal, symmetric is 2, hash 4,
+-- object 8, signing 100, encrypting 200, and method 400
 
 abbrev pub algorithm_elements : List Element
 algorithm_elements =
@@ -51,9 +51,9 @@ algorithm_elements =
 -- ---- commands, with their attributes (TPMA_CC): the number of handles in bits 25 to 27; bit 28 if
 -- the response has a handle; bit 24 (flushed) if the command removes a sequence object
 
--- the layer's own commands that are listed just before a command of the device: SequenceComplete and
--- IncrementalSelfTest; StirRandom; HMAC_Start and SequenceUpdate; ContextLoad and ContextSave;
--- GetTestResult and Hash; EventSequenceComplete and HashSequenceStart; TestParms
+-- the layer's own commands that directly precede a command of the device in the list:
+-- SequenceComplete and IncrementalSelfTest; StirRandom; HMAC_Start and SequenceUpdate; ContextLoad
+-- and ContextSave; GetTestResult and Hash; EventSequenceComplete and HashSequenceStart; TestParms
 abbrev pub own_before : CommandCode → List Element
 own_before command.SelfTest = element 0x13e 0x0300_013e ∷ element 0x142 0x142 ∷ []
 own_before command.PolicyNv = element 0x146 0x146 ∷ []
@@ -64,8 +64,8 @@ own_before command.PolicyGetDigest = element 0x185 0x0500_0185 ∷ element 0x186
 own_before command.PolicyPassword = element 0x18a 0x18a ∷ []
 own_before _ = []
 
--- the element of a command, preceded by those of the layer's own commands that are listed just
--- before it
+-- the elements of the layer's own commands that directly precede a command, and the element of the
+-- command itself
 unfoldable pub commands_by : CommandCode → List Element
 commands_by code = own_before code ++ command_element code ∷ []
 
@@ -112,8 +112,8 @@ refused_of asked =
     Some (listing form.Value asked.capability asked.property asked.count [])
     else None))
 
--- the layer's answer to TPM2_GetCapability, without its header, if the layer has one. It replaces
--- the device's answer, or its refusal with VALUE for parameter 1
+-- the layer's answer to TPM2_GetCapability, without its header, if the layer has one. The answer
+-- replaces the device's answer, or the device's refusal with VALUE for parameter 1
 unfoldable pub capability_told : Record → Completion → Asked → (was_told : Bool) → List ℕ
     → Option (List ℕ)
 capability_told r c asked was_told response =

@@ -34,7 +34,7 @@ authorized_command buffer = do
   sized ← refused_if (not (size.0 == length buffer)) too_short
   Ok (record { code = code.0; parameters = code.1 })
 
--- the tag of a buffer, or 0 if it is too short for one
+-- the tag of a buffer, or 0 if the buffer is too short for a tag
 abbrev pub tag_in : Result (ℕ × List ℕ) Short → ℕ
 tag_in (Ok tag) = tag.0
 tag_in (Err e) = 0

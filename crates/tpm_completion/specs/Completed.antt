@@ -4,11 +4,11 @@ use Rattle.std.specs.Prelude.{ℕ, Bool, true, false, List, Option, Some, None, 
 use Rattle.tpm_machine.specs.Drawn.{drawn_by}
 use Rattle.tpm_object.specs.declared.object.Object.{Object}
 use Rattle.tpm_record.specs.Record.{Record}
-use Rattle.tpm_step.specs.Events.{PlainEvent, Given, Cycled, Placed}
-use Rattle.tpm_step.specs.Step.{step}
+use Rattle.tpm_step.specs.step.Events.{PlainEvent, Given, Cycled, Placed}
+use Rattle.tpm_step.specs.step.Step.{step}
 use Rattle.tpm_context.specs.declared.fault.ContextFault.{ContextFault}
 use Rattle.tpm_completion.specs.Completion.{forgotten}
-use Rattle.tpm_completion.specs.Execution.{Seen, answered, asked_behind, opened_behind, placed_behind, reply_behind, sent_behind, sent_effect, sent_event, unopened_behind}
+use Rattle.tpm_completion.specs.Execution.{Seen, answered, asked_after, opened_after, placed_after, reply_after, sent_after, sent_effect, sent_event, unopened_after}
 use Rattle.tpm_completion.specs.declared.completion.Completion.{Completion}
 use Rattle.tpm_completion.specs.declared.sending.Sent.{Sent}
 
@@ -22,27 +22,27 @@ passed c old event = record {
 
 -- the effect of loading the object in a context, or of refusing the context, after the device
 -- refused the command
-abbrev pub loaded_behind : Seen → Result Object ContextFault → Seen
-loaded_behind first (Ok object) = placed_behind first (step first.step.after (Placed object))
-loaded_behind first (Err fault) = unopened_behind first fault
+abbrev pub loaded_after : Seen → Result Object ContextFault → Seen
+loaded_after first (Ok object) = placed_after first (step first.step.after (Placed object))
+loaded_after first (Err fault) = unopened_after first fault
 
--- the effect after the device refused a command: it executes the command that the layer sends, if
--- there is one, or the layer may answer
-abbrev pub sending_behind : Seen → (buffer : List ℕ) → (locality : ℕ) → Option Sent → Seen
-sending_behind first buffer locality (Some sent) =
+-- the effect after the device refused a command: the device executes the command that the layer
+-- sends or, if there is none, the layer may answer
+abbrev pub sending_after : Seen → (buffer : List ℕ) → (locality : ℕ) → Option Sent → Seen
+sending_after first buffer locality (Some sent) =
     sent_effect first (passed first.layer first.step.after (sent_event sent locality)) sent
-sending_behind first buffer locality None = answered first (reply_behind first buffer)
+sending_after first buffer locality None = answered first (reply_after first buffer)
 
 -- the effect after the device has executed a command: the context of an object is loaded, or the
 -- layer sends a command to the device, or it may answer
-abbrev pub done_behind : Seen → (buffer : List ℕ) → (locality : ℕ) → Option (List ℕ) → Seen
-done_behind first buffer locality (Some context) =
-    loaded_behind first (opened_behind first context)
-done_behind first buffer locality None =
-    sending_behind first buffer locality (sent_behind first buffer)
+abbrev pub done_after : Seen → (buffer : List ℕ) → (locality : ℕ) → Option (List ℕ) → Seen
+done_after first buffer locality (Some context) =
+    loaded_after first (opened_after first context)
+done_after first buffer locality None =
+    sending_after first buffer locality (sent_after first buffer)
 
 abbrev pub behind : Seen → (buffer : List ℕ) → (locality : ℕ) → Seen
-behind first buffer locality = done_behind first buffer locality (asked_behind first buffer)
+behind first buffer locality = done_after first buffer locality (asked_after first buffer)
 
 abbrev pub completed_with : Completion → Record → PlainEvent → Seen
 completed_with c old (Given buffer locality elapsed random) =

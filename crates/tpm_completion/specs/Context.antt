@@ -1,12 +1,14 @@
 -- The context of a session: a token that names the slot in which the session stays on the device.
 -- TPM 2.0 Library, Part 2, section 14 (TPMS_CONTEXT: sequence, savedHandle, hierarchy,
 -- contextBlob), and Part 1, section 30 (context management).
-use Rattle.std.specs.Prelude.{ℕ, not, Bool, false, List, [], ◌∷◌, ◌++◌, Result, Ok, Err}
+use Rattle.std.specs.Prelude.{ℕ, ◌==◌, ◌||◌, not, Bool, false, List, [], ◌∷◌, ◌++◌, Result, Ok, Err}
 use Rattle.std.specs.Int.{w32, w64, to_be_bytes}
 use Rattle.std.specs.Str.{bytes_eq}
 use Rattle.tpm_bytes.specs.Reading.{◌>>=◌, bytes_at, number_at, refused_if, too_short}
 use Rattle.tpm_bytes.specs.Writing.{sized_text}
 use Rattle.tpm_bytes.specs.declared.cursor.Short.{Short}
+use Rattle.tpm_context.specs.Head.{saved_number}
+use Rattle.tpm_context.specs.declared.head.SavedHandle.TheVariants as saved
 use Rattle.tpm_types.specs.declared.handle.Handle.{Handle}
 use Rattle.tpm_types.specs.Handle.{is_session, null_handle, numbered}
 use Rattle.tpm_completion.specs.declared.context.Token.{Token}
@@ -30,8 +32,8 @@ context_text start token =
     to_be_bytes w64 token.context ++ to_be_bytes w32 token.handle.number
     ++ to_be_bytes w32 null_handle.number ++ sized_text (token_text start token.handle)
 
--- the token in a context: the number is in the first bytes, and the handle is 26 bytes after the
--- number. The bytes must be exactly the token's context
+-- the token in a context. Its number comes first, and its handle 26 bytes after the number. The
+-- bytes must be exactly the token's context
 unfoldable pub token_at : (start : ℕ) → List ℕ → Result Token Short
 token_at start text = do
   context ← number_at w64 text
@@ -54,7 +56,19 @@ abbrev pub is_of_session : Result Handle Short → Bool
 is_of_session (Ok handle) = is_session handle
 is_of_session (Err e) = false
 
--- whether the savedHandle of a context is the handle of a session; every other context is read as
--- an object's
+-- whether the savedHandle of a context is the handle of a session
 abbrev pub names_session : List ℕ → Bool
 names_session context = is_of_session (saved_handle_at context)
+
+abbrev pub is_of_sequence : Result Handle Short → Bool
+is_of_sequence (Ok handle) = handle.number == saved_number saved.Sequence
+is_of_sequence (Err e) = false
+
+-- whether the savedHandle of a context is that of a sequence object
+abbrev pub names_sequence : List ℕ → Bool
+names_sequence context = is_of_sequence (saved_handle_at context)
+
+-- whether the layer loads a context without the device: the context of a session or of a sequence
+-- object. Every other context is read as an object's
+abbrev pub names_own : List ℕ → Bool
+names_own context = names_session context || names_sequence context

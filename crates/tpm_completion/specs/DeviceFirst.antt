@@ -3,7 +3,7 @@ use Rattle.std.specs.Prelude.{◌≡◌, ℕ, ◌/◌, ◌^◌, ◌==◌, ◌&&�
 use Rattle.std.specs.Str.{bytes_eq}
 use Rattle.tpm_bytes.specs.declared.cursor.Short.{Short}
 use Rattle.tpm_record.specs.Record.{Record}
-use Rattle.tpm_step.specs.Answer.{framed}
+use Rattle.tpm_step.specs.step.Answer.{framed}
 use Rattle.tpm_completion.specs.Answer.{is_refusal}
 use Rattle.tpm_completion.specs.Capability.{asked_at}
 use Rattle.tpm_completion.specs.Command.{Command, plain_command}
@@ -45,8 +45,9 @@ abbrev pub asks_list : (buffer : List ℕ) → Bool
 asks_list buffer = asks_command (plain_command buffer)
 
 -- The client gets the device's response, byte for byte, no object is loaded, no command is sent to
--- the device, and the layer's state is unchanged. There are two exceptions: the device refused the command as in `is_gap`, or it
--- answered a TPM2_GetCapability that asks for something that the layer lists.
+-- the device, and the layer's state is unchanged. There are two exceptions: the device refused the
+-- command as in `is_gap`, or it answered a TPM2_GetCapability that asks for something that the
+-- layer lists.
 abbrev pub DeviceFirst : Type 0
 DeviceFirst =
     (r : Record) (c : Completion) (buffer response : List ℕ) (was_told : Bool)

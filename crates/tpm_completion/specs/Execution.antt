@@ -8,9 +8,9 @@ use Rattle.tpm_machine.specs.declared.machine.Machine.{Machine}
 use Rattle.tpm_object.specs.declared.object.Object.{Object}
 use Rattle.tpm_record.specs.Objects.{next_handle}
 use Rattle.tpm_record.specs.Record.{Record}
-use Rattle.tpm_step.specs.Events.{PlainEvent, Given, Cycled, Placed}
-use Rattle.tpm_step.specs.Execution.{Executes}
-use Rattle.tpm_step.specs.Step.{Stepped, outcome_step}
+use Rattle.tpm_step.specs.step.Events.{PlainEvent, Given, Cycled, Placed}
+use Rattle.tpm_step.specs.step.Execution.{Executes}
+use Rattle.tpm_step.specs.step.Step.{Stepped, outcome_step}
 use Rattle.tpm_step.specs.declared.event.Outcome.{Outcome}
 use Rattle.tpm_types.specs.Rc.{rc_number}
 use Rattle.tpm_context.specs.Head.{fault_rc}
@@ -30,7 +30,7 @@ pub record Seen : Type 0 where
   pub layer : Completion
   pub drawn : ℕ
 
--- the effect that a machine, a layer and an outcome of the code represent
+-- the effect that a machine, a layer and an outcome represent
 abbrev pub seen_of : {K S O P N : Type 0} → (K → Record) → Machine K S O P N → Completion → Outcome
     → Seen
 seen_of record_of machine layer outcome = record {
@@ -39,7 +39,7 @@ seen_of record_of machine layer outcome = record {
   drawn = latest_drawn machine;
 }
 
--- this effect, except that the client gets the layer's response
+-- the same effect, except that the response and the layer's new state are those of a reply
 abbrev pub answered : Seen → Reply → Seen
 answered seen reply = record {
   step = record seen.step { response = reply.response };
@@ -47,9 +47,9 @@ answered seen reply = record {
   drawn = seen.drawn;
 }
 
--- The device executes an event without the layer. If the device follows a history, after the event
--- it follows that history extended by the event. The layer's state only loses the contexts of
--- sessions that no longer exist.
+-- The device executes an event without the layer. If the device followed a history, it now follows
+-- that history extended by the event. The layer's state only loses contexts of sessions that no
+-- longer exist and, if the device is not started, the sequence objects (`forgotten`).
 pub record Passes (can : Bool) (c : Completion) (old : Record) (event : PlainEvent) (seen : Seen)
     : Type 0
   where
@@ -62,17 +62,17 @@ pub record Passes (can : Bool) (c : Completion) (old : Record) (event : PlainEve
 
 -- the object in the context that a command is to load, or why it cannot be loaded; `first` is the
 -- command's effect on the device
-abbrev pub opened_behind : Seen → (context : List ℕ) → Result Object ContextFault
-opened_behind first context = object_opened first.step.after first.layer context
+abbrev pub opened_after : Seen → (context : List ℕ) → Result Object ContextFault
+opened_after first context = object_opened first.step.after first.layer context
 
 -- the effect of refusing the context: an error response, and no other change
-abbrev pub unopened_behind : Seen → ContextFault → Seen
-unopened_behind first fault = answered first (refused first.layer (rc_number (fault_rc fault)))
+abbrev pub unopened_after : Seen → ContextFault → Seen
+unopened_after first fault = answered first (refused first.layer (rc_number (fault_rc fault)))
 
--- the effect after the device has placed the object; the row is still that of the command, which
--- the device refused
-abbrev pub placed_behind : Seen → (placing : Stepped) → Seen
-placed_behind first placing =
+-- the effect after the device has placed the object. The row remains that of the client's command,
+-- which the device refused
+abbrev pub placed_after : Seen → (placing : Stepped) → Seen
+placed_after first placing =
     let reply : Reply = placed_reply first.layer (next_handle first.step.after.objects) in
     record {
       step = record first.step { response = reply.response; after = placing.after };
@@ -82,8 +82,8 @@ placed_behind first placing =
 
 -- the effect if memory for the object ran out: the response is MEMORY (904), and the device and the
 -- layer are unchanged
-abbrev pub unplaced_behind : Seen → Seen
-unplaced_behind first = record (answered first (refused first.layer 0x904)) { drawn = 0 }
+abbrev pub unplaced_after : Seen → Seen
+unplaced_after first = record (answered first (refused first.layer 0x904)) { drawn = 0 }
 
 -- After a command with the effect `first`, the device executes the event that places an object.
 pub record ExecutesPlacing (can : Bool) (first : Seen) (object : Object) (placing : Stepped) : Type 0
@@ -96,30 +96,30 @@ pub record ExecutesPlacing (can : Bool) (first : Seen) (object : Object) (placin
 abbrev pub PlacesIf : (can refused : Bool) → Seen → Object → Seen → Type 0
 PlacesIf can false first object seen =
     (placing : Stepped) × ExecutesPlacing can first object placing
-    × (seen ≡ placed_behind first placing)
-PlacesIf can true first object seen = (can ≡ true) × (seen ≡ unplaced_behind first)
+    × (seen ≡ placed_after first placing)
+PlacesIf can true first object seen = (can ≡ true) × (seen ≡ unplaced_after first)
 
 -- After the device refused a TPM2_ContextLoad, the object in the context is placed, or the context
 -- is refused.
 abbrev pub Loads : (can : Bool) → Seen → Result Object ContextFault → Seen → Type 0
 Loads can first (Ok object) seen = (refused : Bool) × PlacesIf can refused first object seen
-Loads can first (Err fault) seen = seen ≡ unopened_behind first fault
+Loads can first (Err fault) seen = seen ≡ unopened_after first fault
 
 -- ---- a command for which the layer sends a command to the device
 
 -- the command that the layer sends, if any; `first` is the effect of the client's command on the
 -- device
-abbrev pub sent_behind : Seen → (buffer : List ℕ) → Option Sent
-sent_behind first buffer =
+abbrev pub sent_after : Seen → (buffer : List ℕ) → Option Sent
+sent_after first buffer =
     sent_for first.step.after first.layer buffer first.step.response
 
--- the event of the command that is sent. It follows the client's command at once, and may draw only
--- zeros; it draws nothing
+-- the event of the command that the layer sends. It follows the client's command at once. The
+-- command draws no random bytes; the event contains zeros
 abbrev pub sent_event : Sent → (locality : ℕ) → PlainEvent
 sent_event sent locality = Given sent.command locality 0 (replicate 256 0)
 
--- the effect after the device executed the command that was sent, with the effect `second`; the row
--- is still that of the client's command, which the device refused
+-- the effect after the device executed the command that the layer sent; `second` is that command's
+-- own effect. The row remains that of the client's command, which the device refused
 abbrev pub sent_effect : (first second : Seen) → Sent → Seen
 sent_effect first second sent =
     let reply : Reply =
@@ -134,13 +134,13 @@ sent_effect first second sent =
 
 -- the context of the object that a command is to load, if any; `first` is the command's effect on
 -- the device
-abbrev pub asked_behind : Seen → (buffer : List ℕ) → Option (List ℕ)
-asked_behind first buffer = context_asked first.step.after buffer first.step.response
+abbrev pub asked_after : Seen → (buffer : List ℕ) → Option (List ℕ)
+asked_after first buffer = context_asked first.step.after buffer first.step.response
 
 -- the layer's answer to a command that loads no object; `first` is the command's effect on the
 -- device
-abbrev pub reply_behind : Seen → (buffer : List ℕ) → Reply
-reply_behind first buffer =
+abbrev pub reply_after : Seen → (buffer : List ℕ) → Reply
+reply_after first buffer =
     reply first.step.after first.layer buffer first.step.response (first.step.row.check == 0)
 
 -- After the device refused a command, it executes the command that the layer sends, if there is
@@ -150,23 +150,23 @@ abbrev pub Sends : (can : Bool) → Seen → (buffer : List ℕ) → (locality :
 Sends can first buffer locality (Some sent) seen =
     (second : Seen) × Passes can first.layer first.step.after (sent_event sent locality) second
     × (seen ≡ sent_effect first second sent)
-Sends can first buffer locality None seen = seen ≡ answered first (reply_behind first buffer)
+Sends can first buffer locality None seen = seen ≡ answered first (reply_after first buffer)
 
 -- After the device has executed a command, the context of an object is loaded, or the layer sends a
 -- command to the device, or the layer answers, or the client gets the device's response.
 abbrev pub Behind : (can : Bool) → Seen → (buffer : List ℕ) → (locality : ℕ) → Option (List ℕ)
     → Seen → Type 0
 Behind can first buffer locality (Some context) seen =
-    Loads can first (opened_behind first context) seen
+    Loads can first (opened_after first context) seen
 Behind can first buffer locality None seen =
-    Sends can first buffer locality (sent_behind first buffer) seen
+    Sends can first buffer locality (sent_after first buffer) seen
 
 -- The device executes the command first, and the layer may answer afterwards.
 abbrev pub AsksFirst : Bool → Completion → Record → (buffer : List ℕ) → (locality elapsed : ℕ)
     → List ℕ → Seen → Type 0
 AsksFirst can c old buffer locality elapsed random seen =
     (first : Seen) × Passes can c old (Given buffer locality elapsed random) first
-    × Behind can first buffer locality (asked_behind first buffer) seen
+    × Behind can first buffer locality (asked_after first buffer) seen
 
 -- An event has this effect with the layer. The device alone executes a power cycle or a placed
 -- object.

@@ -10,14 +10,14 @@ use Rattle.tpm_actions_capability.specs.declared.element.Element.{Element}
 use Rattle.tpm_completion.specs.Completion.{session_context}
 use Rattle.tpm_completion.specs.declared.completion.Completion.{Completion}
 
--- whether a session with this context number is saved (if `saved` is true) or loaded (if it is
--- false); the number 0 means loaded
+-- whether a session with this context number is in the given state: saved if `saved` is true,
+-- otherwise loaded. The number 0 means loaded
 abbrev pub is_in_state : (saved : Bool) → (context : ℕ) → Bool
 is_in_state true context = not (context == 0)
 is_in_state false context = context == 0
 
--- the handle of the session in a slot, if it is saved (`saved` is true) or loaded (`saved` is
--- false)
+-- the handle of the session in a slot, if the session is saved (for `saved` true) or loaded (for
+-- `saved` false)
 unfoldable pub session_shown : Record → Completion → (saved : Bool) → ℕ → List Element
 session_shown r c saved place =
     if is_in_state saved (session_context c place) then session_element r place else []

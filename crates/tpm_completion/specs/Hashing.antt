@@ -36,8 +36,8 @@ hierarchy_at text = do
 abbrev pub is_generated : (message : List ℕ) → Bool
 is_generated message = starts_with nat_eq message (0xff ∷ 0x54 ∷ 0x43 ∷ 0x47 ∷ [])
 
--- the hierarchy of the ticket: the requested one, or TPM_RH_NULL if a restricted key may not sign
--- the digest of these data
+-- the hierarchy of the ticket: the requested hierarchy, or TPM_RH_NULL if a restricted key may not
+-- sign the digest of these data
 abbrev pub ticket_hierarchy : HierarchyHandle → (message : List ℕ) → HierarchyHandle
 ticket_hierarchy asked message = if is_generated message then kind.Null else asked
 

@@ -18,6 +18,7 @@ pub mod Reply
 pub mod Run
 pub mod Saving
 pub mod Sending
+pub mod SequenceLoading
 pub mod SequenceReply
 pub mod Sequenced
 pub mod SequenceRows
@@ -28,6 +29,6 @@ pub use Rattle.tpm_machine.specs.Drawn
 pub use Rattle.tpm_machine.specs.State
 pub use Rattle.tpm_machine.specs.Executions
 pub use Rattle.tpm_machine.specs.Follows
-pub use Rattle.tpm_step.specs.Events
-pub use Rattle.tpm_step.specs.Step
+pub use Rattle.tpm_step.specs.step.Events
+pub use Rattle.tpm_step.specs.step.Step
 pub use Rattle.tpm_record.specs.Record

@@ -8,20 +8,21 @@ use Rattle.tpm_context.specs.Context.{opened}
 use Rattle.tpm_context.specs.declared.fault.ContextFault.{ContextFault}
 use Rattle.tpm_completion.specs.Answer.{is_refusal}
 use Rattle.tpm_completion.specs.Command.{Command, plain_command}
-use Rattle.tpm_completion.specs.Context.{names_session}
+use Rattle.tpm_completion.specs.Context.{names_own}
 use Rattle.tpm_completion.specs.Saving.{Reply, binding_of, handle_given, refused}
 use Rattle.tpm_completion.specs.declared.completion.Completion.{Completion}
 
--- the context that a TPM2_ContextLoad (161) is to load, unless it is that of a session
+-- the context that a TPM2_ContextLoad (161) is to load, unless it is that of a session or of a
+-- sequence object
 abbrev pub object_context_in : Result Command Short → Option (List ℕ)
 object_context_in (Ok command) =
-    if (command.code == 0x161) && not (names_session command.parameters) then
+    if (command.code == 0x161) && not (names_own command.parameters) then
     Some command.parameters
     else None
 object_context_in (Err e) = None
 
--- the context of an object that a TPM2_ContextLoad is to load, if the device is started and refused
--- the command with COMMAND_CODE (143)
+-- the object's context in a TPM2_ContextLoad, if the device is started and refused the command with
+-- COMMAND_CODE (143)
 unfoldable pub context_asked : Record → (buffer response : List ℕ) → Option (List ℕ)
 context_asked r buffer response =
     if r.fixed.started && is_refusal 0x143 response then object_context_in (plain_command buffer)

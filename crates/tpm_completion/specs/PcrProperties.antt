@@ -5,9 +5,9 @@ use Rattle.std.specs.Prelude.{List, [], ◌∷◌}
 use Rattle.tpm_actions_capability.specs.declared.element.Element.{Element}
 use Rattle.tpm_completion.specs.Listing.{element}
 
--- for each property, the PCRs that have it: those that TPM2_Shutdown(STATE) saves; those that can
--- be extended or reset from each locality; those whose changes do not increment the update counter
--- (none); and those with a policy or an authorization value (none)
+-- for each property, the PCRs that have it: PCRs that TPM2_Shutdown(STATE) saves; PCRs that can be
+-- extended or reset from each locality; PCRs whose changes do not increment the update counter
+-- (none); PCRs with a policy or an authorization value (none)
 abbrev pub pcr_property_elements : List Element
 pcr_property_elements =
     element 0x00 0x00_ffff  -- SAVE

@@ -27,7 +27,7 @@ use Rattle.tpm_completion.specs.declared.completion.Completion.{Completion}
 abbrev pub own_count : ℕ
 own_count = 12
 
--- the number of all commands; the TPM 2.0 Library defines all of them
+-- the number of all commands, each of which the TPM 2.0 Library defines
 abbrev pub command_count : ℕ
 command_count = length all_codes + own_count
 
@@ -109,13 +109,13 @@ permanent_attributes f =
     + attribute_if (is_locked f.lockout.fields) 0x200
     + 0x400
 
--- TPMA_STARTUP_CLEAR: phEnable, shEnable, ehEnable and phEnableNV, since no command disables a
--- hierarchy; and orderly, if restartCount is not 0: the last TPM2_Startup was then a TPM Restart or
--- a TPM Resume, and a TPM2_Shutdown preceded it
+-- TPMA_STARTUP_CLEAR. phEnable, shEnable, ehEnable and phEnableNV are set, since no command
+-- disables a hierarchy. orderly is set if restartCount is not 0: the last TPM2_Startup was then a
+-- TPM Restart or a TPM Resume, after a TPM2_Shutdown
 abbrev pub startup_attributes : Fixed → ℕ
 startup_attributes f = 0xf + attribute_if (not (f.restart_count == 0)) 0x8000_0000
 
--- ---- what is there, and what there is place for
+-- ---- what is in use, and what is free
 
 -- the number of saved sessions if `saved` is true, otherwise of loaded sessions
 abbrev pub session_count : Record → Completion → (saved : Bool) → ℕ
@@ -124,7 +124,7 @@ session_count r c saved = length (sessions_shown r c saved)
 abbrev pub active_count : Record → Completion → ℕ
 active_count r c = session_count r c false + session_count r c true
 
--- how many transient objects are loaded
+-- the number of loaded transient objects
 abbrev pub object_count : Record → ℕ
 object_count r = length (object_elements r)
 
@@ -153,8 +153,8 @@ count_elements r c =
     ∷ element 0x20a (counter_count r.nv)  -- NV_COUNTERS
     ∷ []
 
--- the properties of features that the device does not have, which are 0 (a set of algorithms,
--- curves, a wait after a change of NV memory, an audit of commands); and the parameters of lockout
+-- the parameters of lockout, and the properties of features that the device does not have, which
+-- are 0: a set of algorithms, curves, a recovery time after NV writes, and command audit
 abbrev pub lockout_elements : LockoutState → List Element
 lockout_elements lockout =
     element 0x20c 0  -- ALGORITHM_SET

@@ -14,13 +14,14 @@ use Rattle.tpm_types.specs.Handle.{numbered}
 use Rattle.tpm_types.specs.Rc.{rc_number}
 use Rattle.tpm_types.specs.declared.refused.Refused.{Refused}
 use Rattle.tpm_record.specs.Record.{Record}
-use Rattle.tpm_step.specs.Answer.{framed}
+use Rattle.tpm_step.specs.step.Answer.{framed}
 use Rattle.tpm_completion.specs.Answer.{is_refusal, refusal, success}
 use Rattle.tpm_completion.specs.Capability.{asked_at, capability_told}
 use Rattle.tpm_completion.specs.Command.{Command, plain_command, tag_of}
-use Rattle.tpm_completion.specs.Context.{names_session}
+use Rattle.tpm_completion.specs.Context.{names_sequence, names_session}
 use Rattle.tpm_completion.specs.Hashing.{hash_row}
 use Rattle.tpm_completion.specs.Saving.{Reply, loaded, refused, saved}
+use Rattle.tpm_completion.specs.SequenceLoading.{sequence_loaded}
 use Rattle.tpm_completion.specs.SequenceReply.{sequence_reply}
 use Rattle.tpm_completion.specs.Testing.{incremental_row, test_parms_row, test_result_row}
 use Rattle.tpm_completion.specs.declared.capability.Asked.{Asked}
@@ -63,11 +64,13 @@ row_served r c command response =
     else (if command.code == 0x18a then replied c (test_parms_row command.parameters)
     else stands c response)))
 
--- the answer to TPM2_ContextLoad of a session's context; the file Loading defines the loading of an
--- object's context
+-- the answer to TPM2_ContextLoad of the context of a session or of a sequence object; the file Loading
+-- defines the loading of an object's context
 abbrev pub load_asked : Record → Completion → (context response : List ℕ) → Reply
 load_asked r c context response =
-    if names_session context then loaded r c context else stands c response
+    if names_session context then loaded r c context
+    else (if names_sequence context then sequence_loaded r c context
+    else stands c response)
 
 -- the layer's answer to a command that the device does not support
 abbrev pub served : Record → Completion → Command → (response : List ℕ) → Reply
@@ -120,7 +123,7 @@ unfoldable pub plain_reply : Record → Completion → (buffer response : List �
 plain_reply r c buffer response was_told =
     reply_by r c buffer response was_told (plain_command buffer)
 
--- the answer to a command on sequence objects, or else the other answer
+-- the layer's answer to a command on sequence objects, if there is one; otherwise the other answer
 abbrev pub or_reply : Option Reply → Reply → Reply
 or_reply (Some reply) other = reply
 or_reply None other = other

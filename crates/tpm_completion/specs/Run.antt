@@ -6,10 +6,10 @@ use Rattle.tpm_machine.specs.Follows.{Follows, StretchFollows}
 use Rattle.tpm_machine.specs.History.{History}
 use Rattle.tpm_object.specs.declared.object.Object.{Object}
 use Rattle.tpm_record.specs.Record.{Record}
-use Rattle.tpm_step.specs.Events.{PlainEvent, Given, Cycled, Placed}
-use Rattle.tpm_step.specs.Step.{Stepped}
+use Rattle.tpm_step.specs.step.Events.{PlainEvent, Given, Cycled, Placed}
+use Rattle.tpm_step.specs.step.Step.{Stepped}
 use Rattle.tpm_context.specs.declared.fault.ContextFault.{ContextFault}
-use Rattle.tpm_completion.specs.Execution.{AsksFirst, Behind, Completes, CompletesIf, Loads, PlacesIf, Seen, Sends, asked_behind, opened_behind, sent_behind, sent_event}
+use Rattle.tpm_completion.specs.Execution.{AsksFirst, Behind, Completes, CompletesIf, Loads, PlacesIf, Seen, Sends, asked_after, opened_after, sent_after, sent_event}
 use Rattle.tpm_completion.specs.declared.completion.Completion.{Completion}
 use Rattle.tpm_completion.specs.declared.sending.Sent.{Sent}
 
@@ -39,21 +39,21 @@ run_sending can first buffer locality (Some sent) seen (second, passes, is) =
     executed first.step.after (sent_event sent locality) second.step ∷ []
 run_sending can first buffer locality None seen is = []
 
--- the device's executions that follow the execution of a command
-abbrev pub run_behind : (can : Bool) (first : Seen) (buffer : List ℕ) (locality : ℕ)
+-- the device's executions after it executed the client's command
+abbrev pub run_after : (can : Bool) (first : Seen) (buffer : List ℕ) (locality : ℕ)
     (asked : Option (List ℕ)) (seen : Seen) → Behind can first buffer locality asked seen
     → List Execution
-run_behind can first buffer locality (Some context) seen loads =
-    run_loading can first (opened_behind first context) seen loads
-run_behind can first buffer locality None seen sends =
-    run_sending can first buffer locality (sent_behind first buffer) seen sends
+run_after can first buffer locality (Some context) seen loads =
+    run_loading can first (opened_after first context) seen loads
+run_after can first buffer locality None seen sends =
+    run_sending can first buffer locality (sent_after first buffer) seen sends
 
 abbrev pub run_command : (can : Bool) (c : Completion) (old : Record) (buffer : List ℕ)
     (locality elapsed : ℕ) (random : List ℕ) (seen : Seen)
     → AsksFirst can c old buffer locality elapsed random seen → List Execution
 run_command can c old buffer locality elapsed random seen (first, passes, behind) =
     executed old (Given buffer locality elapsed random) first.step
-    ∷ run_behind can first buffer locality (asked_behind first buffer) seen behind
+    ∷ run_after can first buffer locality (asked_after first buffer) seen behind
 
 abbrev pub run_with : (can : Bool) (c : Completion) (old : Record) (event : PlainEvent)
     (seen : Seen) → Completes can c old event seen → List Execution
@@ -68,8 +68,7 @@ abbrev pub run_of : (can completes : Bool) (c : Completion) (old : Record) (even
 run_of can false c old event seen passes = executed old event seen.step ∷ []
 run_of can true c old event seen completes = run_with can c old event seen completes
 
--- If a device follows a history, after an event it follows that history extended by all executions
--- for the event.
+-- Executing an event extends the history that a device follows by all executions for the event.
 abbrev pub RunsFollow : Type 0
 RunsFollow =
     (can completes : Bool) (c : Completion) (old : Record) (event : PlainEvent) (seen : Seen)

@@ -5,16 +5,19 @@ use Rattle.std.specs.Int.{w32, to_be_bytes}
 use Rattle.tpm_bytes.specs.declared.cursor.Short.{Short}
 use Rattle.tpm_containers.specs.Numbered.{place_of}
 use Rattle.tpm_object.specs.declared.object.Object.{Object}
+use Rattle.tpm_sequence.specs.declared.object.SequenceObject.{SequenceObject}
 use Rattle.tpm_session.specs.Sessions.{session_at}
 use Rattle.tpm_types.specs.declared.handle.Handle.{Handle}
 use Rattle.tpm_types.specs.Handle.{is_session, is_transient}
 use Rattle.tpm_record.specs.Objects.{object_at}
 use Rattle.tpm_record.specs.Record.{Record}
 use Rattle.tpm_context.specs.Context.{context_text as object_context_text}
+use Rattle.tpm_context.specs.Sequences.{sequence_context_text}
 use Rattle.tpm_context.specs.declared.binding.Binding.{Binding}
 use Rattle.tpm_completion.specs.Answer.{refusal, success}
 use Rattle.tpm_completion.specs.Completion.{session_context}
 use Rattle.tpm_completion.specs.Context.{context_text, token_at}
+use Rattle.tpm_completion.specs.Sequences.{sequence_of}
 use Rattle.tpm_completion.specs.declared.completion.Completion.{Completion}
 use Rattle.tpm_completion.specs.declared.context.Token.{Token}
 
@@ -27,17 +30,22 @@ pub record Reply : Type 0 where
 abbrev pub place_named : Handle → ℕ
 place_named handle = place_of handle.number
 
--- the layer's state after the context number of the session in a slot was set
+-- the layer's state with a new context number for the session in a slot
 abbrev pub with_session : Completion → ℕ → (context : ℕ) → Completion
 with_session c place context = record c { sessions = slice_set c.sessions place context }
 
--- the number for the next context, if one is left; below, the layer's state after a context with
--- this number
+-- the number for the next context, if a number is left
 abbrev pub next_number : Completion → Option ℕ
 next_number c = if nat_lt c.count (2 ^ 64 - 1) then Some (c.count + 1) else None
 
+-- the layer's state after it made a context with this number
 abbrev pub counted : Completion → (number : ℕ) → Completion
 counted c number = record c { count = number }
+
+-- the reply with a new context, which has this number
+abbrev pub counted_reply : Completion → (number : ℕ) → (context : List ℕ) → Reply
+counted_reply c number context =
+    record { response = success context; after = counted c number }
 
 -- the reply that refuses the command with this code; the layer's state is unchanged
 abbrev pub refused : Completion → ℕ → Reply
@@ -45,7 +53,7 @@ refused c code = record { response = refusal code; after = c }
 
 -- ---- TPM2_ContextSave of an object
 
--- the values to which an object's context is bound: the layer's start number, and the device's
+-- the values to which the context of an object or of a sequence object is bound: the layer's start number, and the device's
 -- counts of TPM Resets and TPM Restarts
 abbrev pub binding_of : Record → Completion → Binding
 binding_of r c = record {
@@ -57,16 +65,31 @@ binding_of r c = record {
 -- the reply with an object's context, whose sequence is the next number; TOO_MANY_CONTEXTS (12E) if
 -- no number is left. The object stays loaded.
 abbrev pub object_numbered : Record → Completion → Object → Option ℕ → Reply
-object_numbered r c object (Some number) = record {
-  response = success (object_context_text r.fixed.hierarchies (binding_of r c) number object);
-  after = counted c number;
-}
+object_numbered r c object (Some number) =
+    counted_reply c number
+    (object_context_text r.fixed.hierarchies (binding_of r c) number object)
 object_numbered r c object None = refused c 0x12e
 
--- the reply to TPM2_ContextSave of an object: REFERENCE_H0 (910) if the object does not exist
-abbrev pub object_saved : Record → Completion → Option Object → Reply
-object_saved r c (Some object) = object_numbered r c object (next_number c)
-object_saved r c None = refused c 0x910
+-- ---- TPM2_ContextSave of a sequence object
+
+-- the reply with the context of a sequence object, whose sequence is the next number;
+-- TOO_MANY_CONTEXTS (12E) if no number is left. The sequence object stays in its slot.
+abbrev pub sequence_numbered : Record → Completion → SequenceObject → Option ℕ → Reply
+sequence_numbered r c object (Some number) =
+    counted_reply c number
+    (sequence_context_text r.fixed.hierarchies (binding_of r c) number object)
+sequence_numbered r c object None = refused c 0x12e
+
+-- the reply to TPM2_ContextSave of a sequence object: REFERENCE_H0 (910) if it does not exist
+abbrev pub sequence_saved : Record → Completion → Option SequenceObject → Reply
+sequence_saved r c (Some object) = sequence_numbered r c object (next_number c)
+sequence_saved r c None = refused c 0x910
+
+-- the reply to TPM2_ContextSave of a transient handle: it names the device's object, if there is
+-- one, and otherwise a sequence object
+abbrev pub object_saved : Record → Completion → Handle → Option Object → Reply
+object_saved r c handle (Some object) = object_numbered r c object (next_number c)
+object_saved r c handle None = sequence_saved r c (sequence_of c handle)
 
 -- ---- TPM2_ContextSave of a session
 
@@ -91,11 +114,11 @@ session_saved r c handle context =
     session_numbered c handle (next_number c)
     else refused c 0x910
 
--- the reply to TPM2_ContextSave of a handle: VALUE for handle 1 (184) if it is neither a transient
--- object's nor a session's
+-- the reply to TPM2_ContextSave of a handle: VALUE for handle 1 (184) unless the handle is a
+-- transient object's or a session's
 unfoldable pub saved : Record → Completion → Handle → Reply
 saved r c handle =
-    if is_transient handle then object_saved r c (object_at r.objects handle)
+    if is_transient handle then object_saved r c handle (object_at r.objects handle)
     else (if is_session handle then
     session_saved r c handle (session_context c (place_named handle))
     else refused c 0x184)

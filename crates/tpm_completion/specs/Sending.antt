@@ -1,8 +1,9 @@
 -- The commands on sequence objects for which the completing layer sends a command to the device.
 -- TPM 2.0 Library, Part 3, sections 17.2 (TPM2_HMAC_Start) and 17.6 (TPM2_EventSequenceComplete).
 --
--- TPM2_HMAC_Start sends TPM2_HMAC of no data with the same handle and password, so the device
--- itself decides whether the key may be used. TPM2_EventSequenceComplete sends TPM2_PCR_Extend.
+-- For TPM2_HMAC_Start, the layer sends TPM2_HMAC of no data with the same handle and password, so
+-- that the device itself decides whether the key may be used. For TPM2_EventSequenceComplete, the
+-- layer sends TPM2_PCR_Extend.
 use Rattle.std.specs.Prelude.{ℕ, ◌==◌, ◌&&◌, not, Bool, true, false, List, [], ◌∷◌, ◌++◌, length, if◌then◌else◌, Option, Some, None, Result, Ok, Err, ok_or, option_map, option_and_then}
 use Rattle.std.specs.Int.{w16, w32, to_be_bytes}
 use Rattle.tpm_bytes.specs.Reading.{◌>>=◌, refused_if}
@@ -18,8 +19,8 @@ use Rattle.tpm_sequence.specs.Sequence.{hmac_sequence, sequence_updated}
 use Rattle.tpm_sequence.specs.Sequence.{object_of as sequence_object}
 use Rattle.tpm_sequence.specs.declared.sequence.Sequence.{Sequence}
 use Rattle.tpm_sequence.specs.declared.sequence.Sequence.TheVariants.{Event, Hash, Hmac}
-use Rattle.tpm_step.specs.Answer.{framed}
-use Rattle.tpm_step.specs.Entries.{password_answer}
+use Rattle.tpm_step.specs.step.Answer.{framed}
+use Rattle.tpm_step.specs.step.Entries.{password_answer}
 use Rattle.tpm_types.specs.Algorithm.{hash_or_null_at, hash_or_null_number}
 use Rattle.tpm_types.specs.Buffer.{buffer_at}
 use Rattle.tpm_types.specs.DigestValues.{digest_values_text}
@@ -48,9 +49,9 @@ use Rattle.tpm_completion.specs.declared.sending.Work.TheVariants.{Ends, Starts}
 
 -- ---- TPM2_HMAC_Start
 
--- the hash of an HMAC sequence: that of the key's scheme, or the hash that the command requests if
--- the scheme is NULL; None if there is neither, or if the object is not a KEYEDHASH object. The
--- device then refuses TPM2_HMAC
+-- the hash of an HMAC sequence: the hash of the key's scheme or, if the scheme is NULL, the
+-- requested hash. None if there is no hash, or if the object is not a KEYEDHASH object; the device
+-- then refuses TPM2_HMAC
 abbrev pub key_hash : PublicParameters → Option HashAlg → Option HashAlg
 key_hash (KeyedHash scheme.Null) asked = asked
 key_hash (KeyedHash (scheme.Hmac own)) asked = Some own
@@ -81,7 +82,7 @@ pub record HmacStart : Type 0 where
   pub auth : List ℕ
   pub slot : ℕ
 
--- the same, regardless of where its bytes are in memory
+-- the value of an `HmacStart`, regardless of where its bytes are in memory
 abbrev pub start_of : declared.HmacStart → HmacStart
 start_of start = record {
   handle = start.handle;
@@ -91,8 +92,8 @@ start_of start = record {
   slot = start.slot;
 }
 
--- what TPM2_HMAC_Start asks for. It has one handle and one entry, and its parameters are auth and
--- hashAlg. Refused, before the device is asked, by check A1 with OBJECT_MEMORY if no slot is free
+-- what TPM2_HMAC_Start asks for. The command has one handle, one entry, and the parameters auth and
+-- hashAlg. If no slot is free, check A1 refuses it with OBJECT_MEMORY before the device is asked
 unfoldable pub hmac_start_in : Completion → List ℕ → Result HmacStart Refused
 hmac_start_in c text = do
   handle ← handle_at 1 text
@@ -110,12 +111,12 @@ hmac_start_in c text = do
     slot = slot;
   })
 
--- the work after the device accepted TPM2_HMAC: a sequence object gets a slot
+-- the work after the device accepted TPM2_HMAC: putting a sequence object into a slot
 abbrev pub start_work : (slot : ℕ) → (auth : List ℕ) → Sequence → Work
 start_work slot auth sequence = Starts slot (sequence_object auth sequence)
 
--- the command that TPM2_HMAC_Start sends. There is no work if the handle names no object, or if the
--- object has no hash; the device then refuses TPM2_HMAC
+-- the command that the layer sends for TPM2_HMAC_Start. There is no work if the handle names no
+-- object, or if the object has no hash; the device then refuses TPM2_HMAC
 abbrev pub start_sent : Record → HmacStart → Sent
 start_sent r start = record {
   command = hmac_command start.handle start.entry start.hash;
@@ -130,7 +131,7 @@ hmac_start_sent r c text = do
 
 -- ---- TPM2_EventSequenceComplete
 
--- the encoding of the digests of an event sequence's data; None for another sequence
+-- the encoding of the digests of an event sequence's data; None for any other sequence
 abbrev pub digests_text : Sequence → Option (List ℕ)
 digests_text (Event sha1 sha256) =
     Some (digest_values_text (Sha1 (state_digest sha1) ∷ Sha256 (state_digest sha256) ∷ []))
@@ -142,10 +143,10 @@ unfoldable pub extend_command : Handle → Entry → (digests : List ℕ) → Li
 extend_command handle e digests =
     framed 0x8002 0x182 (to_be_bytes w32 handle.number ++ area_of e ++ digests)
 
--- the command that TPM2_EventSequenceComplete sends. Its handles are a PCR or TPM_RH_NULL, and an
--- event sequence; each is authorized by the password in its entry, the first by the device. Its
--- parameter is buffer. Refused, before the device is asked, by check A1 with MODE for handle 2 if
--- the sequence is not an event sequence
+-- the command that the layer sends for TPM2_EventSequenceComplete. The client's command has two
+-- handles: a PCR or TPM_RH_NULL, and an event sequence. Each has an entry with a password; the
+-- device checks the first password. The only parameter is buffer. If the sequence is not an event
+-- sequence, check A1 refuses it with MODE for handle 2 before the device is asked
 unfoldable pub event_complete_sent : Completion → List ℕ → Result Sent Refused
 event_complete_sent c text = do
   pcr ← handle_at 1 text
@@ -165,7 +166,8 @@ event_complete_sent c text = do
 
 -- ---- the command that is sent, and the answer after it
 
--- the command that a client's command sends, if it is one of these two: 15B and 185
+-- the command that the layer sends for HMAC_Start (15B) or EventSequenceComplete (185); None for
+-- any other command
 abbrev pub sent_by : Record → Completion → (code : ℕ) → List ℕ → Option (Result Sent Refused)
 sent_by r c code text =
     if code == 0x15b then Some (hmac_start_sent r c text)
@@ -189,8 +191,8 @@ sent_for r c buffer response =
     sent_in r c (authorized_command buffer)
     else None
 
--- the answer after the device accepted the command: the handle of the new sequence object, or the
--- digests
+-- the answer after the device accepted the layer's command: the handle of the new sequence object,
+-- or the digests
 abbrev pub work_done : Completion → Work → Reply
 work_done c (Starts slot object) = record {
   response = authorized_success (slot_text slot) [] password_answer;

@@ -18,8 +18,8 @@ use Rattle.tpm_completion.specs.Sequences.{slot_of}
 use Rattle.tpm_completion.specs.declared.completion.Completion.{Completion}
 use Rattle.tpm_completion.specs.declared.sending.Sent.{Sent}
 
--- The code answered with this reply and returned true; or it returned false because there is no
--- reply, and the response and the layer's state are unchanged.
+-- Either the code answered with the reply and returned true; or there is no reply, and the code
+-- returned false and changed nothing.
 abbrev pub RepliesIf : Option Reply → (old : Completion) → (response : List ℕ) → (answered : Bool)
     → (new : Completion) → (text : List ℕ) → Type 0
 RepliesIf (Some reply) old response true new text = record { response = text; after = new } ≡ reply
@@ -32,7 +32,7 @@ abbrev pub row_reply : Completion → Result Reply Refused → Reply
 row_reply c (Ok reply) = reply
 row_reply c (Err e) = refused c (rc_number e.rc)
 
--- the refusal of a command for which the layer would send a command to the device
+-- the refusal of a command for which the layer would otherwise send a command to the device
 abbrev pub unsent_reply : Completion → Option (Result Sent Refused) → Option Reply
 unsent_reply c (Some (Ok sent)) = None
 unsent_reply c (Some (Err e)) = Some (refused c (rc_number e.rc))
@@ -60,16 +60,16 @@ bare_reply c command =
     else (if needs_password command.code then Some (refused c 0x125)
     else None)
 
--- the answer to a buffer that the device refused with COMMAND_CODE, read without sessions or with
--- them
+-- the answer to a buffer that the device refused with COMMAND_CODE; `plain` is the buffer parsed as
+-- a command without sessions, `authorized` as a command with sessions
 abbrev pub asked_reply : Record → Completion → (plain authorized : Result Command Short)
     → Option Reply
 asked_reply r c (Ok command) authorized = bare_reply c command
 asked_reply r c (Err e) (Ok command) = authorized_reply r c command
 asked_reply r c (Err e) (Err f) = None
 
--- the answer to TPM2_FlushContext, whose only parameter is a handle: success if it names a sequence
--- object, which is removed
+-- the answer to TPM2_FlushContext, whose only parameter is a handle. If the handle names a sequence
+-- object, the command removes the object and succeeds
 abbrev pub flush_handle : Completion → Result (ℕ × List ℕ) Short → Option Reply
 flush_handle c (Ok handle) =
     if length handle.1 == 0 then flushed c (slot_of c (numbered handle.0)) else None

@@ -16,8 +16,8 @@ use Rattle.tpm_sequence.specs.Sequence.{event_sequence, hash_sequence, object_of
 use Rattle.tpm_sequence.specs.declared.object.SequenceObject.{SequenceObject}
 use Rattle.tpm_sequence.specs.declared.sequence.Sequence.{Sequence}
 use Rattle.tpm_sequence.specs.declared.sequence.Sequence.TheVariants.{Event, Hash, Hmac}
-use Rattle.tpm_step.specs.Answer.{framed}
-use Rattle.tpm_step.specs.Entries.{password_answer}
+use Rattle.tpm_step.specs.step.Answer.{framed}
+use Rattle.tpm_step.specs.step.Entries.{password_answer}
 use Rattle.tpm_types.specs.Algorithm.{hash_or_null_at}
 use Rattle.tpm_types.specs.Buffer.{buffer_at}
 use Rattle.tpm_types.specs.Limits.{data_limit}
@@ -43,11 +43,11 @@ abbrev pub authorized_success : (handle parameters area : List ℕ) → List ℕ
 authorized_success handle parameters area =
     framed 0x8002 0 (handle ++ to_be_bytes w32 (length parameters) ++ parameters ++ area)
 
--- the refusal by check A1 because no slot is free; below, because the sequence object of handle n
--- has the wrong kind
+-- check A1's refusal if no slot is free
 abbrev pub full_refused : Refused
 full_refused = action_refusal action.First (plain code.ObjectMemory)
 
+-- check A1's refusal if handle n names a sequence object of the wrong kind
 abbrev pub mode_refused : (n : ℕ) → Refused
 mode_refused n = action_refusal action.First (at (place.Handle n) (plain code.Mode))
 
@@ -55,8 +55,8 @@ mode_refused n = action_refusal action.First (at (place.Handle n) (plain code.Mo
 abbrev pub slot_text : (slot : ℕ) → List ℕ
 slot_text slot = to_be_bytes w32 (sequence_handle slot).number
 
--- The code answers as a row says: at success with the response and the layer's new state, otherwise
--- with the refusal and an unchanged state.
+-- The code answers as a row says: on success, with the response and the layer's new state;
+-- otherwise with the refusal, and the layer's state is unchanged.
 abbrev pub RepliesBy : Result Reply Refused → (old : Completion) → Result (Unit {0}) Refused
     → (new : Completion) → (text : List ℕ) → Type 0
 RepliesBy row old (Ok done) new text = row ≡ Ok (record { response = text; after = new })
@@ -114,17 +114,17 @@ update_row c text = do
 
 -- ---- TPM2_SequenceComplete
 
--- the answer to the completion of a sequence: the digest with its ticket, which names TPM_RH_NULL
--- if a restricted key may not sign the digest; for an HMAC sequence, the HMAC with a ticket of
--- TPM_RH_NULL; None for an event sequence
+-- the answer when a sequence completes. For a hash sequence: the digest with its ticket, whose
+-- hierarchy is TPM_RH_NULL if a restricted key may not sign the digest. For an HMAC sequence: the
+-- HMAC with a ticket of TPM_RH_NULL. For an event sequence: None
 abbrev pub completion_text : Hierarchies → HierarchyHandle → Sequence → Option (List ℕ)
 completion_text h asked (Hash state beginning) =
     Some (ticketed_text h (if is_generated beginning then kind.Null else asked) (state_digest state))
 completion_text h asked (Hmac state) = Some (ticketed_text h kind.Null (hmac_digest state))
 completion_text h asked (Event sha1 sha256) = None
 
--- TPM2_SequenceComplete, whose parameters are buffer and hierarchy. Refused by check A1 with MODE
--- for handle 1 if the sequence is an event sequence. The sequence object is then removed
+-- TPM2_SequenceComplete, whose parameters are buffer and hierarchy. It removes the sequence object.
+-- Check A1 refuses an event sequence with MODE for handle 1
 unfoldable pub complete_row : Hierarchies → Completion → List ℕ → Result Reply Refused
 complete_row h c text = do
   named ← sequence_in c text

@@ -1,5 +1,5 @@
--- The answers to the completion of a sequence depend only on all its data, however the client cut
--- them. TPM 2.0 Library, Part 3, sections 17.5 (TPM2_SequenceComplete) and 17.6
+-- When a sequence completes, the answer depends only on all its data, however the client divided
+-- the data into commands. TPM 2.0 Library, Part 3, sections 17.5 (TPM2_SequenceComplete) and 17.6
 -- (TPM2_EventSequenceComplete).
 use Rattle.std.specs.Prelude.{◌≡◌, ℕ, List, [], ◌∷◌, Some}
 use Rattle.tpm_mac.specs.Digest.{hash_of}
@@ -17,7 +17,7 @@ use Rattle.tpm_completion.specs.Hashing.{hash_text, ticketed_text}
 use Rattle.tpm_completion.specs.Sending.{digests_text}
 use Rattle.tpm_completion.specs.SequenceRows.{completion_text}
 
--- TPM2_SequenceComplete of a hash sequence answers as TPM2_Hash of all its data.
+-- TPM2_SequenceComplete of a hash sequence gives the same answer as TPM2_Hash of all its data.
 abbrev pub CompletesAsHash : Type 0
 CompletesAsHash =
     (h : Hierarchies) (asked : HierarchyHandle) (hash : HashAlg) (parts : List (List ℕ))
@@ -32,8 +32,8 @@ CompletesAsHmac =
     → completion_text h asked (updates (hmac_sequence hash key) parts)
     ≡ Some (ticketed_text h kind.Null (hmac_of hash key (joined parts)))
 
--- The digests that TPM2_EventSequenceComplete sends and returns are the SHA-1 and SHA-256 digests of
--- all data of the event sequence.
+-- The digests that TPM2_EventSequenceComplete sends and returns are the SHA-1 and SHA-256 digests
+-- of all data of the event sequence.
 abbrev pub CompletesAsEvent : Type 0
 CompletesAsEvent =
     (parts : List (List ℕ))

@@ -23,14 +23,14 @@ algorithms_at text = do
   few ← refused_if (nat_lt algorithm_limit count.0) (plain code.Size)
   or_fault (bytes_at (2 * count.0) count.1) (plain code.Insufficient)
 
--- TPM2_IncrementalSelfTest: whichever algorithms are named, none remains to be tested (toDoList)
+-- TPM2_IncrementalSelfTest: toDoList is empty, whichever algorithms the command names
 unfoldable pub incremental_row : List ℕ → Result (List ℕ) Refused
 incremental_row parameters = do
   algorithms ← parameter 1 (algorithms_at parameters)
   ended ← all_read algorithms.1
   Ok (to_be_bytes w32 0)
 
--- TPM2_GetTestResult: there are no data (outData), and all tests succeeded (testResult)
+-- TPM2_GetTestResult: outData is empty, and testResult is success
 unfoldable pub test_result_row : List ℕ → Result (List ℕ) Refused
 test_result_row parameters = do
   ended ← all_read parameters

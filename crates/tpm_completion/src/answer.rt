@@ -2,7 +2,7 @@
 
 ghost use Rattle.std.specs.Prelude.{◌≡◌, ◌+◌, ◌≤◌, [], length};
 ghost use Rattle.std.specs.Str.{bytes_eq};
-ghost use Rattle.tpm_step.specs.Answer.{framed};
+ghost use Rattle.tpm_step.specs.step.Answer.{framed};
 ghost use Rattle.tpm_completion.specs.Answer.{is_refusal};
 ghost use Rattle.tpm_completion.specs.SequenceRows.{authorized_success};
 

@@ -15,21 +15,21 @@ use tpm_types_command::auth_area::AuthArea;
 /// The entries of an authorization area.
 pub type Entries<'a> = ArrayVec<AuthEntry<'a>, 3>;
 
-/// The refusal of a handle, by its number.
+/// The refusal of the handle with this number.
 fn handle_refused(number: u8, fault: ResponseCode) -> Refused
     ensures { result ≡ handle_refused number fault }
 {
     Refused::by(Check::Handles, fault.anywhere().at_handle(number))
 }
 
-/// The refusal of an entry, by its number.
+/// The refusal of the entry with this number.
 fn entry_refused(number: u8, fault: ResponseCode) -> Refused
     ensures { result ≡ entry_refused number fault }
 {
     Refused::by(Check::Entries, fault.anywhere().at_session(number))
 }
 
-/// The refusal of an entry with a wrong password, by its number.
+/// The refusal of a wrong password in the entry with this number.
 pub fn password_refused(number: u8) -> Refused
     ensures { result ≡ password_refused number }
 {
@@ -51,7 +51,7 @@ pub fn absent_refused(reference: ResponseCode) -> Refused
     Refused::by(Check::Handles, reference.anywhere())
 }
 
-/// Reads a handle of a command, by its number.
+/// Reads the handle number `place` of a command.
 #[tactic(auto, unfolding(crate::specs::Authorizing::handle_at))]
 pub fn read_handle(place: u8, text: &mut Cursor) -> Result<Handle, Refused>
     ensures { Reads (λ handle. handle) (handle_at place text.old) text.old result text.new }
@@ -74,7 +74,7 @@ pub fn read_entries<'a>(text: &mut Cursor<'a>) -> Result<Entries<'a>, Refused>
     }
 }
 
-/// Checks that an entry, by its number, contains a password.
+/// Checks that the entry with this number contains a password.
 #[tactic(auto, unfolding(crate::specs::Authorizing::is_password_entry))]
 fn check_entry(number: u8, entry: &AuthEntry) -> Result<(), Refused>
     ensures value { result ≡ is_password_entry number (entry_of entry.now) }
@@ -142,7 +142,7 @@ pub fn two_entries<'a>(entries: &[AuthEntry<'a>]) -> Result<(AuthEntry<'a>, Auth
 }
 
 impl Completion {
-    /// The slot of the sequence object that a handle of a command, by its number, names.
+    /// The slot of the sequence object that the handle with this number names in a command.
     #[tactic(auto, unfolding(crate::specs::Authorizing::sequence_named))]
     pub(crate) fn sequence_named(
         &self,

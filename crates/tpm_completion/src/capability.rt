@@ -173,7 +173,8 @@ fn tell_objects<K: Keep>(layer: &Completion, keep: &K, asked: Asked, text: &mut 
     list(elements.as_slice(), Form::Value, 1, from, asked.count, text);
 }
 
-/// Writes the list of handles of sessions, or of transient objects, if the client asks for it. Otherwise, returns false.
+/// Writes the list of handles of sessions, or of transient objects, if the client asks for it.
+/// Otherwise, returns false.
 fn tell_handles<K: Keep>(layer: &Completion, keep: &K, asked: Asked, text: &mut Listing) -> bool
     requires { text.old ≡ [] }
     ensures { Tells (handles_told (K.record_of keep.now) layer.now asked (asked.property / 2 ^ 24))

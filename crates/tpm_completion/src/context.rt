@@ -1,14 +1,16 @@
 //! The context of a session: a token that names the session's slot in the device.
 
 ghost use Rattle.std.specs.Prelude.{◌≡◌, length};
-ghost use Rattle.tpm_completion.specs.Context.{context_text, mark, names_session, saved_handle_at, token_at, token_text};
+ghost use Rattle.tpm_completion.specs.Context.{context_text, mark, names_sequence, names_session, saved_handle_at, token_at, token_text};
 
 use tpm_bytes::{Cursor, Short, Sink, is_equal};
+use tpm_context::SavedHandle;
 use tpm_types::Handle;
 
-/// The size of a token's contextBlob in bytes; below, of its whole context.
+/// The size of a token's contextBlob, in bytes.
 const TOKEN_SIZE: usize = 20;
 
+/// The size of a session's context, in bytes.
 pub const SESSION_CONTEXT_SIZE: usize = 38;
 
 /// The content of a session's context: the number of the context, and the handle of the session.
@@ -70,6 +72,16 @@ fn read_saved_handle(context: &[u8]) -> Result<Handle, Short>
     let _sequence = text.u64()?;
     let number = text.u32()?;
     Ok(Handle { number })
+}
+
+/// Whether the savedHandle of a context is that of a sequence object.
+pub fn names_sequence(context: &[u8]) -> bool
+    ensures { result ≡ names_sequence context.now }
+{
+    match read_saved_handle(context) {
+        Ok(handle) => handle.number == SavedHandle::Sequence.number(),
+        Err(_) => false,
+    }
 }
 
 /// Whether the savedHandle of a context is the handle of a session.

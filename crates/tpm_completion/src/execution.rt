@@ -2,10 +2,10 @@
 
 ghost use Rattle.std.specs.Prelude.{◌≡◌, Ok, Some, List, ℕ, option_map, true, false};
 ghost use Rattle.tpm_types.specs.Locality.{locality_number};
-ghost use Rattle.tpm_step.specs.Events.{Given, plain_event};
+ghost use Rattle.tpm_step.specs.step.Events.{Given, plain_event};
 ghost use Rattle.tpm_machine.specs.State.{state_of};
 ghost use Rattle.tpm_completion.specs.Completed.{completed};
-ghost use Rattle.tpm_completion.specs.Execution.{AsksFirst, Behind, Completes, CompletesIf, Loads, Passes, Sends, asked_behind, opened_behind, seen_of, sent_behind};
+ghost use Rattle.tpm_completion.specs.Execution.{AsksFirst, Behind, Completes, CompletesIf, Loads, Passes, Sends, asked_after, opened_after, seen_of, sent_after};
 
 use crate::answer::answer;
 use crate::codes::{MEMORY, OBJECT_MEMORY, SUCCESS};
@@ -21,7 +21,7 @@ use tpm_types::Locality;
 
 /// Executes one event, and overwrites `outcome`. If `completes` is true, the layer may answer after
 /// the device; otherwise the device alone executes the event. The outcome's row is always the
-/// device's own. Afterwards, `drawn` of the machine refers to the last event that the machine
+/// device's own. Afterwards, the machine's `drawn` refers to the last event that the machine
 /// executed.
 pub fn execute<K: Keep>(
     machine: &mut Machine<K>,
@@ -125,7 +125,7 @@ fn answer_after<K: Keep>(
 )
     ensures { Behind K.can_refuse (seen_of K.record_of machine.old layer.old outcome.old)
         buffer.now (locality_number locality)
-        (asked_behind (seen_of K.record_of machine.old layer.old outcome.old) buffer.now)
+        (asked_after (seen_of K.record_of machine.old layer.old outcome.old) buffer.now)
         (seen_of K.record_of machine.new layer.new outcome.new) }
 {
     match context_asked(machine.keep(), buffer, outcome.response.as_slice()) {
@@ -145,7 +145,7 @@ fn send_or_answer<K: Keep>(
 )
     ensures { Sends K.can_refuse (seen_of K.record_of machine.old layer.old outcome.old)
         buffer.now (locality_number locality)
-        (sent_behind (seen_of K.record_of machine.old layer.old outcome.old) buffer.now)
+        (sent_after (seen_of K.record_of machine.old layer.old outcome.old) buffer.now)
         (seen_of K.record_of machine.new layer.new outcome.new) }
 {
     match layer.sent_for(machine.keep(), buffer, outcome.response.as_slice()) {
@@ -158,7 +158,7 @@ fn send_or_answer<K: Keep>(
 }
 
 /// Sends a command to the device, and answers the client's command afterwards. The outcome's row
-/// stays that of the client's command.
+/// remains the row of the client's command.
 fn send<K: Keep>(
     machine: &mut Machine<K>,
     layer: &mut Completion,
@@ -187,7 +187,7 @@ fn load<K: Keep>(
     outcome: &mut Outcome,
 )
     ensures { Loads K.can_refuse (seen_of K.record_of machine.old layer.now outcome.old)
-        (opened_behind (seen_of K.record_of machine.old layer.now outcome.old) context.now)
+        (opened_after (seen_of K.record_of machine.old layer.now outcome.old) context.now)
         (seen_of K.record_of machine.new layer.now outcome.new) }
 {
     match layer.open_object(machine.keep(), context) {

@@ -40,15 +40,15 @@ pub fn objects<K: Keep>(keep: &K, elements: &mut Elements)
     }
 }
 
-/// Whether a session with this context number is saved (if `saved` is true) or loaded (if it is
-/// false). The number 0 means loaded.
+/// Whether a session with this context number is in the given state: saved if `saved` is true,
+/// otherwise loaded. The number 0 means loaded.
 fn is_in_state(saved: bool, context: u64) -> bool
     ensures { result ≡ is_in_state saved context }
 {
     if saved { context != 0 } else { context == 0 }
 }
 
-/// Lists the session in a slot, if it is saved (`saved` is true) or loaded (`saved` is false).
+/// Lists the session in a slot if it is saved (for `saved` true) or loaded (for `saved` false).
 #[tactic(auto, unfolding(crate::specs::Handles::session_shown))]
 fn session<K: Keep>(layer: &Completion, keep: &K, saved: bool, place: u32, elements: &mut Elements)
     requires place { place < session_limit }
@@ -66,7 +66,7 @@ fn session<K: Keep>(layer: &Completion, keep: &K, saved: bool, place: u32, eleme
     }
 }
 
-/// Lists the saved sessions if `saved` is true, otherwise the loaded ones.
+/// Lists the saved sessions if `saved` is true, otherwise the loaded sessions.
 #[tactic(auto, using(tpm_actions_capability::proofs::Listing::one_more))]
 pub fn sessions<K: Keep>(layer: &Completion, keep: &K, saved: bool, elements: &mut Elements)
     requires { elements.old.items ≡ [] }

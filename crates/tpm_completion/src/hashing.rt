@@ -1,4 +1,4 @@
-//! TPM2_Hash: the digest of data, with a ticket which says that a restricted key may sign the
+//! TPM2_Hash: the digest of data, with a ticket that says that a restricted key may sign the
 //! digest.
 
 ghost use Rattle.std.specs.Prelude.{◌≡◌, ◌≤◌, length};

@@ -1,19 +1,19 @@
 //! Laws about the layer. A function here does nothing: its contract is the law.
 
 ghost use Rattle.tpm_completion.specs.DeviceFirst.{DeviceFirst};
-ghost use Rattle.tpm_completion.specs.Loaded.{LoadsOnlyWhatWasMade, LoadsWhatWasSaved};
+ghost use Rattle.tpm_completion.specs.Loaded.{LoadsOnlyMadeSequence, LoadsOnlyWhatWasMade, LoadsSavedSequence, LoadsWhatWasSaved};
 ghost use Rattle.tpm_completion.specs.Run.{RunsFollow};
 ghost use Rattle.tpm_completion.specs.Sequenced.{CompletesAsEvent, CompletesAsHash, CompletesAsHmac};
 
-/// The client gets the device's response, no object is loaded, and no command is sent to the device,
-/// with two exceptions: the response is one of four refusals, or it answers a capability for which
-/// the layer has a list.
+/// The client gets the device's response, no object is loaded, and no command is sent to the
+/// device, with two exceptions: the response is one of four refusals, or it answers a capability
+/// for which the layer has a list.
 pub fn device_first()
     ensures { DeviceFirst }
 {}
 
-/// If a device follows a history, after an event it follows that history extended by all executions
-/// for the event, with or without the layer.
+/// Executing an event, with or without the layer, extends the history that a device follows by all
+/// executions for the event.
 pub fn runs_follow()
     ensures { RunsFollow }
 {}
@@ -25,6 +25,16 @@ pub fn runs_follow()
 pub fn loading_laws()
     ensures again { LoadsWhatWasSaved }
     ensures only { LoadsOnlyWhatWasMade }
+{}
+
+/// Loading the context of a sequence object yields the sequence object that was saved, as long as
+/// the layer's start number, the proof of the null hierarchy and the count of TPM Resets have not
+/// changed. Unless the HMAC has a collision, the context can be loaded only with the start number,
+/// proof and count with which it was made.
+#[tactic(auto, using(crate::proofs::Loaded::loads_saved_sequence, crate::proofs::Loaded::loads_only_made_sequence))]
+pub fn sequence_loading_laws()
+    ensures again { LoadsSavedSequence }
+    ensures only { LoadsOnlyMadeSequence }
 {}
 
 /// The answer to the completion of a sequence depends only on all data of the sequence, however the

@@ -7,13 +7,13 @@
 //! The device executes the command first. If it refuses a command that the layer knows, or lists
 //! less than the layer does, the client gets the layer's [`reply`]. Otherwise it gets the device's
 //! response, byte for byte. The lists are in [`capability`], [`handles`] and [`properties`], the
-//! contexts in [`context`], [`saving`] and [`loading`], and four more commands in [`testing`] and
-//! [`hashing`]. Callers use [`execution`].
+//! contexts in [`context`], [`saving`] and [`loading`], four more commands in [`testing`] and
+//! [`hashing`], and sequence objects in [`sequences`]. Callers use [`execution`].
 //!
 //! The context of a session is a token, and the session stays in its slot. The context of an object
 //! contains the whole object, encrypted and authenticated (tpm_context). The layer changes the
-//! device only after a TPM2_ContextLoad of an object's context: it places the object in a free
-//! slot, which is an event of tpm_machine.
+//! device in two ways: it places the object of a context in a free slot, which is an event of
+//! tpm_machine, or it sends a command ([`sending`]).
 
 mod answer;
 mod authorizing;

@@ -1,5 +1,5 @@
 //! Encodes the list in an answer to TPM2_GetCapability: the elements whose number is at least the
-//! requested one, and at most as many as the client asks for.
+//! requested number, and at most as many as the client asks for.
 
 ghost use Rattle.std.specs.Prelude.{◌≡◌, ◌≤◌, ◌<◌, ◌+◌, ◌*◌, ◌^◌, ◌++◌, List, [], ◌∷◌, length, take};
 ghost use Rattle.std.specs.Int.{w32, to_le_bytes};
@@ -74,7 +74,7 @@ fn is_from(element: &Element, from: u32) -> bool
     from <= element.number
 }
 
-/// How many elements have a number of at least `from`.
+/// The number of elements whose number is at least `from`.
 fn found_count(elements: &[Element], from: u32) -> usize
     ensures { result ≡ found_count from elements.now }
 {

@@ -139,14 +139,14 @@ fn session_count<K: Keep>(layer: &Completion, keep: &K, saved: bool) -> u32
     elements.len() as u32
 }
 
-/// How many sessions there are.
+/// The number of active sessions.
 fn active_count<K: Keep>(layer: &Completion, keep: &K) -> u32
     ensures { result ≡ active_count (K.record_of keep.now) layer.now }
 {
     session_count(layer, keep, false) + session_count(layer, keep, true)
 }
 
-/// How many transient objects are loaded.
+/// The number of loaded transient objects.
 fn object_count<K: Keep>(keep: &K) -> u32
     ensures { result ≡ object_count (K.record_of keep.now) }
 {
@@ -161,7 +161,7 @@ fn is_counter(entry: &(u32, Head)) -> bool
     entry.1.public.attributes.is_of(NvType::Counter)
 }
 
-/// How many NV indices there are.
+/// The number of NV indices.
 fn index_count<K: Keep>(keep: &K) -> u32
     ensures { result ≡ index_count (K.record_of keep.now).nv }
 {
@@ -169,7 +169,7 @@ fn index_count<K: Keep>(keep: &K) -> u32
     keep.nv().heads().len() as u32
 }
 
-/// How many of these NV indices are counters.
+/// The number of counters among these NV indices.
 #[tactic(auto, using(crate::proofs::Counters::few_counters))]
 fn counters_among(heads: &[(u32, Head)]) -> usize
     ensures value { result ≡ count_by is_counter heads.now }
@@ -178,7 +178,7 @@ fn counters_among(heads: &[(u32, Head)]) -> usize
     heads.iter().filter(|e| is_counter(e)).count()
 }
 
-/// How many NV indices are counters.
+/// The number of NV indices that are counters.
 fn counter_count<K: Keep>(keep: &K) -> u32
     ensures { result ≡ counter_count (K.record_of keep.now).nv }
 {
@@ -186,7 +186,7 @@ fn counter_count<K: Keep>(keep: &K) -> u32
     counters_among(keep.nv().heads()) as u32
 }
 
-/// How many persistent objects there are.
+/// The number of persistent objects.
 fn persistent_count<K: Keep>(keep: &K) -> u32
     ensures { result ≡ length (K.record_of keep.now).persistent }
 {
@@ -218,7 +218,7 @@ fn counts<K: Keep>(layer: &Completion, keep: &K) -> [Element; 11]
     ]
 }
 
-/// The properties about features that the device does not have, and the parameters of lockout.
+/// The properties of features that the device does not have, and the parameters of lockout.
 fn lockout_parts(lockout: &Lockout) -> [Element; 9]
     ensures { result ≡ lockout_elements lockout.now }
 {

@@ -16,7 +16,7 @@ use crate::codes::{
 };
 use crate::command::{PlainCommand, tag_of};
 use crate::completion::Completion;
-use crate::context::names_session;
+use crate::context::{names_sequence, names_session};
 use crate::hashing::hash;
 use crate::testing::{Body, incremental_self_test, test_parms, test_result};
 use tpm_bytes::{Cursor, Sink, is_equal};
@@ -35,7 +35,7 @@ fn is_stirred(parameters: &[u8]) -> bool
     }
 }
 
-/// Answers a command of TPM 1.2, which firmware sends to check whether there is a TPM 1.2.
+/// Answers a TPM 1.2 command, with which firmware checks whether there is a TPM 1.2.
 #[tactic(auto, unfolding(crate::specs::Reply::probed))]
 fn probe(layer: &Completion, buffer: &[u8], text: &mut Response)
     ensures { record { response = text.new.items; after = layer.now }
@@ -73,13 +73,15 @@ impl Completion {
         }
     }
 
-    /// Answers TPM2_ContextLoad of a session's context.
+    /// Answers TPM2_ContextLoad of the context of a session or of a sequence object.
     fn ask_load<K: Keep>(&mut self, keep: &K, context: &[u8], text: &mut Response)
         ensures { record { response = text.new.items; after = self.new }
             ≡ load_asked (K.record_of keep.now) self.old context.now text.old.items }
     {
         if names_session(context) {
             self.load(keep, context, text);
+        } else if names_sequence(context) {
+            self.load_sequence(keep, context, text);
         }
     }
 
@@ -168,7 +170,8 @@ impl Completion {
         }
     }
 
-    /// Answers a buffer that is not a command on sequence objects, or leaves the response unchanged.
+    /// Answers a buffer that is not a command on sequence objects, or leaves the response
+    /// unchanged.
     #[tactic(auto, unfolding(crate::specs::Reply::plain_reply))]
     fn plain_reply<K: Keep>(&mut self, keep: &K, buffer: &[u8], was_told: bool, text: &mut Response)
         ensures { record { response = text.new.items; after = self.new }

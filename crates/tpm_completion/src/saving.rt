@@ -4,7 +4,8 @@ ghost use Rattle.std.specs.Prelude.{◌≡◌, ◌<◌, ◌^◌, IfSome, List, �
 ghost use Rattle.tpm_types.specs.Limits.{session_limit};
 ghost use Rattle.tpm_record.specs.Objects.{object_at};
 ghost use Rattle.tpm_step.specs.declared.event.Outcome.{Outcome as Told};
-ghost use Rattle.tpm_completion.specs.Saving.{Reply, binding_of, context_given, counted, handle_given, loaded, next_number, object_numbered, object_saved, place_named, refused, saved, session_loaded, session_saved, with_session};
+ghost use Rattle.tpm_completion.specs.Sequences.{sequence_of};
+ghost use Rattle.tpm_completion.specs.Saving.{Reply, binding_of, context_given, counted_reply, handle_given, loaded, next_number, object_numbered, object_saved, place_named, refused, saved, sequence_numbered, sequence_saved, session_loaded, session_saved, with_session};
 
 use crate::answer::answer;
 use crate::codes::{
@@ -14,9 +15,10 @@ use crate::codes::{
 use crate::completion::Completion;
 use crate::context::{Token, context_text, read_token};
 use tpm_bytes::Sink;
-use tpm_context::{Binding, CONTEXT_SIZE, seal};
+use tpm_context::{Binding, CONTEXT_SIZE, seal, seal_sequence};
 use tpm_object::Object;
 use tpm_record::Keep;
+use tpm_sequence::SequenceObject;
 use tpm_step::Response;
 use tpm_types::{Handle, SESSION_LIMIT};
 
@@ -47,7 +49,7 @@ impl Completion {
         }
     }
 
-    /// Answers with the context of this session, with this number.
+    /// Answers with the context of this session; `context` is the context's number.
     fn give_context(&self, handle: Handle, context: u64, text: &mut Response)
         ensures { record { response = text.new.items; after = self.now }
             ≡ context_given self.now handle context }
@@ -57,7 +59,7 @@ impl Completion {
     }
 
     /// Refuses the command with this response code.
-    fn refuse(&self, code: u32, text: &mut Response)
+    pub(crate) fn refuse(&self, code: u32, text: &mut Response)
         ensures { record { response = text.new.items; after = self.now } ≡ refused self.now code }
     {
         answer(code, &[], text);
@@ -73,6 +75,15 @@ impl Completion {
             reset_count: fixed.reset_count,
             restart_count: fixed.restart_count,
         }
+    }
+
+    /// Answers with a new context, which has this number.
+    fn give_counted(&mut self, number: u64, context: &Sink<CONTEXT_SIZE>, text: &mut Response)
+        ensures { record { response = text.new.items; after = self.new }
+            ≡ counted_reply self.old number context.now }
+    {
+        self.count = number;
+        answer(SUCCESS, context.as_slice(), text);
     }
 
     /// Answers with a new context of an object.
@@ -92,19 +103,50 @@ impl Completion {
             object,
             &mut context,
         );
-        self.count = number;
-        answer(SUCCESS, context.as_slice(), text);
+        self.give_counted(number, &context, text);
     }
 
-    /// Answers TPM2_ContextSave of an object.
+    /// Answers with a new context of a sequence object.
+    fn give_sequence<K: Keep>(&mut self, keep: &K, object: &SequenceObject, text: &mut Response)
+        ensures { record { response = text.new.items; after = self.new }
+            ≡ sequence_numbered (K.record_of keep.now) self.old object.now
+            (next_number self.old) }
+    {
+        let Some(number) = self.next_number() else {
+            return self.refuse(TOO_MANY_CONTEXTS, text);
+        };
+        let hierarchies = &keep.fixed().hierarchies;
+        let mut context: Sink<CONTEXT_SIZE> = Sink::new();
+        seal_sequence(
+            hierarchies,
+            self.binding(keep),
+            number,
+            object,
+            &mut context,
+        );
+        self.give_counted(number, &context, text);
+    }
+
+    /// Answers TPM2_ContextSave of a sequence object.
+    fn save_sequence<K: Keep>(&mut self, keep: &K, handle: Handle, text: &mut Response)
+        ensures { record { response = text.new.items; after = self.new }
+            ≡ sequence_saved (K.record_of keep.now) self.old (sequence_of self.old handle) }
+    {
+        match self.sequence_of(handle) {
+            Some(object) => self.give_sequence(keep, &object, text),
+            None => self.refuse(REFERENCE_H0, text),
+        }
+    }
+
+    /// Answers TPM2_ContextSave of a transient handle.
     fn save_object<K: Keep>(&mut self, keep: &K, handle: Handle, text: &mut Response)
         ensures { record { response = text.new.items; after = self.new }
-            ≡ object_saved (K.record_of keep.now) self.old
+            ≡ object_saved (K.record_of keep.now) self.old handle
             (object_at (K.record_of keep.now).objects handle) }
     {
         match keep.objects().get(handle) {
             Some(object) => self.give_object(keep, object, text),
-            None => self.refuse(REFERENCE_H0, text),
+            None => self.save_sequence(keep, handle, text),
         }
     }
 
@@ -143,7 +185,7 @@ impl Completion {
     }
 
     /// Answers with this handle.
-    fn give_handle(&self, handle: Handle, text: &mut Response)
+    pub(crate) fn give_handle(&self, handle: Handle, text: &mut Response)
         ensures { record { response = text.new.items; after = self.now }
             ≡ handle_given self.now handle }
     {

@@ -1,12 +1,12 @@
-//! The commands on sequence objects for which the layer sends a command to the device:
-//! TPM2_HMAC_Start sends TPM2_HMAC, and TPM2_EventSequenceComplete sends TPM2_PCR_Extend.
+//! The commands on sequence objects for which the layer sends a command to the device: TPM2_HMAC
+//! for TPM2_HMAC_Start, and TPM2_PCR_Extend for TPM2_EventSequenceComplete.
 
 ghost use Rattle.std.specs.Prelude.{◌≡◌, ◌≤◌, ◌+◌, ◌++◌, [], IfOk, length, map, option_copied};
 ghost use Rattle.std.specs.Int.{w32, to_be_bytes};
 ghost use Rattle.std.specs.Prelude.{option_and_then, option_map};
 ghost use Rattle.tpm_record.specs.Entity.{object_of};
 ghost use Rattle.tpm_bytes.specs.Reading.{Gives};
-ghost use Rattle.tpm_step.specs.Answer.{framed};
+ghost use Rattle.tpm_step.specs.step.Answer.{framed};
 ghost use Rattle.tpm_types_command.specs.AuthEntry.{entry_of};
 ghost use Rattle.tpm_completion.specs.Sending.{area_of, digests_text, event_complete_sent, extend_command, hmac_command, hmac_start_in, hmac_start_sent, key_hash, keyed_sequence, sent_by, sent_for, sent_reply, start_of, start_work, work_done};
 
@@ -168,7 +168,7 @@ fn digests_text(sequence: &Sequence) -> Option<Sink<80>>
 }
 
 impl Completion {
-    /// What TPM2_HMAC_Start asks for.
+    /// Parses a TPM2_HMAC_Start.
     #[tactic(auto, unfolding(crate::specs::Sending::hmac_start_in))]
     fn hmac_start_in<'a>(&self, bytes: &'a [u8]) -> Result<HmacStart<'a>, Refused>
         ensures value { Gives start_of (hmac_start_in self.now bytes.now) result }
@@ -194,7 +194,7 @@ impl Completion {
         })
     }
 
-    /// The command that TPM2_HMAC_Start sends.
+    /// The command that the layer sends for TPM2_HMAC_Start.
     #[tactic(auto, unfolding(crate::specs::Sending::hmac_start_sent))]
     fn hmac_start_sent<K: Keep>(&self, keep: &K, bytes: &[u8]) -> Result<Sent, Refused>
         ensures { result ≡ hmac_start_sent (K.record_of keep.now) self.now bytes.now }
@@ -206,7 +206,7 @@ impl Completion {
         })
     }
 
-    /// The command that TPM2_EventSequenceComplete sends.
+    /// The command that the layer sends for TPM2_EventSequenceComplete.
     #[tactic(auto, unfolding(crate::specs::Sending::event_complete_sent))]
     fn event_complete_sent(&self, bytes: &[u8]) -> Result<Sent, Refused>
         ensures { result ≡ event_complete_sent self.now bytes.now }
@@ -236,8 +236,8 @@ impl Completion {
         })
     }
 
-    /// The command that a client's command with sessions sends, or its refusal, if it is a command
-    /// that sends one.
+    /// The command that the layer sends for a client's command with sessions, or the refusal of the
+    /// client's command; `None` if the layer sends nothing for it.
     pub(crate) fn sent_by<K: Keep>(
         &self,
         keep: &K,

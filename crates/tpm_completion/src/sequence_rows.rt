@@ -26,14 +26,14 @@ use tpm_types::{
 /// The response to an entry with a password: an empty nonce, continueSession, and an empty HMAC.
 pub const PASSWORD_ANSWER: [u8; 5] = [0, 0, 1, 0, 0];
 
-/// The refusal because no slot is free.
+/// The refusal if no slot is free.
 pub fn full_refused() -> Refused
     ensures { result ≡ full_refused }
 {
     action_refusal(ActionCheck::First, ResponseCode::ObjectMemory.anywhere())
 }
 
-/// The refusal because the sequence object of a handle, by its number, has the wrong kind.
+/// The refusal if the handle with this number names a sequence object of the wrong kind.
 pub fn mode_refused(number: u8) -> Refused
     ensures { result ≡ mode_refused number }
 {
@@ -61,7 +61,7 @@ struct NamedSequence<'a> {
     parameters: &'a [u8],
 }
 
-/// The answer to the completion of a sequence, unless it is an event sequence.
+/// The answer when a sequence completes, unless it is an event sequence.
 fn completion_text(
     hierarchies: &Hierarchies,
     asked: HierarchyHandle,

@@ -1,7 +1,7 @@
 //! The slots of sequence objects, and the handles of these objects.
 
 ghost use Rattle.std.specs.Prelude.{◌≡◌, ◌≤◌, ◌<◌, ◌+◌, ◌++◌, length, option_copied};
-ghost use Rattle.tpm_completion.specs.Sequences.{free_slot, in_slot, is_after_objects, no_sequences, sequence_element, sequence_elements, sequence_handle, slot_of, with_sequence, without_sequence};
+ghost use Rattle.tpm_completion.specs.Sequences.{free_slot, in_slot, is_after_objects, no_sequences, sequence_element, sequence_elements, sequence_handle, sequence_of, slot_of, with_sequence, without_sequence};
 
 use crate::completion::Completion;
 use crate::listing::{Elements, element};
@@ -28,7 +28,8 @@ pub(crate) fn sequence_handle(slot: u8) -> Handle
     }
 }
 
-/// Whether a handle is that of a transient object, but not one that the device gives.
+/// Whether a handle is in the range of transient objects, but after the handles that the device
+/// assigns.
 fn is_after_objects(handle: Handle) -> bool
     ensures { result ≡ is_after_objects handle }
 {
@@ -62,6 +63,14 @@ impl Completion {
         } else {
             None
         }
+    }
+
+    /// The sequence object that a handle names, if there is one.
+    pub(crate) fn sequence_of(&self, handle: Handle) -> Option<SequenceObject>
+        ensures { result ≡ sequence_of self.now handle }
+    {
+        let slot = self.slot_of(handle)?;
+        self.in_slot(slot).copied()
     }
 
     /// The lowest slot without a sequence object.

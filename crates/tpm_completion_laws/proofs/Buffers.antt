@@ -24,10 +24,10 @@ use Rattle.tpm_types_command.specs.declared.header.HeaderFault.{HeaderFault}
 use Rattle.tpm_types_command.specs.declared.header.HeaderFault.TheVariants as fault
 use Rattle.tpm_types_command.specs.declared.tag.Tag.{Tag}
 use Rattle.tpm_types_command.specs.declared.tag.Tag.TheVariants.{NoSessions}
-use Rattle.tpm_step.specs.Answer.{framed}
-use Rattle.tpm_step.specs.Events.{Given}
-use Rattle.tpm_step.specs.General.{body_of, general, in_command, in_header}
-use Rattle.tpm_step.specs.Step.{Stepped, accepted, acceptance, answer_where, step}
+use Rattle.tpm_step.specs.step.Answer.{framed}
+use Rattle.tpm_step.specs.step.Events.{Given}
+use Rattle.tpm_step.specs.step.General.{body_of, general, in_command, in_header}
+use Rattle.tpm_step.specs.step.Step.{Stepped, accepted, acceptance, answer_where, step}
 use Rattle.tpm_completion.specs.Answer.{is_refusal, refusal}
 use Rattle.tpm_completion.specs.Command.{Command, authorized_command, plain_command}
 use Rattle.tpm_completion.specs.Loading.{context_asked, object_context_in}
@@ -100,8 +100,8 @@ plain_again code body small few =
     ∙ ap (λ (read : Result (ℕ × List ℕ) Short). read >>= Checked 0x8001 size) (number_again w32 (2 ^ 32) wide32 code body small)
     ∙ ap (λ (same : Bool). refused_if (not same) too_short >>= (λ sized. Ok (record { code = code; parameters = body }))) fits
 
--- if the device refused a command that it does not support, the context that the layer is to load
--- is the context that `object_context_in` finds in the command
+-- if the device refused a command that it does not support, the layer loads the context that
+-- `object_context_in` finds in the command
 pub asked_again : (t : Record) (code : ℕ) (body : List ℕ) → code < 2 ^ 32 → length body ≤ 4086 → t.fixed.started ≡ true
     → context_asked t (framed 0x8001 code body) (refusal 0x143) ≡ object_context_in (Ok (record { code = code; parameters = body }))
 unfolding context_asked
@@ -109,8 +109,8 @@ asked_again t code body small few started =
     ap (λ (b : Bool). if b && is_refusal 0x143 (refusal 0x143) then object_context_in (plain_command (framed 0x8001 code body)) else None) started
     ∙ ap object_context_in (plain_again code body small few)
 
--- the layer's answer to a command on sequence objects, if it has one, after the device refused a
--- command without sessions
+-- if the device refused a command without sessions, `bare_reply` is the layer's answer on sequence
+-- objects
 sequence_again : (t : Record) (c : Completion) (code : ℕ) (body : List ℕ) → code < 2 ^ 32 → length body ≤ 4086 → t.fixed.started ≡ true
     → sequence_reply t c (framed 0x8001 code body) (refusal 0x143) ≡ bare_reply c (record { code = code; parameters = body })
 unfolding sequence_reply
@@ -119,8 +119,7 @@ sequence_again t c code body small few started =
     ap (λ (b : Bool). if not b then None else asked_reply t c (plain_command buffer) (authorized_command buffer)) started
     ∙ ap (λ (x : Result Command Short). asked_reply t c x (authorized_command buffer)) (plain_again code body small few)
 
--- the command that the layer sends to the device after the device refused a command without
--- sessions: none
+-- if the device refused a command without sessions, the layer sends no command to the device
 pub none_sent : (t : Record) (c : Completion) (code : ℕ) (body : List ℕ) → length body ≤ 4086 → sent_for t c (framed 0x8001 code body) (refusal 0x143) ≡ None
 unfolding sent_for authorized_command
 none_sent t c code body few =
@@ -140,8 +139,8 @@ none_sent t c code body few =
     none true = wrong_tag (number_at w32 (to_be_bytes w32 (10 + length body) ++ to_be_bytes w32 code ++ body))
     none false = refl
 
--- the layer's reply to a command that the device does not support, and that is not on sequence
--- objects, is the reply that `served` defines
+-- `served` defines the layer's reply to a command that the device does not support, and that is not
+-- on sequence objects
 pub reply_again : (t : Record) (c : Completion) (code : ℕ) (body : List ℕ) (was_told : Bool) → code < 2 ^ 32 → length body ≤ 4086 → t.fixed.started ≡ true
     → bare_reply c (record { code = code; parameters = body }) ≡ None
     → reply t c (framed 0x8001 code body) (refusal 0x143) was_told ≡ served t c (record { code = code; parameters = body }) (refusal 0x143)

@@ -6,3 +6,7 @@ pub mod Loading
 pub mod Starts
 pub mod Validity
 pub mod SentCodes
+pub mod SequencesNamed
+pub mod SequencesSaved
+pub mod SequencesLoaded
+pub mod SequencesStarted

@@ -1,6 +1,6 @@
 -- TPM2_ContextLoad of a valid context loads the object that was saved.
 use Rattle.std.proofs.Common.{arith, ◌≡◌, ℕ, ◌^◌, ◌<◌, ◌≤◌, Bool, false, List, ◌++◌, length, Option, Some, None, Result, Ok, refl, sym, ap, subst, ◌∙◌}
-use Rattle.std.specs.Prelude.{is_none, not, if◌then◌else◌, option_map}
+use Rattle.std.specs.Prelude.{◌==◌, ◌||◌, true, is_none, not, if◌then◌else◌, option_map}
 use Rattle.std.specs.Int.{w32, w64, to_be_bytes}
 use Rattle.std.proofs.lemmas.List.{length-append}
 use Rattle.std.proofs.lemmas.List.Quantifiers.{position-Some}
@@ -18,10 +18,13 @@ use Rattle.tpm_object.specs.declared.object.Object.{Object}
 use Rattle.tpm_record.specs.Objects.{next_handle, object_at, object_handle}
 use Rattle.tpm_record.specs.Record.{Record}
 use Rattle.tpm_record.specs.Tick.{ticked}
-use Rattle.tpm_step.specs.Events.{Given, Placed}
-use Rattle.tpm_step.specs.Placing.{placed_at}
-use Rattle.tpm_step.specs.Step.{step}
+use Rattle.tpm_step.specs.step.Events.{Given, Placed}
+use Rattle.tpm_step.specs.step.Placing.{placed_at}
+use Rattle.tpm_step.specs.step.Step.{step}
 use Rattle.tpm_types.specs.Handle.{hierarchy_handle, is_session, numbered}
+use Rattle.tpm_types.specs.declared.handle.Handle.{Handle}
+use Rattle.tpm_types_object.specs.ObjectAttributes.{has}
+use Rattle.tpm_types_object.specs.declared.object_attributes.ObjectAttribute.TheVariants as attribute
 use Rattle.tpm_context.specs.Context.{blob_text, context_text, object_cipher, proof_of}
 use Rattle.tpm_context.specs.Head.{head_of, saved_number, saved_of}
 use Rattle.tpm_context.specs.Protection.{integrity_of, restart_bound}
@@ -33,10 +36,10 @@ use Rattle.tpm_context.proofs.Reading.{cipher_small, integrity_size}
 use Rattle.tpm_record.specs.declared.hierarchy.Hierarchies.{Hierarchies}
 use Rattle.tpm_completion.proofs.Loaded.{loads_what_was_saved}
 use Rattle.tpm_completion.specs.Command.{Command}
-use Rattle.tpm_completion.specs.Completed.{behind, done_behind, loaded_behind}
+use Rattle.tpm_completion.specs.Completed.{behind, done_after, loaded_after}
 use Rattle.tpm_completion.specs.Completion.{forgotten}
-use Rattle.tpm_completion.specs.Context.{is_of_session, names_session, saved_handle_at}
-use Rattle.tpm_completion.specs.Execution.{Seen, placed_behind}
+use Rattle.tpm_completion.specs.Context.{is_of_sequence, is_of_session, names_own, saved_handle_at}
+use Rattle.tpm_completion.specs.Execution.{Seen, placed_after}
 use Rattle.tpm_completion.specs.Saving.{binding_of}
 use Rattle.tpm_completion.specs.Loaded.{StaysValid, saved_context}
 use Rattle.tpm_completion.specs.Loading.{object_context_in, placed_reply}
@@ -45,15 +48,17 @@ use Rattle.tpm_completion_laws.proofs.Buffers.{IsLacking, asked_again, header_la
 use Rattle.tpm_completion_laws.proofs.Saving.{lacking_effect, passed_lacks}
 use Rattle.tpm_completion_laws.specs.Objects.{IsLoaded, LoadsObjects, load_buffer}
 
-lacks_load : IsLacking 0x161
+pub lacks_load : IsLacking 0x161
 unfolding code_named
 lacks_load = record { small = omega arith; unnamed = refl }
 
--- ---- the context names no session
+-- ---- the context names neither a session nor a sequence object
 
-no_session : (one : SavedHandle) → is_session (numbered (saved_number one)) ≡ false
-no_session saved.Ordinary = refl
-no_session saved.StClear = refl
+-- the savedHandle of an object is neither that of a session nor that of a sequence object
+no_own : (clear : Bool)
+    → (let one : SavedHandle = if clear then saved.StClear else saved.Ordinary in is_session (numbered (saved_number one)) || (saved_number one == saved_number saved.Sequence)) ≡ false
+no_own true = refl
+no_own false = refl
 
 context_handle : (h : Hierarchies) (b : Binding) (sequence : ℕ) (o : Object) → sequence < 2 ^ 64
     → saved_handle_at (context_text h b sequence o) ≡ Ok (numbered (saved_number (saved_of o.public)))
@@ -70,13 +75,15 @@ context_handle h b sequence o small =
     hierarchy_number : Object → ℕ
     hierarchy_number o = (hierarchy_handle o.hierarchy).number
 
-names_none : (h : Hierarchies) (b : Binding) (sequence : ℕ) (o : Object) → sequence < 2 ^ 64 → names_session (context_text h b sequence o) ≡ false
-names_none h b sequence o small = ap is_of_session (context_handle h b sequence o small) ∙ no_session (saved_of o.public)
+names_none : (h : Hierarchies) (b : Binding) (sequence : ℕ) (o : Object) → sequence < 2 ^ 64 → names_own (context_text h b sequence o) ≡ false
+names_none h b sequence o small =
+    ap (λ (handle : Result Handle Short). is_of_session handle || is_of_sequence handle) (context_handle h b sequence o small)
+    ∙ no_own (has o.public.attributes attribute.StClear)
 
-abbrev loading : (context : List ℕ) → Command
+abbrev pub loading : (context : List ℕ) → Command
 loading context = record { code = 0x161; parameters = context }
 
-asked_is : (context : List ℕ) → names_session context ≡ false → object_context_in (Ok (loading context)) ≡ Some context
+asked_is : (context : List ℕ) → names_own context ≡ false → object_context_in (Ok (loading context)) ≡ Some context
 asked_is context none = ap (λ (b : Bool). if not b then Some context else None) none
 
 -- ---- the size of a context
@@ -99,7 +106,7 @@ unfolding object_at
 found_again places place o small is = (free transient_byte places 0x80 place small is, put_found transient_byte places place o small is)
 
 loaded_as : (t : Record) (c : Completion) (drawn : ℕ) (o : Object) (found : Option ℕ) → lowest_free t.objects ≡ found → length t.objects ≤ 2 ^ 24
-    → IsLoaded t o (option_map object_handle found) (placed_behind (lacking_effect t c drawn) (step t (Placed o)))
+    → IsLoaded t o (option_map object_handle found) (placed_after (lacking_effect t c drawn) (step t (Placed o)))
 loaded_as t c drawn o (Some place) is few =
     let inside = position-Some is_none t.objects place None is in
     let small : place < 2 ^ 24 = omega (arith, inside.0, few) in
@@ -115,7 +122,7 @@ loaded_as t c drawn o None is few = record {
   device = ap (λ (p : Option ℕ). record t { objects = placed_at p o t.objects }) is;
 }
 
-kept_start : (t : Record) (c : Completion) → (forgotten t c).start ≡ c.start
+pub kept_start : (t : Record) (c : Completion) → (forgotten t c).start ≡ c.start
 unfolding forgotten
 kept_start t c = refl
 
@@ -130,6 +137,7 @@ still_valid r later c d o elapsed stays = record {
   where
     same_restart : (one : SavedHandle) → restart_bound (binding_of (ticked later elapsed) (forgotten (ticked later elapsed) d)) one ≡ restart_bound (binding_of later d) one
     same_restart saved.Ordinary = refl
+    same_restart saved.Sequence = refl
     same_restart saved.StClear = refl
 
 pub loads_objects : LoadsObjects
@@ -144,6 +152,6 @@ loads_objects r later c d number o locality elapsed random small is whole starte
     let asked = asked_again t 0x161 context (omega arith) few started ∙ asked_is context (names_none r.fixed.hierarchies (binding_of r c) number o small) in
     let opens = loads_what_was_saved r t c (forgotten t d) number o small is (still_valid r later c d o elapsed stays) in
     let effect = ap (λ (seen : Seen). behind seen buffer locality) (passed_lacks later d buffer locality elapsed random lacks)
-    ∙ ap (done_behind first buffer locality) asked ∙ ap (loaded_behind first) opens in
+    ∙ ap (done_after first buffer locality) asked ∙ ap (loaded_after first) opens in
     subst (IsLoaded t o (next_handle later.objects)) (sym effect)
     (loaded_as t d drawn o (lowest_free t.objects) refl (omega (arith, whole.objects)))

@@ -11,12 +11,12 @@ use Rattle.tpm_object.specs.declared.object.Object.{Object}
 use Rattle.tpm_record.specs.Objects.{object_at}
 use Rattle.tpm_record.specs.Record.{Record}
 use Rattle.tpm_record.specs.Tick.{ticked}
-use Rattle.tpm_step.specs.Events.{Given}
-use Rattle.tpm_step.specs.Step.{Stepped, step}
+use Rattle.tpm_step.specs.step.Events.{Given}
+use Rattle.tpm_step.specs.step.Step.{Stepped, step}
 use Rattle.tpm_types.specs.Handle.{is_transient}
 use Rattle.tpm_types.specs.declared.handle.Handle.{Handle}
 use Rattle.tpm_completion.specs.Answer.{refusal, success}
-use Rattle.tpm_completion.specs.Completed.{behind, done_behind, passed, sending_behind}
+use Rattle.tpm_completion.specs.Completed.{behind, done_after, passed, sending_after}
 use Rattle.tpm_completion.specs.Completion.{forgotten}
 use Rattle.tpm_completion.specs.Execution.{Seen, answered}
 use Rattle.tpm_completion.specs.Loaded.{saved_context}
@@ -43,10 +43,10 @@ lacks_save = record { small = omega arith; unnamed = refl }
 -- ---- the reply
 
 chosen : (t : Record) (c : Completion) (handle : Handle) (b : Bool) (found : Option Object) (object : Object) (other : Reply) → b ≡ true → found ≡ Some object
-    → (if b then object_saved t c found else other) ≡ object_numbered t c object (next_number c)
+    → (if b then object_saved t c handle found else other) ≡ object_numbered t c object (next_number c)
 chosen t c handle b found object other holds there = rw (holds, there) refl
 
-numbered_next : (c : Completion) → c.count < 2 ^ 64 - 1 → next_number c ≡ Some (c.count + 1)
+pub numbered_next : (c : Completion) → c.count < 2 ^ 64 - 1 → next_number c ≡ Some (c.count + 1)
 numbered_next c less = ap (λ (b : Bool). if b then Some (c.count + 1) else None) (lt-ltb c.count (2 ^ 64 - 1) less)
 
 -- the reply that contains the context of an object
@@ -60,7 +60,7 @@ saved_is t c handle object transient less there =
     chosen t c handle (is_transient handle) (object_at t.objects handle) object _ transient there
     ∙ ap (object_numbered t c object) (numbered_next c less)
 
-handle_read : (handle : Handle) → handle.number < 2 ^ 32 → number_at w32 (to_be_bytes w32 handle.number) ≡ Ok (handle.number, [])
+pub handle_read : (handle : Handle) → handle.number < 2 ^ 32 → number_at w32 (to_be_bytes w32 handle.number) ≡ Ok (handle.number, [])
 handle_read handle small = ap (number_at w32) (sym (append-nil (to_be_bytes w32 handle.number))) ∙ number_again w32 (2 ^ 32) wide32 handle.number [] small
 
 served_saves : (t : Record) (c : Completion) (handle : Handle) (object : Object) → handle.number < 2 ^ 32 → is_transient handle ≡ true → c.count < 2 ^ 64 - 1 → object_at t.objects handle ≡ Some object
@@ -70,7 +70,7 @@ served_saves t c handle object small transient less there =
 
 -- ---- the effect
 
-kept_count : (t : Record) (c : Completion) → (forgotten t c).count ≡ c.count
+pub kept_count : (t : Record) (c : Completion) → (forgotten t c).count ≡ c.count
 unfolding forgotten
 kept_count t c = refl
 
@@ -78,8 +78,8 @@ saved_effect : (t : Record) (c : Completion) (handle : Handle) (object : Object)
     → behind (lacking_effect t c drawn) (save_buffer handle) locality ≡ answered (lacking_effect t c drawn) (saved_reply t (forgotten t c) object)
 saved_effect t c handle object locality drawn started small transient less there =
     let first = lacking_effect t c drawn in
-    ap (done_behind first (save_buffer handle) locality) (asked_again t 0x162 (to_be_bytes w32 handle.number) (omega arith) (omega arith) started)
-    ∙ ap (sending_behind first (save_buffer handle) locality) (none_sent t (forgotten t c) 0x162 (to_be_bytes w32 handle.number) (omega arith))
+    ap (done_after first (save_buffer handle) locality) (asked_again t 0x162 (to_be_bytes w32 handle.number) (omega arith) (omega arith) started)
+    ∙ ap (sending_after first (save_buffer handle) locality) (none_sent t (forgotten t c) 0x162 (to_be_bytes w32 handle.number) (omega arith))
     ∙ ap (answered first)
     (reply_again t (forgotten t c) 0x162 (to_be_bytes w32 handle.number) false (omega arith) (omega arith) started refl
     ∙ served_saves t (forgotten t c) handle object small transient less there)

@@ -30,10 +30,10 @@ use Rattle.tpm_types_command.specs.Tag.{tag_named}
 use Rattle.tpm_types_command.specs.declared.header.Header.{Header}
 use Rattle.tpm_types_command.specs.declared.header.HeaderFault.{HeaderFault}
 use Rattle.tpm_types_command.specs.declared.header.HeaderFault.TheVariants as fault
-use Rattle.tpm_step.specs.Answer.{framed}
-use Rattle.tpm_step.specs.General.{body_of, general, in_command, in_header, present_handles_at, sessions_pass}
-use Rattle.tpm_step.specs.Step.{Accepted, acceptance, accepted, request_in}
-use Rattle.tpm_step.specs.Table.{row_of}
+use Rattle.tpm_step.specs.step.Answer.{framed}
+use Rattle.tpm_step.specs.step.General.{body_of, general, in_command, in_header, present_handles_at, sessions_pass}
+use Rattle.tpm_step.specs.step.Step.{Accepted, acceptance, accepted, request_in}
+use Rattle.tpm_step.specs.step.Table.{row_of}
 use Rattle.tpm_step.specs.declared.refused_command.RefusedCommand.{RefusedCommand}
 use Rattle.tpm_completion.specs.Answer.{is_refusal}
 use Rattle.tpm_completion.specs.Authorizing.{absent_refused, entries_at, handle_at, password_refused, sequence_named, two_entries}
@@ -46,12 +46,13 @@ use Rattle.tpm_completion.specs.declared.sending.Sent.{Sent}
 
 -- ---- results of several steps
 
--- if every success of the second step satisfies a property, so does the success of both
+-- if every success of the second step satisfies a property, so does the success of both steps
 pub then_ok : {A B E : Type 0} (Is : B → Type 0) (x : Result A E) (f : A → Result B E) → ((a : A) → IfOk (f a) Is) → IfOk (x >>= f) Is
 then_ok Is (Ok a) f each = each a
 then_ok Is (Err e) f each = tt
 
--- the same, if the success of the first step satisfies a property too
+-- if the success of the first step satisfies `Was`, and the success of the second step therefore
+-- satisfies `Is`, so does the success of both steps
 ok_then : {A B E : Type 0} (Was : A → Type 0) (Is : B → Type 0) (x : Result A E) (f : A → Result B E) → IfOk x Was → ((a : A) → Was a → IfOk (f a) Is) → IfOk (x >>= f) Is
 ok_then Was Is (Ok a) f was each = each a was
 ok_then Was Is (Err e) f was each = tt
@@ -176,7 +177,8 @@ module _ (Is : CommandCode → Type 0) (hmac : Is command.Hmac) (extend : Is com
   in_code r c (Ok command) = by_code r c command.code command.parameters
   in_code r c (Err e) = tt
 
-  -- a property of TPM2_HMAC and TPM2_PCR_Extend is one of each command that the layer sends
+  -- a property that both TPM2_HMAC and TPM2_PCR_Extend have holds for each command that the layer
+  -- sends
   pub sent_code : (r : Record) (c : Completion) (buffer response : List ℕ) → IfSome (sent_for r c buffer response) Sends
   unfolding sent_for
   sent_code r c buffer response = by (r.fixed.started && is_refusal 0x143 response)

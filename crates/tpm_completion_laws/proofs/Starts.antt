@@ -11,21 +11,21 @@ use Rattle.tpm_record.specs.Record.{Record}
 use Rattle.tpm_types.specs.declared.handle.Handle.{Handle}
 use Rattle.tpm_types.specs.declared.refused.Refused.{Refused}
 use Rattle.tpm_session.specs.Sessions.{session_at}
-use Rattle.tpm_step.specs.Answer.{framed}
+use Rattle.tpm_step.specs.step.Answer.{framed}
 use Rattle.tpm_types.specs.Handle.{is_session, is_transient, numbered}
 use Rattle.tpm_completion.specs.Answer.{is_refusal, refusal, success}
 use Rattle.tpm_completion.specs.Capability.{asked_at, capability_told}
 use Rattle.tpm_completion.specs.Command.{Command, authorized_command, plain_command, tag_of}
 use Rattle.tpm_completion.specs.Completion.{session_context}
-use Rattle.tpm_completion.specs.Context.{names_session, token_at}
+use Rattle.tpm_completion.specs.Context.{names_session, token_at, names_sequence}
 use Rattle.tpm_completion.specs.Hashing.{hash_row, hierarchy_at}
 use Rattle.tpm_completion.specs.Loading.{placed_reply}
 use Rattle.tpm_completion.specs.Reply.{capability_asked, command_reply, is_stirred, listed, stands, load_asked, or_reply, plain_reply, probed, replied, reply, reply_by, row_served, save_asked, served, stirred}
-use Rattle.tpm_completion.specs.Saving.{Reply, handle_given, refused, with_session, loaded, loaded_by, next_number, object_numbered, object_saved, place_named, saved, session_numbered, session_saved}
+use Rattle.tpm_completion.specs.Saving.{Reply, handle_given, refused, with_session, loaded, loaded_by, next_number, object_numbered, object_saved, place_named, saved, session_numbered, session_saved, sequence_numbered, sequence_saved}
 use Rattle.tpm_completion.specs.Sending.{sent_by, sent_reply}
 use Rattle.tpm_completion.specs.SequenceReply.{asked_reply, authorized_reply, bare_reply, flush_handle, flush_reply, needs_password, row_reply, sequence_reply, unsent_reply}
 use Rattle.tpm_completion.specs.SequenceRows.{complete_row, completion_text, flushed, full_refused, hash_start_row, mode_refused, sequence_in, update_row}
-use Rattle.tpm_completion.specs.Sequences.{free_slot, slot_of}
+use Rattle.tpm_completion.specs.Sequences.{free_slot, slot_of, sequence_of}
 use Rattle.tpm_completion.specs.Testing.{incremental_row, test_parms_row, test_result_row}
 use Rattle.tpm_completion.specs.declared.capability.Asked.{Asked}
 use Rattle.tpm_completion.specs.declared.completion.Completion.{Completion}
@@ -39,6 +39,9 @@ use Rattle.tpm_sequence.specs.Sequence.{sequence_updated}
 use Rattle.tpm_types.specs.Algorithm.{hash_or_null_at}
 use Rattle.tpm_types.specs.Buffer.{buffer_at}
 use Rattle.tpm_types.specs.Limits.{data_limit}
+use Rattle.tpm_completion.specs.SequenceLoading.{opened_put, sequence_loaded, sequence_opened, sequence_put}
+use Rattle.tpm_sequence.specs.declared.object.SequenceObject.{SequenceObject}
+use Rattle.tpm_context.specs.declared.fault.ContextFault.{ContextFault}
 
 -- The layer has this start number after a reply.
 record StartsAt (start : ℕ) (reply : Reply) : Type 0 where
@@ -48,7 +51,7 @@ either : (b : Bool) (start : ℕ) (x y : Reply) → StartsAt start x → StartsA
 either true start x y h k = h
 either false start x y h k = k
 
--- if every success of the second step satisfies a property, so does the success of both
+-- if every success of the second step satisfies a property, so does the success of both steps
 then_ok : {A B E : Type 0} (Is : B → Type 0) (x : Result A E) (f : A → Result B E) → ((a : A) → IfOk (f a) Is) → IfOk (x >>= f) Is
 then_ok Is (Ok a) f each = each a
 then_ok Is (Err e) f each = tt
@@ -63,9 +66,17 @@ module _ (r : Record) (c : Completion) where
   numbered_starts o (Some number) = record { is = refl }
   numbered_starts o None = record { is = refl }
 
-  object_starts : (found : Option Object) → StartsAt c.start (object_saved r c found)
-  object_starts (Some o) = numbered_starts o (next_number c)
-  object_starts None = record { is = refl }
+  sequence_number_starts : (o : SequenceObject) (number : Option ℕ) → StartsAt c.start (sequence_numbered r c o number)
+  sequence_number_starts o (Some number) = record { is = refl }
+  sequence_number_starts o None = record { is = refl }
+
+  sequence_save_starts : (found : Option SequenceObject) → StartsAt c.start (sequence_saved r c found)
+  sequence_save_starts (Some o) = sequence_number_starts o (next_number c)
+  sequence_save_starts None = record { is = refl }
+
+  object_starts : (handle : Handle) (found : Option Object) → StartsAt c.start (object_saved r c handle found)
+  object_starts handle (Some o) = numbered_starts o (next_number c)
+  object_starts handle None = sequence_save_starts (sequence_of c handle)
 
   session_number_starts : (handle : Handle) (number : Option ℕ) → StartsAt c.start (session_numbered c handle number)
   session_number_starts handle (Some number) = record { is = refl }
@@ -81,8 +92,8 @@ module _ (r : Record) (c : Completion) where
   saved_starts handle =
       let session = session_saved r c handle (session_context c (place_named handle)) in
       let other = refused c 0x184 in
-      either (is_transient handle) c.start (object_saved r c (object_at r.objects handle)) (if is_session handle then session else other)
-      (object_starts (object_at r.objects handle))
+      either (is_transient handle) c.start (object_saved r c handle (object_at r.objects handle)) (if is_session handle then session else other)
+      (object_starts handle (object_at r.objects handle))
       (either (is_session handle) c.start session other (session_starts handle (session_context c (place_named handle))) (record { is = refl }))
 
   save_starts : (response : List ℕ) (handle : Result (ℕ × List ℕ) Short) → StartsAt c.start (save_asked r c response handle)
@@ -97,10 +108,21 @@ module _ (r : Record) (c : Completion) where
       (handle_given (with_session c (place_named token.handle) 0) token.handle) (refused c 0x1cb) (record { is = refl }) (record { is = refl })
   token_starts (Err e) = record { is = refl }
 
+  put_starts : (o : SequenceObject) (slot : Option ℕ) → StartsAt c.start (sequence_put c o slot)
+  put_starts o (Some slot) = record { is = refl }
+  put_starts o None = record { is = refl }
+
+  opened_starts : (opened : Result SequenceObject ContextFault) → StartsAt c.start (opened_put c opened)
+  opened_starts (Ok o) = put_starts o (free_slot c)
+  opened_starts (Err fault) = record { is = refl }
+
   load_starts : (context response : List ℕ) → StartsAt c.start (load_asked r c context response)
   unfolding loaded
   load_starts context response =
-      either (names_session context) c.start (loaded_by r c (token_at c.start context)) (stands c response) (token_starts (token_at c.start context)) (record { is = refl })
+      let sequence = sequence_loaded r c context in
+      let none = stands c response in
+      either (names_session context) c.start (loaded_by r c (token_at c.start context)) (if names_sequence context then sequence else none) (token_starts (token_at c.start context))
+      (either (names_sequence context) c.start sequence none (opened_starts (sequence_opened r c context)) (record { is = refl }))
 
   -- ---- the other commands
 
@@ -256,7 +278,7 @@ module _ (r : Record) (c : Completion) where
   reply_starts buffer response was_told =
       (or_starts (sequence_reply r c buffer response) (plain_reply r c buffer response was_told) (sequence_starts buffer response) (plain_starts buffer response was_told)).is
 
--- the answer after the device executed a command that the layer sent leaves the start number
+-- the answer after a command that the layer sent does not change the layer's start number
 pub sent_starts : (c : Completion) (accepted : Bool) (work : Option Work) (response : List ℕ) → (sent_reply c accepted work response).after.start ≡ c.start
 sent_starts c true (Some (Starts slot object)) response = refl
 sent_starts c true (Some (Ends slot digests)) response = refl

@@ -12,17 +12,18 @@ use Rattle.tpm_record.specs.declared.fixed.Fixed.{Fixed}
 use Rattle.tpm_record.specs.declared.hierarchy.Hierarchies.{Hierarchies}
 use Rattle.tpm_record.specs.declared.hierarchy.Secrets.{Secrets}
 use Rattle.tpm_record.specs.rows.Rows.{Success}
+use Rattle.tpm_types.specs.declared.handle.HierarchyHandle.TheVariants as hierarchy
 use Rattle.tpm_step.proofs.rows.Acceptance.{accepted_is}
 use Rattle.tpm_step.proofs.rows.Leaving.{success_leaves}
 use Rattle.tpm_step.proofs.rows.Table.{row_touches}
-use Rattle.tpm_step.specs.Table.{row_of}
+use Rattle.tpm_step.specs.step.Table.{row_of}
 use Rattle.tpm_step.specs.declared.refused_command.RefusedCommand.{RefusedCommand}
 use Rattle.tpm_step.specs.rows.Acceptance.{IsAcceptance, LeavesEffect}
 use Rattle.tpm_step.specs.rows.Footprint.{KeepsSecrets, Touches}
-use Rattle.tpm_completion.specs.Completed.{completed, done_behind, loaded_behind, passed, sending_behind}
+use Rattle.tpm_completion.specs.Completed.{completed, done_after, loaded_after, passed, sending_after}
 use Rattle.tpm_completion.specs.Completion.{forgotten}
-use Rattle.tpm_completion.specs.Execution.{Seen, asked_behind, opened_behind, sent_behind, sent_event}
-use Rattle.tpm_completion.specs.Loaded.{StaysValid}
+use Rattle.tpm_completion.specs.Execution.{Seen, asked_after, opened_after, sent_after, sent_event}
+use Rattle.tpm_completion.specs.Loaded.{SequenceStaysValid, StaysValid}
 use Rattle.tpm_completion.specs.Saving.{binding_of}
 use Rattle.tpm_completion.specs.declared.completion.Completion.{Completion}
 use Rattle.tpm_completion.specs.declared.sending.Sent.{Sent}
@@ -32,11 +33,12 @@ use Rattle.tpm_context.specs.declared.fault.ContextFault.{ContextFault}
 use Rattle.tpm_object.specs.declared.object.Object.{Object}
 use Rattle.tpm_record.specs.Objects.{next_handle}
 use Rattle.tpm_record.specs.Tick.{ticked}
-use Rattle.tpm_step.specs.Events.{Given, PlainEvent}
-use Rattle.tpm_step.specs.Step.{Accepted, accepted, step, stepped_of, success_step}
+use Rattle.tpm_step.specs.step.Events.{Given, PlainEvent}
+use Rattle.tpm_step.specs.step.Step.{Accepted, accepted, step, stepped_of, success_step}
 use Rattle.tpm_completion_laws.proofs.SentCodes.{HasCode, accepted_code, sent_code}
 use Rattle.tpm_completion_laws.proofs.Starts.{placed_starts, reply_starts, sent_starts}
 use Rattle.tpm_completion_laws.specs.Objects.{StaysValidThrough}
+use Rattle.tpm_completion_laws.specs.Sequences.{SequencesStayValidThrough}
 
 -- The proofs of the hierarchies, and the counts of TPM Resets and TPM Restarts, are unchanged.
 record Keeps (old new : Fixed) : Type 0 where
@@ -130,7 +132,7 @@ record Leaves (r : Record) (c : Completion) (seen : Seen) : Type 0 where
   fixed : Keeps r.fixed seen.step.after.fixed
   start : seen.layer.start ≡ c.start
 
-loaded_leaves : (first : Seen) (opened : Result Object ContextFault) → Leaves first.step.after first.layer (loaded_behind first opened)
+loaded_leaves : (first : Seen) (opened : Result Object ContextFault) → Leaves first.step.after first.layer (loaded_after first opened)
 loaded_leaves first (Ok object) = record {
   fixed = nothing_changed first.step.after.fixed;
   start = placed_starts first.layer (next_handle first.step.after.objects);
@@ -153,7 +155,7 @@ sent_keeps t locality random buffer has =
     by (Err e) is keeps = same_keeps _ _ refl refl refl
 
 sending_leaves : (first : Seen) (buffer : List ℕ) (locality : ℕ) (sent : Option Sent) → IfSome sent (λ s. HasCode (λ c. keeps_counts (part_of c) ≡ true) s.command)
-    → Leaves first.step.after first.layer (sending_behind first buffer locality sent)
+    → Leaves first.step.after first.layer (sending_after first buffer locality sent)
 sending_leaves first buffer locality (Some sent) has =
     let t = ticked first.step.after 0 in
     let keeps = sent_keeps t locality (replicate 256 0) sent.command has in
@@ -176,10 +178,10 @@ extend_keeps : keeps_counts (part_of command.PcrExtend) ≡ true
 unfolding keeps_counts
 extend_keeps = refl
 
-done_leaves : (first : Seen) (buffer : List ℕ) (locality : ℕ) (asked : Option (List ℕ)) → Leaves first.step.after first.layer (done_behind first buffer locality asked)
-done_leaves first buffer locality (Some context) = loaded_leaves first (opened_behind first context)
+done_leaves : (first : Seen) (buffer : List ℕ) (locality : ℕ) (asked : Option (List ℕ)) → Leaves first.step.after first.layer (done_after first buffer locality asked)
+done_leaves first buffer locality (Some context) = loaded_leaves first (opened_after first context)
 done_leaves first buffer locality None =
-    sending_leaves first buffer locality (sent_behind first buffer)
+    sending_leaves first buffer locality (sent_after first buffer)
     (sent_code (λ c. keeps_counts (part_of c) ≡ true) hmac_keeps extend_keeps first.step.after first.layer buffer first.step.response)
 
 completed_leaves : (completes : Bool) (r : Record) (c : Completion) (buffer : List ℕ) (locality elapsed : ℕ) (random : List ℕ)
@@ -188,7 +190,7 @@ completed_leaves false r c buffer locality elapsed random keeps = passed_leaves 
 completed_leaves true r c buffer locality elapsed random keeps =
     let first = passed c r (Given buffer locality elapsed random) in
     let one = passed_leaves r c (Given buffer locality elapsed random) keeps in
-    let two = done_leaves first buffer locality (asked_behind first buffer) in
+    let two = done_leaves first buffer locality (asked_after first buffer) in
     record {
       fixed = then_keeps r.fixed first.step.after.fixed _ one.fixed two.fixed;
       start = two.start ∙ one.start;
@@ -206,10 +208,29 @@ left_valid r c object seen leaves = record {
       (same_binding r seen.step.after c seen.layer leaves.start leaves.fixed.reset_count leaves.fixed.restart_count);
 }
 
-pub stays_valid_through : StaysValidThrough
-stays_valid_through completes r c object buffer locality elapsed random no_startup no_clear =
+-- every command except TPM2_Startup and TPM2_Clear leaves contexts valid
+leaves_through : (completes : Bool) (r : Record) (c : Completion) (buffer : List ℕ) (locality elapsed : ℕ) (random : List ℕ)
+    → (step r (Given buffer locality elapsed random)).row.code ≢ code_number command.Startup → (step r (Given buffer locality elapsed random)).row.code ≢ code_number command.Clear
+    → Leaves r c (completed completes c r (Given buffer locality elapsed random))
+leaves_through completes r c buffer locality elapsed random no_startup no_clear =
     let t = ticked r elapsed in
     let keeps = stepped_keeps t locality random (accepted t buffer locality random) (accepted_is t buffer locality random) no_startup no_clear in
+    completed_leaves completes r c buffer locality elapsed random
+    (record { secrets = keeps.secrets; reset_count = keeps.reset_count; restart_count = keeps.restart_count })
+
+pub stays_valid_through : StaysValidThrough
+stays_valid_through completes r c object buffer locality elapsed random no_startup no_clear =
     left_valid r c object (completed completes c r (Given buffer locality elapsed random))
-    (completed_leaves completes r c buffer locality elapsed random
-    (record { secrets = keeps.secrets; reset_count = keeps.reset_count; restart_count = keeps.restart_count }))
+    (leaves_through completes r c buffer locality elapsed random no_startup no_clear)
+
+sequence_left_valid : (r : Record) (c : Completion) (seen : Seen) → Leaves r c seen → SequenceStaysValid r seen.step.after c seen.layer
+sequence_left_valid r c seen leaves = record {
+  proof = ap (λ (s : Secrets). s.proof) (leaves.fixed.secrets hierarchy.Null);
+  start = leaves.start;
+  reset_count = leaves.fixed.reset_count;
+}
+
+pub sequences_stay_valid_through : SequencesStayValidThrough
+sequences_stay_valid_through completes r c buffer locality elapsed random no_startup no_clear =
+    sequence_left_valid r c (completed completes c r (Given buffer locality elapsed random))
+    (leaves_through completes r c buffer locality elapsed random no_startup no_clear)

@@ -1,3 +1,4 @@
 pub mod Contexts
 pub mod Listed
 pub mod Objects
+pub mod Sequences

@@ -19,12 +19,13 @@ use Rattle.tpm_completion.specs.declared.completion.Completion.{Completion}
 
 -- ---- commands
 
--- whether a code belongs to one of the layer's own commands; below, those on sequence objects
+-- whether a code belongs to one of the layer's commands on sequence objects
 abbrev pub is_of_sequences : (code : ℕ) → Bool
 is_of_sequences code =
     (code == 0x13e)
     || ((code == 0x15b) || ((code == 0x15c) || ((code == 0x185) || (code == 0x186))))
 
+-- whether a code belongs to one of the layer's own commands
 abbrev pub is_own : (code : ℕ) → Bool
 is_own code =
     (code == 0x142)
@@ -34,8 +35,8 @@ is_own code =
     || ((code == 0x17c)
     || ((code == 0x17d) || ((code == 0x18a) || is_of_sequences code))))))
 
--- The layer does not serve a command, without sessions or with them, and sends none to the device
--- for it.
+-- The layer does not serve this command, without or with sessions, and sends no command to the
+-- device for it.
 pub record IsNotServed (r : Record) (c : Completion) (command : Command) (response : List ℕ) : Type 0
   where
     pub served : served r c command response ≡ stands c response
@@ -71,10 +72,11 @@ abbrev pub ascends_from : ℕ → List ℕ → Bool
 ascends_from n [] = true
 ascends_from n (m ∷ rest) = nat_lt n m && ascends_from m rest
 
--- Commands are listed in ascending order, and so are the properties of every device.
+-- Commands are listed in ascending order.
 abbrev pub CommandsAscend : Type 0
 CommandsAscend = ascends_from 0 (numbers command_elements) ≡ true
 
+-- The properties of every device are listed in ascending order.
 abbrev pub PropertiesAscend : Type 0
 PropertiesAscend =
     (r : Record) (c : Completion) → ascends_from 0 (numbers (property_elements r c)) ≡ true

@@ -12,10 +12,10 @@ use Rattle.tpm_record.specs.IsRecord.{IsRecord}
 use Rattle.tpm_record.specs.Objects.{next_handle, object_at}
 use Rattle.tpm_record.specs.Record.{Record}
 use Rattle.tpm_record.specs.Tick.{ticked}
-use Rattle.tpm_step.specs.Answer.{framed}
-use Rattle.tpm_step.specs.Events.{Given}
-use Rattle.tpm_step.specs.Placing.{placed}
-use Rattle.tpm_step.specs.Step.{step}
+use Rattle.tpm_step.specs.step.Answer.{framed}
+use Rattle.tpm_step.specs.step.Events.{Given}
+use Rattle.tpm_step.specs.step.Placing.{placed}
+use Rattle.tpm_step.specs.step.Step.{step}
 use Rattle.tpm_completion.specs.Answer.{refusal, success}
 use Rattle.tpm_completion.specs.Completed.{completed}
 use Rattle.tpm_completion.specs.Completion.{forgotten}

@@ -10,6 +10,8 @@ ghost use Rattle.tpm_completion_laws.specs.Contexts.{IsLoadedOnce, RefusesAnothe
 ghost use Rattle.tpm_completion_laws.specs.Listed.{CommandsAscend, CountsAddUp, CountsAll, ListsItsOwn};
 ghost use Rattle.tpm_completion_laws.specs.Listed.{PcrPropertiesHold, PropertiesAscend, ServesItsOwn};
 ghost use Rattle.tpm_completion_laws.specs.Objects.{LoadsObjects, SavesObjects, StaysValidThrough};
+ghost use Rattle.tpm_completion_laws.specs.Sequences.{IsNamedOnce, LoadsSequences, SavesSequences};
+ghost use Rattle.tpm_completion_laws.specs.Sequences.{SequencesStayValidThrough, SlotIsNamed, StartsWithTheKey};
 
 /// The context of a session can be loaded only once. A context from another start of the layer is
 /// always refused.
@@ -29,6 +31,21 @@ pub fn object_laws()
     ensures saved { SavesObjects }
     ensures loaded { LoadsObjects }
     ensures valid { StaysValidThrough }
+{}
+
+/// Each slot for a sequence object has one handle. TPM2_ContextSave of a sequence object changes
+/// nothing on the device except the time. TPM2_ContextLoad of the context loads the same sequence
+/// object with a free handle, or is refused with OBJECT_MEMORY if all slots are occupied. Every
+/// command except TPM2_Startup and TPM2_Clear leaves the context valid. TPM2_HMAC_Start starts a
+/// sequence with the hash and the key that the device uses for TPM2_HMAC.
+#[inline(always)]
+pub fn sequence_laws()
+    ensures named { SlotIsNamed }
+    ensures once { IsNamedOnce }
+    ensures saved { SavesSequences }
+    ensures loaded { LoadsSequences }
+    ensures valid { SequencesStayValidThrough }
+    ensures key { StartsWithTheKey }
 {}
 
 /// The layer serves only its own commands, and lists and counts each of them. Commands and

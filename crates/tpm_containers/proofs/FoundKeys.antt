@@ -30,8 +30,8 @@ module _ {X : Type 0} where
             | inr bad ↦ inr (laws.kept_gone stays es key x up there bad)
           ]
 
-  -- if `shown` returns the same for a value and its replacement, replacing the value does not
-  -- change what `shown` returns for any key's value
+  -- if `shown` does not distinguish a value from its replacement, replacing the value does not
+  -- change what `shown` returns for any key
   pub changed_shows : {V : Type 0} (shown : X → V) (es : Entries X) (key : ℕ) (old new : X) → at_key es key ≡ Some old → shown new ≡ shown old → (other : ℕ) → option_map shown (at_key (changed_key es key new) other) ≡ option_map shown (at_key es other)
   changed_shows {V} shown es key old new there same other =
       elim (cases_eq other key) [

@@ -43,8 +43,8 @@ module _ {X : Type 0} (kind : X → ℕ) where
   kind_of-number_of : (k place : ℕ) → place < 2 ^ 24 → kind_of (number_of k place) ≡ k
   kind_of-number_of k place below = omega arith
 
-  -- Suppose that a number identifies another slot, or finds the same value in a slot's old and new
-  -- content. Then writing the slot does not change the value with that number.
+  -- Writing a slot does not change the value with a number that identifies another slot, or that
+  -- finds the same value in the slot's old and new content.
   elsewhere : (places : Slots) (place other : ℕ) (cell : Option X) → (place_of other ≡ place → seen other cell ≡ seen other (at_place places place)) → place < length places → at_number kind (slice_set places place cell) other ≡ at_number kind places other
   unfolding at_number
   elsewhere places place other cell same inside =
@@ -175,13 +175,12 @@ module _ {X : Type 0} (kind : X → ℕ) where
       let set = taken_set places place (Some x) free.0 in
       omega (arith, set, none)
 
-  -- If a number finds a value, this value is in the number's slot. That slot counts as one taken
-  -- slot.
+  -- The slot of a value that a number finds counts as one taken slot.
   one_taken : (places : Slots) (number : ℕ) (x : X) → at_number kind places number ≡ Some x → counted (at_place places (place_of number)) ≡ 1
   one_taken places number x is = ap counted (found_at places number x is).0
 
-  -- Suppose that the slot of a found value is overwritten. If the new content is a value, the
-  -- number of taken slots stays the same. Otherwise, it decreases by one.
+  -- Overwriting the slot of a found value with another value does not change the number of taken
+  -- slots. Freeing the slot decreases the number by one.
   taken_there : (places : Slots) (number : ℕ) (x : X) (cell : Option X) → at_number kind places number ≡ Some x → taken_count (slice_set places (place_of number) cell) + 1 ≡ taken_count places + counted cell
   taken_there places number x cell is =
       let set = taken_set places (place_of number) cell (at_inside places (place_of number) x (found_at places number x is).0) in

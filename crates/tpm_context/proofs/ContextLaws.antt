@@ -7,7 +7,8 @@ use Rattle.std.proofs.lemmas.List.{take_at, drop_at}
 use Rattle.std.proofs.lemmas.Slice.Eq.{bytes_eq-Decides}
 use Rattle.std.proofs.Common.{append-nil}
 use Rattle.tpm_aes.specs.Cfb.{cfb_decrypt_of}
-use Rattle.tpm_bytes.proofs.Fields.{IsWide, ok_is, wide32}
+use Rattle.tpm_bytes.specs.Reading.{◌>>=◌}
+use Rattle.tpm_bytes.proofs.Fields.{IsWide, bind_ok, ok_is, wide32}
 use Rattle.tpm_image_text.proofs.FieldSpelling.{wide64}
 use Rattle.tpm_image_text.proofs.ObjectLaws.{object_fields_spelled}
 use Rattle.tpm_image_text.specs.Body.{object_fields_in, object_fields_text}
@@ -18,8 +19,8 @@ use Rattle.tpm_object.specs.Object.{IsObject}
 use Rattle.tpm_object.specs.declared.object.Object.{Object}
 use Rattle.tpm_record.specs.declared.hierarchy.Hierarchies.{Hierarchies}
 use Rattle.tpm_context.proofs.HeadLaws.{same_saved, saved_small}
-use Rattle.tpm_context.proofs.Reading.{cipher_small, context_opens, decrypted_again, object_again, opened_is, parts_right}
-use Rattle.tpm_context.specs.Context.{context_text, object_cipher, object_in, opened, proof_of}
+use Rattle.tpm_context.proofs.Reading.{cipher_small, content_right, context_opens, decrypted_again, object_again}
+use Rattle.tpm_context.specs.Context.{content_in, context_text, object_cipher, object_in, opened, proof_of}
 use Rattle.tpm_context.specs.Head.{head_of, saved_number}
 use Rattle.tpm_context.specs.Meaning.{AreSame, Collides, CollidesFor, IntegrityMeans, IsBinding, IsMaking, Making, OpensAgain, OpensOnlyAsMade, RefusesAnotherBinding, context_of, covered_text, key_of, made_with, restart_of}
 use Rattle.tpm_context.specs.Protection.{bound_text, cipher_bytes, cipher_iv, cipher_key, decrypted, encrypted, integrity_of, restart_bound}
@@ -36,7 +37,7 @@ opens_again c is = context_opens c.hierarchies c.binding c.sequence c.object is.
 
 -- if two concatenations are equal and their first parts have the same size, the first parts are
 -- equal, and so are the remaining parts
-parted : (a b c d : List ℕ) → length a ≡ length b → a ++ c ≡ b ++ d → (a ≡ b) × (c ≡ d)
+pub parted : (a b c d : List ℕ) → length a ≡ length b → a ++ c ≡ b ++ d → (a ≡ b) × (c ≡ d)
 parted a b c d size e = (
   sym (take_at a c (length a) refl) ∙ ap (take (length a)) e ∙ take_at b d (length a) (sym size),
   sym (drop_at a c (length a) refl) ∙ ap (drop (length a)) e ∙ drop_at b d (length a) (sym size),
@@ -47,17 +48,18 @@ same_number w limit wide n m first second e = sym (wide.again n first) ∙ ap (f
 
 restart_small : (b : Binding) (one : SavedHandle) → IsBinding b → restart_bound b one < 2 ^ 32
 restart_small b saved.Ordinary is = omega arith
+restart_small b saved.Sequence is = omega arith
 restart_small b saved.StClear is = is.restart_count
 
 -- Two contexts agree in all fields that their integrity values cover before the encrypted object.
-record SameBound (a b : Binding) (h k : ContextHead) : Type 0 where
-  start : a.start ≡ b.start
-  reset_count : a.reset_count ≡ b.reset_count
-  restart_count : restart_bound a h.saved ≡ restart_bound b k.saved
-  sequence : h.sequence ≡ k.sequence
-  saved : h.saved ≡ k.saved
+pub record SameBound (a b : Binding) (h k : ContextHead) : Type 0 where
+  pub start : a.start ≡ b.start
+  pub reset_count : a.reset_count ≡ b.reset_count
+  pub restart_count : restart_bound a h.saved ≡ restart_bound b k.saved
+  pub sequence : h.sequence ≡ k.sequence
+  pub saved : h.saved ≡ k.saved
 
-same_bound : (a b : Binding) (h k : ContextHead) → IsBinding a → IsBinding b → h.sequence < 2 ^ 64 → k.sequence < 2 ^ 64
+pub same_bound : (a b : Binding) (h k : ContextHead) → IsBinding a → IsBinding b → h.sequence < 2 ^ 64 → k.sequence < 2 ^ 64
     → bound_text a h ≡ bound_text b k → SameBound a b h k
 same_bound a b h k is js counted numbered e =
     let start = to_be_bytes w64 a.start in
@@ -93,7 +95,7 @@ same_bytes proof other m n h k key start sequence one =
     ∙ ap (λ (s : ℕ). cipher_bytes other n (record h { sequence = s })) sequence
     ∙ ap (λ (s : SavedHandle). cipher_bytes other n (record h { sequence = k.sequence; saved = s })) one
 
--- if two plaintexts have the same ciphertext with the same key and IV, they are equal
+-- with the same key and IV, only equal plaintexts have the same ciphertext
 same_plain : (proof other : List ℕ) (m n : ℕ) (h k : ContextHead) (plain text : List ℕ) → cipher_bytes proof m h ≡ cipher_bytes other n k
     → encrypted proof m h plain ≡ encrypted other n k text → plain ≡ text
 same_plain proof other m n h k plain text bytes e =
@@ -133,11 +135,11 @@ same_making c d is js key text =
     }
 
 -- The keys and the messages are equal, or their HMACs collide.
-abbrev Alike : (key text other_key other_text : List ℕ) → Type 0
+abbrev pub Alike : (key text other_key other_text : List ℕ) → Type 0
 Alike key text other_key other_text =
     ((key ≡ other_key) × (text ≡ other_text)) ⊎ Collides key text other_key other_text
 
-alike : (key text other_key other_text : List ℕ) → hmac_of Sha256 key text ≡ hmac_of Sha256 other_key other_text → Alike key text other_key other_text
+pub alike : (key text other_key other_text : List ℕ) → hmac_of Sha256 key text ≡ hmac_of Sha256 other_key other_text → Alike key text other_key other_text
 alike key text other_key other_text e = by (bytes_eq key other_key) refl (bytes_eq text other_text) refl
   where
     other : (a b : List ℕ) → bytes_eq a b ≡ false → a ≡ b → ⊥
@@ -158,8 +160,8 @@ integrity_means c d is js e = by (alike (key_of c) (covered_text c.binding c) (k
 
 -- ---- a context that opens
 
--- if a context is decrypted with the proof and start number with which it was made, it yields the
--- object from which it was made
+-- decrypting a context with the proof and start number with which it was made yields the object
+-- from which it was made
 opened_object : (proof other : List ℕ) (m n sequence : ℕ) (o object : Object) → IsObject o → proof ≡ other → m ≡ n
     → object_in (head_of sequence o) (decrypted other n (head_of sequence o) (encrypted proof m (head_of sequence o) (object_fields_text o))) ≡ Ok object
     → o ≡ object
@@ -185,13 +187,14 @@ Finds c h b object =
     × (object_in head (decrypted proof b.start head cipher) ≡ Ok object)
 
 finds : (c : Making) (h : Hierarchies) (b : Binding) (object : Object) → IsMaking c → opened h b (context_of c) ≡ Ok object → Finds c h b object
-unfolding context_text
+unfolding opened context_text
 finds c h b object is e =
     let head = head_of c.sequence c.object in
     let cipher : List ℕ = object_cipher c.hierarchies c.binding.start c.sequence c.object in
     let small = cipher_small c.hierarchies c.binding.start c.sequence c.object is.object in
-    parts_right (proof_of h c.object.hierarchy) b head (integrity_of (key_of c) c.binding head cipher) cipher object
-    (sym (opened_is h c.binding b (key_of c) head cipher is.sequence small) ∙ e)
+    let read = bind_ok (content_in h b (context_of c)) (λ x. object_in x.0 x.1) object e in
+    let right = content_right h c.binding b (key_of c) head cipher read.0 is.sequence small read.1 in
+    (right.0, ap (λ (x : ContextHead × List ℕ). object_in x.0 x.1) right.1 ∙ read.2)
 
 same_hmac : (c : Making) (h : Hierarchies) (b : Binding) (object : Object) → Finds c h b object
     → hmac_of Sha256 (key_of c) (covered_text c.binding c) ≡ hmac_of Sha256 (proof_of h c.object.hierarchy) (covered_text b c)

@@ -1,6 +1,6 @@
--- The head of a context: decoding returns a head exactly when the bytes begin with its encoding.
+-- Decoding returns the head of a context exactly when the bytes begin with the head's encoding.
 use Rattle.std.proofs.Common.{◌≡◌, ℕ, ◌^◌, ◌<◌, Bool, true, false, cond, Some, None, refl, sym, ap, ◌∙◌, arith}
-use Rattle.std.specs.Prelude.{◌==◌}
+use Rattle.std.specs.Prelude.{◌==◌, ◌&&◌}
 use Rattle.std.specs.Int.{w32, w64, to_be_bytes}
 use Rattle.std.proofs.lemmas.Bool.{eqb-true}
 use Rattle.std.proofs.lemmas.Bool.Decides.{Decides-eqb}
@@ -13,7 +13,7 @@ use Rattle.tpm_types.proofs.Spelled.{Spelled, all_read, first, respelled, then}
 use Rattle.tpm_types.specs.Handle.{hierarchy_handle, hierarchy_of, numbered}
 use Rattle.tpm_types.specs.declared.handle.HierarchyHandle.{HierarchyHandle}
 use Rattle.tpm_types.specs.declared.handle.HierarchyHandle.TheVariants as hierarchy
-use Rattle.tpm_context.specs.Head.{head_at, head_of, head_text, hierarchy_at, is_of, saved_at, saved_named, saved_number, saved_of}
+use Rattle.tpm_context.specs.Head.{head_at, head_of, head_text, hierarchy_at, is_null, is_of, is_of_sequence, is_sequence_head, saved_at, saved_named, saved_number, saved_of, sequence_head}
 use Rattle.tpm_context.specs.declared.fault.ContextFault.TheVariants as fault
 use Rattle.tpm_context.specs.declared.head.ContextHead.{ContextHead}
 use Rattle.tpm_context.specs.declared.head.SavedHandle.{SavedHandle}
@@ -30,14 +30,17 @@ sequence_spelled = record {
 saved_is : (number : ℕ) (one : SavedHandle) → saved_named number ≡ Some one → number ≡ saved_number one
 saved_is number one =
     link saved_number number saved.Ordinary _ one
-    λ a. link saved_number number saved.StClear None a (none saved_number number)
+    λ a. link saved_number number saved.Sequence _ a
+    λ b. link saved_number number saved.StClear None b (none saved_number number)
 
 saved_again : (one : SavedHandle) → saved_named (saved_number one) ≡ Some one
 saved_again saved.Ordinary = refl
+saved_again saved.Sequence = refl
 saved_again saved.StClear = refl
 
 pub saved_small : (one : SavedHandle) → saved_number one < 2 ^ 32
 saved_small saved.Ordinary = omega arith
+saved_small saved.Sequence = omega arith
 saved_small saved.StClear = omega arith
 
 saved_spelled : Spelled (λ one. to_be_bytes w32 (saved_number one)) (λ one. Unit {0}) saved_at
@@ -115,3 +118,18 @@ is_of_head h o is = by (owner_number o.hierarchy == owner_number h.hierarchy) re
         ap (λ (s : SavedHandle). record { sequence = h.sequence; saved = s; hierarchy = o.hierarchy }) one
         ∙ ap (λ (w : HierarchyHandle). record { sequence = h.sequence; saved = h.saved; hierarchy = w }) owner
     by false other kind = absurd cc
+
+-- a head of a sequence object's context is determined by its sequence number
+pub sequence_head_is : (h : ContextHead) → is_sequence_head h ≡ true → sequence_head h.sequence ≡ h
+sequence_head_is h is = by h.saved refl h.hierarchy refl is
+  where
+    by : (one : SavedHandle) → h.saved ≡ one → (owner : HierarchyHandle) → h.hierarchy ≡ owner
+        → (is_of_sequence one && is_null owner) ≡ true → sequence_head h.sequence ≡ h
+    by saved.Sequence first hierarchy.Null second is =
+        ap (λ (s : SavedHandle). record { sequence = h.sequence; saved = s; hierarchy = hierarchy.Null }) (sym first)
+        ∙ ap (λ (w : HierarchyHandle). record { sequence = h.sequence; saved = h.saved; hierarchy = w }) (sym second)
+    by saved.Sequence first hierarchy.Owner second is = absurd cc
+    by saved.Sequence first hierarchy.Endorsement second is = absurd cc
+    by saved.Sequence first hierarchy.Platform second is = absurd cc
+    by saved.Ordinary first _ second is = absurd cc
+    by saved.StClear first _ second is = absurd cc

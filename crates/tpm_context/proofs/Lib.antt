@@ -2,3 +2,4 @@ pub mod HeadLaws
 pub mod Sizes
 pub mod Reading
 pub mod ContextLaws
+pub mod SequenceLaws

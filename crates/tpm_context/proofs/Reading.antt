@@ -1,4 +1,4 @@
--- Reading a context: bytes can be read exactly when they are a context that can be made.
+-- Reading a context succeeds exactly for the contexts that can be made.
 use Rattle.std.proofs.Common.{◌≡◌, ℕ, ◌^◌, ◌<◌, ◌≤◌, Bool, List, [], ◌∷◌, ◌++◌, length, Result, Ok, Err, refl, sym, ap, subst, ◌∙◌, append-nil, length-append, arith}
 use Rattle.std.specs.Prelude.{◌==◌, not, IfOk}
 use Rattle.std.specs.Str.{bytes_eq}
@@ -22,7 +22,7 @@ use Rattle.tpm_record.specs.declared.hierarchy.Hierarchies.{Hierarchies}
 use Rattle.tpm_types.proofs.SelectionLaws.{is_equal}
 use Rattle.tpm_types.proofs.Spelled.{rest_fits}
 use Rattle.tpm_context.proofs.HeadLaws.{head_spelled, is_of_head, is_of_own}
-use Rattle.tpm_context.specs.Context.{blob_in, blob_size, blob_text, context_text, object_cipher, object_in, opened, opened_parts, or_blob_fault, parts_in, proof_of, sealed_text}
+use Rattle.tpm_context.specs.Context.{blob_in, blob_size, blob_text, content_in, context_text, object_cipher, object_in, opened, or_blob_fault, parts_in, plain_in, proof_of, sealed_text}
 use Rattle.tpm_context.specs.Head.{head_at, head_of, head_text, is_of}
 use Rattle.tpm_context.specs.Meaning.{IsContext}
 use Rattle.tpm_context.specs.Protection.{cipher_bytes, cipher_iv, cipher_key, decrypted, encrypted, integrity_of, protected_text}
@@ -68,16 +68,15 @@ or_blob_ok : (r : Result (List ℕ × List ℕ) SizedFault) (x : List ℕ × Lis
 or_blob_ok (Ok y) x e = cc
 or_blob_ok (Err d) x e = absurd cc
 
-none_left : (bytes : List ℕ) → length bytes ≡ 0 → bytes ≡ []
+pub none_left : (bytes : List ℕ) → length bytes ≡ 0 → bytes ≡ []
 none_left [] e = refl
 none_left (byte ∷ bytes) e = absurd (omega arith)
 
--- if a sized buffer is read without a fault, the result is the same after the reader's faults are
--- replaced
+-- replacing the faults of a reader does not change its success
 sized_read : (limit : ℕ) (bytes : List ℕ) (x : List ℕ × List ℕ) → sized_at limit bytes ≡ Ok x → or_fault (sized_at limit bytes) fault.Size ≡ Ok x
 sized_read limit bytes x e = ap (λ (r : Result (List ℕ × List ℕ) SizedFault). or_fault r fault.Size) e
 
--- if a contextBlob was decoded from bytes, the bytes consist of this blob in a sized buffer
+-- bytes from which a contextBlob was decoded consist of the blob in a sized buffer
 pub blob_found : (text blob : List ℕ) → AreBytes text → blob_in text ≡ Ok blob → (text ≡ sized_text blob) × (length blob ≤ blob_size) × AreBytes blob
 unfolding blob_in
 blob_found text blob fits e =
@@ -133,93 +132,123 @@ object_found head plain o fits e =
 
 -- ---- the whole context
 
+-- a plaintext with its head
+abbrev with_head : ContextHead → List ℕ → Result (ContextHead × List ℕ) ContextFault
+with_head head plain = Ok (head, plain)
+
 -- reading a context splits it into the parts from which it was made, even if the reader has another
 -- binding
-pub opened_is : (h : Hierarchies) (a b : Binding) (proof : List ℕ) (head : ContextHead) (cipher : List ℕ)
+content_is : (h : Hierarchies) (a b : Binding) (proof : List ℕ) (head : ContextHead) (cipher : List ℕ)
     → head.sequence < 2 ^ 64 → length cipher ≤ object_fields_size
-    → opened h b (sealed_text proof a head cipher) ≡ opened_parts (proof_of h head.hierarchy) b head (integrity_of proof a head cipher) cipher
-unfolding opened
-opened_is h a b proof head cipher counted small =
+    → content_in h b (sealed_text proof a head cipher) ≡ (plain_in (proof_of h head.hierarchy) b head (integrity_of proof a head cipher) cipher >>= with_head head)
+unfolding content_in
+content_is h a b proof head cipher counted small =
     let integrity : List ℕ = integrity_of proof a head cipher in
     let blob : List ℕ = blob_text integrity cipher in
     let whole : length integrity ≡ 32 = integrity_size proof a head cipher in
     let fits : length blob ≤ blob_size = simp length-append (omega (arith, small, whole)) in
-    ap (λ (r : Result (ContextHead × List ℕ) ContextFault). r >>= λ x. blob_in x.1 >>= λ l. parts_in l >>= λ p. opened_parts (proof_of h x.0.hierarchy) b x.0 p.0 p.1) (head_spelled.again head (sized_text blob) counted)
-    ∙ ap (λ (r : Result (List ℕ) ContextFault). r >>= λ l. parts_in l >>= λ p. opened_parts (proof_of h head.hierarchy) b head p.0 p.1) (blob_again blob fits)
-    ∙ ap (λ (r : Result (List ℕ × List ℕ) ContextFault). r >>= λ p. opened_parts (proof_of h head.hierarchy) b head p.0 p.1) (parts_again integrity cipher whole)
+    ap (λ (r : Result (ContextHead × List ℕ) ContextFault). r >>= λ x. blob_in x.1 >>= λ l. parts_in l >>= λ p. plain_in (proof_of h x.0.hierarchy) b x.0 p.0 p.1 >>= with_head x.0) (head_spelled.again head (sized_text blob) counted)
+    ∙ ap (λ (r : Result (List ℕ) ContextFault). r >>= λ l. parts_in l >>= λ p. plain_in (proof_of h head.hierarchy) b head p.0 p.1 >>= with_head head) (blob_again blob fits)
+    ∙ ap (λ (r : Result (List ℕ × List ℕ) ContextFault). r >>= λ p. plain_in (proof_of h head.hierarchy) b head p.0 p.1 >>= with_head head) (parts_again integrity cipher whole)
 
--- with the correct integrity value, opening the parts of a context has the same result as
--- decrypting its object
-pub parts_open : (proof : List ℕ) (b : Binding) (head : ContextHead) (cipher : List ℕ) → opened_parts proof b head (integrity_of proof b head cipher) cipher ≡ object_in head (decrypted proof b.start head cipher)
-unfolding opened_parts
-parts_open proof b head cipher =
+-- with the correct integrity value, a context is decrypted
+plain_opens : (proof : List ℕ) (b : Binding) (head : ContextHead) (cipher : List ℕ) → plain_in proof b head (integrity_of proof b head cipher) cipher ≡ Ok (decrypted proof b.start head cipher)
+unfolding plain_in
+plain_opens proof b head cipher =
     let value : List ℕ = integrity_of proof b head cipher in
-    ap (λ (right : Bool). refused_if (not right) fault.Integrity >>= λ passed. object_in head (decrypted proof b.start head cipher)) ((bytes_eq-Decides value value).1 refl)
+    ap (λ (right : Bool). refused_if (not right) fault.Integrity >>= λ passed. let z : Result (List ℕ) ContextFault = Ok (decrypted proof b.start head cipher) in z) ((bytes_eq-Decides value value).1 refl)
 
--- if the parts of a context open, its integrity value is correct, and its ciphertext decrypts to
--- the object
-pub parts_right : (proof : List ℕ) (b : Binding) (head : ContextHead) (integrity cipher : List ℕ) (o : Object)
-    → opened_parts proof b head integrity cipher ≡ Ok o
-    → (integrity ≡ integrity_of proof b head cipher) × (object_in head (decrypted proof b.start head cipher) ≡ Ok o)
-unfolding opened_parts
-parts_right proof b head integrity cipher o e =
+-- if a context is decrypted, its integrity value is correct
+plain_right : (proof : List ℕ) (b : Binding) (head : ContextHead) (integrity cipher plain : List ℕ)
+    → plain_in proof b head integrity cipher ≡ Ok plain
+    → (integrity ≡ integrity_of proof b head cipher) × (decrypted proof b.start head cipher ≡ plain)
+unfolding plain_in
+plain_right proof b head integrity cipher plain e =
     let value : List ℕ = integrity_of proof b head cipher in
-    let a = bind_ok (refused_if (not (bytes_eq integrity value)) fault.Integrity) (λ right. object_in head (decrypted proof b.start head cipher)) o e in
-    ((bytes_eq-Decides integrity value).0 (not_false _ (passed (not (bytes_eq integrity value)) fault.Integrity a.0 a.1)), a.2)
+    let a = bind_ok (refused_if (not (bytes_eq integrity value)) fault.Integrity) (λ right. let z : Result (List ℕ) ContextFault = Ok (decrypted proof b.start head cipher) in z) plain e in (
+      (bytes_eq-Decides integrity value).0 (not_false _ (passed (not (bytes_eq integrity value)) fault.Integrity a.0 a.1)),
+      ok_is {E = ContextFault} (decrypted proof b.start head cipher) plain a.2,
+    )
+
+-- reading a context with the binding with which it was made returns its head and its content
+pub content_opens : (h : Hierarchies) (b : Binding) (head : ContextHead) (plain : List ℕ)
+    → head.sequence < 2 ^ 64 → length plain ≤ object_fields_size
+    → content_in h b (sealed_text (proof_of h head.hierarchy) b head (encrypted (proof_of h head.hierarchy) b.start head plain)) ≡ Ok (head, plain)
+content_opens h b head plain counted small =
+    let proof : List ℕ = proof_of h head.hierarchy in
+    let cipher : List ℕ = encrypted proof b.start head plain in
+    let few = subst (λ (n : ℕ). n ≤ object_fields_size) (sym (encrypted_size proof b.start head plain)) small in
+    content_is h b b proof head cipher counted few
+    ∙ ap (λ (r : Result (List ℕ) ContextFault). r >>= with_head head) (plain_opens proof b head cipher)
+    ∙ ap (with_head head) (decrypted_again proof b.start head plain)
+
+-- if a context can be read, its integrity value is correct for the reader, and the result is its
+-- head and its decrypted content
+pub content_right : (h : Hierarchies) (a b : Binding) (proof : List ℕ) (head : ContextHead) (cipher : List ℕ) (x : ContextHead × List ℕ)
+    → head.sequence < 2 ^ 64 → length cipher ≤ object_fields_size
+    → content_in h b (sealed_text proof a head cipher) ≡ Ok x
+    → (integrity_of proof a head cipher ≡ integrity_of (proof_of h head.hierarchy) b head cipher)
+    × ((head, decrypted (proof_of h head.hierarchy) b.start head cipher) ≡ x)
+content_right h a b proof head cipher x counted small e =
+    let own : List ℕ = proof_of h head.hierarchy in
+    let integrity : List ℕ = integrity_of proof a head cipher in
+    let z = bind_ok (plain_in own b head integrity cipher) (with_head head) x (sym (content_is h a b proof head cipher counted small) ∙ e) in
+    let w = plain_right own b head integrity cipher z.0 z.1 in
+    (w.0, ap (λ (p : List ℕ). let y : ContextHead × List ℕ = (head, p) in y) w.1 ∙ ok_is {E = ContextFault} (head, z.0) x z.2)
+
+-- if a context can be read, it was made from its head and its content
+pub content_found : (h : Hierarchies) (b : Binding) (bytes : List ℕ) (head : ContextHead) (plain : List ℕ)
+    → AreBytes bytes → content_in h b bytes ≡ Ok (head, plain)
+    → (bytes ≡ sealed_text (proof_of h head.hierarchy) b head (encrypted (proof_of h head.hierarchy) b.start head plain)) × (head.sequence < 2 ^ 64)
+unfolding content_in
+content_found h b bytes head plain fits e =
+    let one = bind_ok (head_at bytes) (λ x. blob_in x.1 >>= λ l. parts_in l >>= λ p. plain_in (proof_of h x.0.hierarchy) b x.0 p.0 p.1 >>= with_head x.0) (head, plain) e in
+    let own = one.0.0 in
+    let proof : List ℕ = proof_of h own.hierarchy in
+    let two = bind_ok (blob_in one.0.1) (λ l. parts_in l >>= λ p. plain_in proof b own p.0 p.1 >>= with_head own) (head, plain) one.2 in
+    let three = bind_ok (parts_in two.0) (λ p. plain_in proof b own p.0 p.1 >>= with_head own) (head, plain) two.2 in
+    let four = bind_ok (plain_in proof b own three.0.0 three.0.1) (with_head own) (head, plain) three.2 in
+    let cipher : List ℕ = three.0.1 in
+    let t = head_spelled.taken bytes one.0 fits one.1 in
+    let u = blob_found one.0.1 two.0 t.0.rest_fits two.1 in
+    let v = parts_found two.0 three.0.0 cipher u.2 three.1 in
+    let w = plain_right proof b own three.0.0 cipher four.0 four.1 in
+    let again : cipher ≡ encrypted proof b.start own four.0 =
+    sym (encrypted_again proof b.start own cipher) ∙ ap (encrypted proof b.start own) w.1 in
+    let whole : bytes ≡ sealed_text proof b own cipher =
+    t.0.parts ∙ ap (λ (l : List ℕ). head_text own ++ l) (u.0 ∙ ap sized_text (v.0 ∙ ap (λ (i : List ℕ). blob_text i cipher) w.0)) in
+    subst (λ (x : ContextHead × List ℕ). (bytes ≡ sealed_text (proof_of h x.0.hierarchy) b x.0 (encrypted (proof_of h x.0.hierarchy) b.start x.0 x.1)) × (x.0.sequence < 2 ^ 64))
+    (ok_is {E = ContextFault} (own, four.0) (head, plain) four.2)
+    (whole ∙ ap (sealed_text proof b own) again, t.1)
 
 pub context_opens : (h : Hierarchies) (b : Binding) (sequence : ℕ) (o : Object) → sequence < 2 ^ 64 → IsObject o
     → opened h b (context_text h b sequence o) ≡ Ok o
-unfolding context_text
+unfolding opened context_text
 context_opens h b sequence o counted is =
-    let proof : List ℕ = proof_of h o.hierarchy in
-    let head = head_of sequence o in
-    let cipher : List ℕ = object_cipher h b.start sequence o in
-    opened_is h b b proof head cipher counted (cipher_small h b.start sequence o is)
-    ∙ parts_open proof b head cipher
-    ∙ ap (object_in head) (decrypted_again proof b.start head (object_fields_text o))
+    ap (λ (r : Result (ContextHead × List ℕ) ContextFault). r >>= λ x. object_in x.0 x.1) (content_opens h b (head_of sequence o) (object_fields_text o) counted (object_fields_small o is))
     ∙ object_again sequence o is
 
 -- if bytes open as an object, they are a context of this object
-pub context_found : (h : Hierarchies) (b : Binding) (bytes text blob integrity cipher : List ℕ) (head : ContextHead) (o : Object)
-    → AreBytes bytes → head_at bytes ≡ Ok (head, text) → blob_in text ≡ Ok blob → parts_in blob ≡ Ok (integrity, cipher)
-    → AreBytes (decrypted (proof_of h head.hierarchy) b.start head cipher)
-    → opened_parts (proof_of h head.hierarchy) b head integrity cipher ≡ Ok o
+context_found : (h : Hierarchies) (b : Binding) (bytes : List ℕ) (head : ContextHead) (plain : List ℕ) (o : Object)
+    → AreBytes bytes → AreBytes plain → content_in h b bytes ≡ Ok (head, plain) → object_in head plain ≡ Ok o
     → IsContext h b bytes o
 unfolding context_text
-context_found h b bytes text blob integrity cipher head o fits first second third plain e =
-    let t = head_spelled.taken bytes (head, text) fits first in
-    let u = blob_found text blob t.0.rest_fits second in
-    let v = parts_found blob integrity cipher u.2 third in
-    let proof : List ℕ = proof_of h head.hierarchy in
-    let w = parts_right proof b head integrity cipher o e in
-    let f = object_found head (decrypted proof b.start head cipher) o plain w.1 in
-    let again : cipher ≡ encrypted proof b.start head (object_fields_text o) =
-    sym (encrypted_again proof b.start head cipher) ∙ ap (encrypted proof b.start head) f.1 in
-    let whole : bytes ≡ sealed_text proof b head cipher =
-    t.0.parts ∙ ap (λ (l : List ℕ). head_text head ++ l) (u.0 ∙ ap sized_text (v.0 ∙ ap (λ (i : List ℕ). blob_text i cipher) w.0)) in
+context_found h b bytes head plain o fits are content e =
+    let t = content_found h b bytes head plain fits content in
+    let f = object_found head plain o are e in
     record {
       sequence = head.sequence;
       counted = t.1;
       sized = f.0;
-      text = whole ∙ ap (sealed_text proof b head) again
+      text = t.0
+          ∙ ap (λ (p : List ℕ). sealed_text (proof_of h head.hierarchy) b head (encrypted (proof_of h head.hierarchy) b.start head p)) f.1
           ∙ ap (λ (k : ContextHead). sealed_text (proof_of h k.hierarchy) b k (encrypted (proof_of h k.hierarchy) b.start k (object_fields_text o))) (sym f.2);
     }
 
 -- ---- what the code finds
 
--- if the plaintext equals a list of bytes, all its elements are bytes
-pub if_plain : (r : Result Object ContextFault) (found plain : List ℕ) → AreBytes found → found ≡ plain → IfOk r (λ object. AreBytes plain)
-if_plain (Ok o) found plain are same = subst AreBytes same are
-if_plain (Err e) found plain are same = tt
-
-pub found_if : (h : Hierarchies) (b : Binding) (bytes text blob integrity cipher proof : List ℕ) (head : ContextHead) (r : Result Object ContextFault)
-    → AreBytes bytes → head_at bytes ≡ Ok (head, text) → blob_in text ≡ Ok blob → parts_in blob ≡ Ok (integrity, cipher)
-    → proof ≡ proof_of h head.hierarchy
-    → r ≡ opened_parts proof b head integrity cipher
-    → IfOk r (λ object. AreBytes (decrypted proof b.start head cipher))
+pub found_if : (h : Hierarchies) (b : Binding) (bytes : List ℕ) (head : ContextHead) (plain : List ℕ) (r : Result Object ContextFault)
+    → AreBytes bytes → AreBytes plain → content_in h b bytes ≡ Ok (head, plain) → r ≡ object_in head plain
     → IfOk r (λ object. IsContext h b bytes object)
-found_if h b bytes text blob integrity cipher proof head (Ok o) fits first second third same is plain =
-    context_found h b bytes text blob integrity cipher head o fits first second third
-    (subst (λ (p : List ℕ). AreBytes (decrypted p b.start head cipher)) same plain)
-    (ap (λ (p : List ℕ). opened_parts p b head integrity cipher) (sym same) ∙ sym is)
-found_if h b bytes text blob integrity cipher proof head (Err e) fits first second third same is plain = tt
+found_if h b bytes head plain (Ok o) fits are content is = context_found h b bytes head plain o fits are content (sym is)
+found_if h b bytes head plain (Err e) fits are content is = tt

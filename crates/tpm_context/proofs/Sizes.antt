@@ -6,8 +6,8 @@ use Rattle.tpm_bytes.specs.Reading.{bytes_at, number_at, or_fault, sized_at, too
 use Rattle.tpm_bytes.specs.declared.cursor.SizedFault.TheVariants as fault
 use Rattle.tpm_bytes.proofs.Fields.{bind_ok, guard_ok, guard_passed, or_fault_ok}
 
--- The content of a sized buffer is within the limit. With its size field and the bytes after it, it
--- is no longer than the input.
+-- The content of a sized buffer is within the limit. The size field, the content and the bytes
+-- after it are together no longer than the input.
 abbrev IsWithin : ℕ → List ℕ → List ℕ × List ℕ → Type 0
 IsWithin limit text x = (length x.0 ≤ limit) × (2 + length x.0 + length x.1 ≤ length text)
 

@@ -1,6 +1,6 @@
--- The context of an object: how it is written and read. See TPM 2.0 Library, Part 1, section 30,
+-- The context of an object: how it is written and read. TPM 2.0 Library, Part 1, section 30,
 -- Part 2, section 14 (TPMS_CONTEXT), and Part 3, sections 28.2 and 28.3.
-use Rattle.std.specs.Prelude.{ℕ, ◌+◌, ◌==◌, not, List, ◌++◌, length, Result, Ok, Err}
+use Rattle.std.specs.Prelude.{◌≡◌, ℕ, ◌+◌, ◌==◌, not, List, ◌++◌, length, Result, Ok, Err}
 use Rattle.std.specs.Str.{bytes_eq}
 use Rattle.tpm_bytes.specs.Reading.{◌>>=◌, or_fault, refused_if, sized_at}
 use Rattle.tpm_bytes.specs.Writing.{sized_text}
@@ -91,22 +91,44 @@ object_in head plain = do
   same ← refused_if (not (is_of head object.0)) fault.Integrity
   Ok object.0
 
--- the object of a context with these parts, if the integrity value is correct
-unfoldable pub opened_parts : (proof : List ℕ)
+-- the plaintext of a context with these parts, if the integrity value is correct
+unfoldable pub plain_in : (proof : List ℕ)
     → Binding → ContextHead → (integrity cipher : List ℕ)
-    → Result Object ContextFault
-opened_parts proof b head integrity cipher = do
+    → Result (List ℕ) ContextFault
+plain_in proof b head integrity cipher = do
   right ← refused_if (not (bytes_eq integrity (integrity_of proof b head cipher)))
       fault.Integrity
-  object_in head (decrypted proof b.start head cipher)
+  Ok (decrypted proof b.start head cipher)
 
--- the object of a context. The faults, in the order of the checks, are: those of the head, which is
--- read field by field; those of the contextBlob; bytes after the contextBlob; an integrity value of
--- the wrong size; a wrong integrity value; and an object that cannot be decoded or does not match
--- the head
-unfoldable pub opened : Hierarchies → Binding → List ℕ → Result Object ContextFault
-opened h b bytes = do
+-- the head and the plaintext of a context. The faults, in the order of the checks, are: those of
+-- the head, which is read field by field; those of the contextBlob; bytes after the contextBlob; an
+-- integrity value of the wrong size; and a wrong integrity value
+unfoldable pub content_in : Hierarchies → Binding → List ℕ
+    → Result (ContextHead × List ℕ) ContextFault
+content_in h b bytes = do
   head ← head_at bytes
   blob ← blob_in head.1
   parts ← parts_in blob
-  opened_parts (proof_of h head.0.hierarchy) b head.0 parts.0 parts.1
+  plain ← plain_in (proof_of h head.0.hierarchy) b head.0 parts.0 parts.1
+  Ok (head.0, plain)
+
+-- the object of a context; after the faults of `content_in`, the fault is INTEGRITY if the
+-- plaintext does not encode an object that matches the head
+unfoldable pub opened : Hierarchies → Binding → List ℕ → Result Object ContextFault
+opened h b bytes = do
+  content ← content_in h b bytes
+  object_in content.0 content.1
+
+-- ---- what the code does
+
+-- The code decrypts a context as the definition says: the plaintext is in the buffer, or the fault
+-- is returned.
+abbrev pub Decrypts : Result (List ℕ) ContextFault → Result (Unit {0}) ContextFault
+    → (buffer : List ℕ) → Type 0
+Decrypts expected (Ok done) buffer = expected ≡ Ok buffer
+Decrypts expected (Err e) buffer = expected ≡ Err e
+
+abbrev pub DecryptsContent : Result (ContextHead × List ℕ) ContextFault
+    → Result ContextHead ContextFault → (buffer : List ℕ) → Type 0
+DecryptsContent expected (Ok head) buffer = expected ≡ Ok (head, buffer)
+DecryptsContent expected (Err e) buffer = expected ≡ Err e

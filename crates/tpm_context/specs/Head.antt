@@ -1,6 +1,6 @@
--- The head of an object's context, and its savedHandle. TPM 2.0 Library, Part 2, section 14.5
+-- The head of a context, and its savedHandle. TPM 2.0 Library, Part 2, section 14.5
 -- (TPMS_CONTEXT: sequence, savedHandle, hierarchy), and Part 3, section 28.3 (TPM2_ContextLoad).
-use Rattle.std.specs.Prelude.{ℕ, ◌==◌, Bool, false, if◌then◌else◌}
+use Rattle.std.specs.Prelude.{ℕ, ◌==◌, ◌&&◌, Bool, true, false, if◌then◌else◌}
 use Rattle.std.specs.Prelude.{List, ◌++◌, ok_or, Option, Some, None, Result, Ok}
 use Rattle.std.specs.Int.{w32, w64, to_be_bytes}
 use Rattle.tpm_bytes.specs.Reading.{◌>>=◌, number_at, or_fault}
@@ -8,6 +8,7 @@ use Rattle.tpm_object.specs.declared.object.Object.{Object}
 use Rattle.tpm_types.specs.Handle.{hierarchy_handle, hierarchy_of, numbered}
 use Rattle.tpm_types.specs.Rc.{at, plain}
 use Rattle.tpm_types.specs.declared.handle.HierarchyHandle.{HierarchyHandle}
+use Rattle.tpm_types.specs.declared.handle.HierarchyHandle.TheVariants as hierarchy
 use Rattle.tpm_types.specs.declared.rc.Place.TheVariants as place
 use Rattle.tpm_types.specs.declared.rc.Rc.{Rc}
 use Rattle.tpm_types.specs.declared.rc.ResponseCode.{ResponseCode}
@@ -37,17 +38,19 @@ fault_rc f = at (place.Parameter 1) (plain (fault_code f))
 
 -- ---- savedHandle
 
--- the number of an object's savedHandle (Part 2, section 14.5, table TPMI_DH_SAVED)
+-- the number of a savedHandle (Part 2, section 14.5, table TPMI_DH_SAVED)
 abbrev pub saved_number : SavedHandle → ℕ
 saved_number saved.Ordinary = 0x8000_0000
+saved_number saved.Sequence = 0x8000_0001
 saved_number saved.StClear = 0x8000_0002
 
--- the savedHandle with this number, if the number is one used for objects
+-- the savedHandle with this number, if the number is one used for objects or sequence objects
 abbrev pub saved_named : ℕ → Option SavedHandle
 saved_named number =
     if number == 0x8000_0000 then Some saved.Ordinary
+    else (if number == 0x8000_0001 then Some saved.Sequence
     else (if number == 0x8000_0002 then Some saved.StClear
-    else None)
+    else None))
 
 -- the savedHandle of an object with this public area
 abbrev pub saved_of : Public → SavedHandle
@@ -62,6 +65,11 @@ head_of sequence object = record {
   saved = saved_of object.public;
   hierarchy = object.hierarchy;
 }
+
+-- the head of the context of a sequence object, whose hierarchy is TPM_RH_NULL
+abbrev pub sequence_head : (sequence : ℕ) → ContextHead
+sequence_head number =
+    record { sequence = number; saved = saved.Sequence; hierarchy = hierarchy.Null }
 
 -- the encoding of a head: the sequence number, the savedHandle and the hierarchy
 abbrev pub head_text : ContextHead → List ℕ
@@ -100,3 +108,17 @@ is_of h object =
     if (hierarchy_handle object.hierarchy).number == (hierarchy_handle h.hierarchy).number then
     saved_number (saved_of object.public) == saved_number h.saved
     else false
+
+-- whether a savedHandle is that of a sequence object
+abbrev pub is_of_sequence : SavedHandle → Bool
+is_of_sequence saved.Sequence = true
+is_of_sequence _ = false
+
+-- whether a hierarchy is TPM_RH_NULL
+abbrev pub is_null : HierarchyHandle → Bool
+is_null hierarchy.Null = true
+is_null _ = false
+
+-- whether a head is that of a sequence object's context
+abbrev pub is_sequence_head : ContextHead → Bool
+is_sequence_head h = is_of_sequence h.saved && is_null h.hierarchy

@@ -1,4 +1,5 @@
 pub mod Head
 pub mod Protection
 pub mod Context
+pub mod Sequences
 pub mod Meaning

@@ -1,14 +1,18 @@
 -- Unless the HMAC has a collision, a context opens only with the proof and the binding with which
 -- it was made.
-use Rattle.std.specs.Prelude.{◌≡◌, ◌⊎◌, ◌<◌, ◌^◌, ℕ, List, Ok}
+use Rattle.std.specs.Prelude.{◌≡◌, ◌⊎◌, ◌<◌, ◌^◌, ℕ, List, Some, Ok}
+use Rattle.tpm_bytes.specs.Reading.{AreBytes}
 use Rattle.tpm_mac.specs.Hmac.{hmac_of}
 use Rattle.tpm_mac.specs.declared.algorithm.HashAlg.TheVariants.{Sha256}
 use Rattle.tpm_object.specs.Object.{IsObject}
 use Rattle.tpm_object.specs.declared.object.Object.{Object}
 use Rattle.tpm_record.specs.declared.hierarchy.Hierarchies.{Hierarchies}
+use Rattle.tpm_sequence.specs.declared.object.SequenceObject.{SequenceObject}
+use Rattle.tpm_sequence_text.specs.Slot.{IsSequenceObject, slot_text}
 use Rattle.tpm_context.specs.Context.{context_text, object_cipher, opened, proof_of}
-use Rattle.tpm_context.specs.Head.{head_of, saved_of}
+use Rattle.tpm_context.specs.Head.{head_of, saved_of, sequence_head}
 use Rattle.tpm_context.specs.Protection.{protected_text, restart_bound}
+use Rattle.tpm_context.specs.Sequences.{null_proof, opened_sequence, sequence_cipher, sequence_context_text}
 use Rattle.tpm_context.specs.declared.binding.Binding.{Binding}
 
 -- The bytes are a context of this object, with some sequence number.
@@ -18,6 +22,21 @@ pub record IsContext (h : Hierarchies) (b : Binding) (bytes : List ℕ) (object 
     pub counted : sequence < 2 ^ 64
     pub sized : IsObject object
     pub text : bytes ≡ context_text h b sequence object
+
+-- A sequence object can be encoded: every number fits its integer type, and the encoding consists of
+-- bytes.
+pub record IsEncodable (object : SequenceObject) : Type 0 where
+  pub sized : IsSequenceObject object
+  pub bytes : AreBytes (slot_text (Some object))
+
+-- The bytes are a context of this sequence object, with some sequence number.
+pub record IsSequenceContext (h : Hierarchies) (b : Binding) (bytes : List ℕ)
+    (object : SequenceObject) : Type 0
+  where
+    pub number : ℕ
+    pub counted : number < 2 ^ 64
+    pub sized : IsEncodable object
+    pub text : bytes ≡ sequence_context_text h b number object
 
 -- the values from which a context is made
 pub record Making : Type 0 where
@@ -30,10 +49,11 @@ pub record Making : Type 0 where
 abbrev pub context_of : Making → List ℕ
 context_of c = context_text c.hierarchies c.binding c.sequence c.object
 
--- the HMAC key for the integrity value of a context; below, the message that it covers
+-- the HMAC key for the integrity value of a context
 abbrev pub key_of : Making → List ℕ
 key_of c = proof_of c.hierarchies c.object.hierarchy
 
+-- the message that the integrity value of a context covers, for a reader with this binding
 abbrev pub covered_text : Binding → Making → List ℕ
 covered_text b c =
     protected_text b (head_of c.sequence c.object)
@@ -49,8 +69,8 @@ pub record IsBinding (b : Binding) : Type 0 where
   pub reset_count : b.reset_count < 2 ^ 32
   pub restart_count : b.restart_count < 2 ^ 32
 
--- A context can be made from these values: every number fits its integer type, and the object is
--- one that a device can have.
+-- A context can be made from these values: every number fits its integer type, and a device can
+-- have the object.
 pub record IsMaking (c : Making) : Type 0 where
   pub binding : IsBinding c.binding
   pub sequence : c.sequence < 2 ^ 64
@@ -88,22 +108,20 @@ IntegrityMeans =
     → AreSame c d
     ⊎ Collides (key_of c) (covered_text c.binding c) (key_of d) (covered_text d.binding d)
 
--- the values from which a context was made, except for its hierarchies, binding and object, which
--- are replaced by these
+-- the values from which a context was made, with its hierarchies, binding and object replaced
 abbrev pub made_with : Hierarchies → Binding → Object → Making → Making
 made_with h b object c =
     record { hierarchies = h; binding = b; sequence = c.sequence; object = object }
 
--- The integrity value of a context equals the one that a reader with these hierarchies and this
--- binding computes, although the key or the covered message differs.
+-- A reader with these hierarchies and this binding computes the integrity value that the context
+-- contains, although the reader's key or message differs.
 abbrev pub CollidesFor : Hierarchies → Binding → Making → Type 0
 CollidesFor h b c =
     Collides (key_of c) (covered_text c.binding c)
     (proof_of h c.object.hierarchy) (covered_text b c)
 
--- Unless the HMAC has a collision, a context that opens with some hierarchies and some binding was
--- made with the same proof, start number and counts, and opens as the object from which it was
--- made.
+-- Unless the HMAC has a collision, a context opens only with the proof, start number and counts
+-- with which it was made, and only as the object from which it was made.
 abbrev pub OpensOnlyAsMade : Type 0
 OpensOnlyAsMade =
     (c : Making) (h : Hierarchies) (b : Binding) (object : Object)
@@ -118,3 +136,40 @@ RefusesAnotherBinding =
     → IsMaking c → IsBinding b
     → ((c.binding.start ≡ b.start) × (c.binding.reset_count ≡ b.reset_count) → ⊥)
     → opened h b (context_of c) ≡ Ok object → CollidesFor h b c
+
+-- ---- the laws of sequence objects
+
+-- Opening the context of a sequence object returns the sequence object from which it was made.
+abbrev pub SequenceOpensAgain : Type 0
+SequenceOpensAgain =
+    (h : Hierarchies) (b : Binding) (number : ℕ) (object : SequenceObject)
+    → number < 2 ^ 64 → IsEncodable object
+    → opened_sequence h b (sequence_context_text h b number object) ≡ Ok object
+
+-- the message that the integrity value covers in the context of a sequence object, made with the
+-- hierarchies `h` and the binding `a`, if the reader has the binding `b`
+abbrev pub sequence_covered : Hierarchies → (a b : Binding) → (number : ℕ) → SequenceObject
+    → List ℕ
+sequence_covered h a b number object =
+    protected_text b (sequence_head number) (sequence_cipher h a.start number object)
+
+-- A sequence object was read with the proof, start number and count of TPM Resets with which its
+-- context was made, and is the one from which the context was made.
+pub record IsAsMade (h later : Hierarchies) (a b : Binding) (object found : SequenceObject) : Type 0
+  where
+    pub proof : null_proof h ≡ null_proof later
+    pub start : a.start ≡ b.start
+    pub reset_count : a.reset_count ≡ b.reset_count
+    pub same : object ≡ found
+
+-- Unless the HMAC has a collision, the context of a sequence object opens only with the proof, the
+-- start number and the count of TPM Resets with which it was made, and as the sequence object from
+-- which it was made.
+abbrev pub SequenceOpensOnlyAsMade : Type 0
+SequenceOpensOnlyAsMade =
+    (h later : Hierarchies) (a b : Binding) (number : ℕ) (object found : SequenceObject)
+    → number < 2 ^ 64 → IsEncodable object → IsBinding a → IsBinding b
+    → opened_sequence later b (sequence_context_text h a number object) ≡ Ok found
+    → IsAsMade h later a b object found
+    ⊎ Collides (null_proof h) (sequence_covered h a a number object)
+    (null_proof later) (sequence_covered h a b number object)

@@ -30,28 +30,31 @@ cipher_bytes proof start head =
     kdfa_of Sha256 proof context_label (to_be_bytes w64 head.sequence)
     (context_party start head) 32
 
--- the encryption key, which is the first 128 bits; below, the IV, which is the rest
+-- the encryption key: the first 128 bits
 abbrev pub cipher_key : List ℕ → List ℕ
 cipher_key bytes = take 16 bytes
 
+-- the IV: the remaining bits
 abbrev pub cipher_iv : List ℕ → List ℕ
 cipher_iv bytes = drop 16 bytes
 
--- a plaintext encrypted for a context; below, a ciphertext decrypted from a context
+-- a plaintext, encrypted for a context
 abbrev pub encrypted : (proof : List ℕ) → (start : ℕ) → ContextHead → (plain : List ℕ) → List ℕ
 encrypted proof start head plain =
     let bytes : List ℕ = cipher_bytes proof start head in
     cfb_encrypt_of (cipher_key bytes) (cipher_iv bytes) plain
 
+-- a ciphertext, decrypted from a context
 abbrev pub decrypted : (proof : List ℕ) → (start : ℕ) → ContextHead → (cipher : List ℕ) → List ℕ
 decrypted proof start head cipher =
     let bytes : List ℕ = cipher_bytes proof start head in
     cfb_decrypt_of (cipher_key bytes) (cipher_iv bytes) cipher
 
--- the restartCount to which a context is bound: the device's if the object has stClear, since this
--- object does not outlive a TPM Restart; otherwise 0
+-- the restartCount to which a context is bound: the device's restartCount if the object has
+-- stClear, since such an object does not outlive a TPM Restart; otherwise 0
 abbrev pub restart_bound : Binding → SavedHandle → ℕ
 restart_bound b saved.Ordinary = 0
+restart_bound b saved.Sequence = 0
 restart_bound b saved.StClear = b.restart_count
 
 -- the fields that the integrity value covers before the encrypted object. Part 1, section 30.3,

@@ -11,9 +11,9 @@ use tpm_types::{Rc, ResponseCode};
 pub enum ContextFault {
     /// The context is truncated: TPM_RC_INSUFFICIENT.
     Truncated,
-    /// The savedHandle is not that of an object: TPM_RC_HANDLE.
+    /// The savedHandle is not one that objects use: TPM_RC_HANDLE.
     SavedHandle,
-    /// The hierarchy is not the handle of a hierarchy: TPM_RC_VALUE.
+    /// The hierarchy field does not contain the handle of a hierarchy: TPM_RC_VALUE.
     Hierarchy,
     /// The contextBlob or its integrity value has the wrong size, or more bytes follow the
     /// contextBlob: TPM_RC_SIZE.

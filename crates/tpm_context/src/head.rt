@@ -2,7 +2,7 @@
 
 ghost use Rattle.std.specs.Prelude.{◌≡◌, length};
 ghost use Rattle.tpm_bytes.specs.Reading.{Reads};
-ghost use Rattle.tpm_context.specs.Head.{head_at, head_of, head_text, hierarchy_at, is_of, saved_at, saved_named, saved_number, saved_of};
+ghost use Rattle.tpm_context.specs.Head.{head_at, head_of, head_text, hierarchy_at, is_of, is_sequence_head, saved_at, saved_named, saved_number, saved_of, sequence_head};
 
 use crate::fault::ContextFault;
 use tpm_bytes::{Cursor, Sink};
@@ -13,11 +13,13 @@ use tpm_types_object::{ObjectAttribute, Public};
 /// The size of a head, in bytes.
 pub(crate) const HEAD_SIZE: usize = 16;
 
-/// The savedHandle of an object: TPMI_DH_SAVED of TPM 2.0 Library, Part 2.
+/// The savedHandle of an object or of a sequence object: TPMI_DH_SAVED of TPM 2.0 Library, Part 2.
 #[derive(Clone, Copy, PartialEq, Eq)]
 pub enum SavedHandle {
     /// An object without stClear: 80000000.
     Ordinary,
+    /// A sequence object: 80000001.
+    Sequence,
     /// An object with stClear: 80000002.
     StClear,
 }
@@ -37,6 +39,7 @@ impl SavedHandle {
     {
         match self {
             SavedHandle::Ordinary => 0x8000_0000,
+            SavedHandle::Sequence => 0x8000_0001,
             SavedHandle::StClear => 0x8000_0002,
         }
     }
@@ -46,6 +49,7 @@ impl SavedHandle {
     {
         match number {
             0x8000_0000 => Some(SavedHandle::Ordinary),
+            0x8000_0001 => Some(SavedHandle::Sequence),
             0x8000_0002 => Some(SavedHandle::StClear),
             _ => None,
         }
@@ -106,6 +110,17 @@ impl ContextHead {
         }
     }
 
+    /// Returns the head of the context of a sequence object.
+    pub(crate) fn of_sequence(number: u64) -> ContextHead
+        ensures { result ≡ sequence_head number }
+    {
+        ContextHead {
+            sequence: number,
+            saved: SavedHandle::Sequence,
+            hierarchy: HierarchyHandle::Null,
+        }
+    }
+
     /// Reads the head at the beginning of a context.
     #[tactic(auto, unfolding(crate::specs::Head::head_at))]
     pub(crate) fn read(text: &mut Cursor) -> Result<ContextHead, ContextFault>
@@ -143,5 +158,12 @@ impl ContextHead {
     {
         object.hierarchy.handle().number == self.hierarchy.handle().number
             && SavedHandle::of(&object.public).number() == self.saved.number()
+    }
+    /// Whether this is the head of a sequence object's context.
+    pub(crate) fn is_of_sequence(self) -> bool
+        ensures { result ≡ is_sequence_head self }
+    {
+        matches!(self.saved, SavedHandle::Sequence)
+            && matches!(self.hierarchy, HierarchyHandle::Null)
     }
 }

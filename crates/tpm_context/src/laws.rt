@@ -1,6 +1,6 @@
 //! Laws about every context.
 
-ghost use Rattle.tpm_context.specs.Meaning.{IntegrityMeans, OpensAgain, OpensOnlyAsMade, RefusesAnotherBinding};
+ghost use Rattle.tpm_context.specs.Meaning.{IntegrityMeans, OpensAgain, OpensOnlyAsMade, RefusesAnotherBinding, SequenceOpensAgain, SequenceOpensOnlyAsMade};
 
 /// Opening a context returns the object from which it was made. Unless the HMAC has a collision,
 /// two contexts with the same integrity value have the same object and sequence number, and were
@@ -20,4 +20,14 @@ pub fn context_laws()
 pub fn binding_laws()
     ensures made { OpensOnlyAsMade }
     ensures bound { RefusesAnotherBinding }
+{}
+
+/// Opening the context of a sequence object returns the sequence object from which it was made.
+/// Unless the HMAC has a collision, the context opens only with the proof, start number and count
+/// of TPM Resets with which it was made. The function does nothing at run time.
+#[inline(always)]
+#[tactic(auto, using(crate::proofs::SequenceLaws::sequence_opens_again, crate::proofs::SequenceLaws::sequence_opens_only_as_made))]
+pub fn sequence_laws()
+    ensures again { SequenceOpensAgain }
+    ensures made { SequenceOpensOnlyAsMade }
 {}

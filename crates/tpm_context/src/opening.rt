@@ -1,10 +1,10 @@
-//! Reads the context of an object.
+//! Reads the context of an object or of a sequence object.
 
 ghost use Rattle.std.specs.Prelude.{◌≡◌, ◌≤◌, ◌+◌, [], IfOk, length};
 ghost use Rattle.tpm_bytes.specs.Reading.{AreBytes, Gives};
-ghost use Rattle.tpm_context.specs.Context.{blob_in, blob_size, object_in, opened, opened_parts, parts_in};
-ghost use Rattle.tpm_context.specs.Meaning.{IsContext};
-ghost use Rattle.tpm_context.specs.Protection.{decrypted};
+ghost use Rattle.tpm_context.specs.Context.{Decrypts, DecryptsContent, blob_in, blob_size, content_in, object_in, opened, parts_in, plain_in};
+ghost use Rattle.tpm_context.specs.Meaning.{IsContext, IsSequenceContext};
+ghost use Rattle.tpm_context.specs.Sequences.{opened_sequence, sequence_in};
 
 use crate::binding::Binding;
 use crate::fault::ContextFault;
@@ -15,6 +15,8 @@ use tpm_bytes::{Cursor, Sink, SizedFault, is_equal};
 use tpm_image_text::read_object_fields;
 use tpm_object::Object;
 use tpm_record::Hierarchies;
+use tpm_sequence::SequenceObject;
+use tpm_sequence_text::read_slot;
 
 /// The integrity value and the encrypted object of a contextBlob.
 #[derive(Drop)]
@@ -76,44 +78,66 @@ fn object_in(head: ContextHead, plain: &[u8]) -> Result<Object, ContextFault>
     Ok(object)
 }
 
-/// Decrypts the object of a context into a buffer.
-fn decrypt_into(
-    proof: &[u8; 32],
-    start: u64,
-    head: ContextHead,
-    cipher: &[u8],
-    plain: &mut Sink<OBJECT_SIZE>,
-)
-    requires empty { plain.old ≡ [] }
-    requires fits { length cipher.now ≤ OBJECT_SIZE }
-    ensures { plain.new ≡ decrypted proof.now start head cipher.now }
+/// Returns the sequence object that a plaintext encodes; the head must be that of a sequence
+/// object's context.
+#[tactic(auto, unfolding(crate::specs::Sequences::sequence_in), using(tpm_image_text::proofs::Bytes::bytes_hold))]
+fn sequence_in(head: ContextHead, plain: &[u8]) -> Result<SequenceObject, ContextFault>
+    ensures { result ≡ sequence_in head plain.now }
 {
-    plain.append(cipher);
-    decrypt(proof, start, head, plain.as_mut_slice());
+    let mut text = Cursor::new(plain);
+    let Ok(slot) = read_slot(&mut text) else {
+        return Err(ContextFault::Integrity);
+    };
+    if !text.is_empty() || !head.is_of_sequence() {
+        return Err(ContextFault::Integrity);
+    }
+    slot.ok_or(ContextFault::Integrity)
 }
 
-/// Returns the object of a context with these parts, if the integrity value is correct. Checks the
-/// integrity value before it decrypts anything.
-#[tactic(auto, unfolding(crate::specs::Context::opened_parts))]
-fn open_parts(
+/// Decrypts the content of a context with these parts into a buffer, if the integrity value is
+/// correct.
+#[tactic(auto, unfolding(crate::specs::Context::plain_in))]
+fn decrypt_parts(
     proof: &[u8; 32],
     binding: Binding,
     head: ContextHead,
     parts: &BlobParts,
-) -> Result<Object, ContextFault>
-    requires { length parts.now.cipher.now ≤ OBJECT_SIZE }
-    ensures value { result ≡ opened_parts proof.now binding head
-        parts.now.integrity.now parts.now.cipher.now }
-    ensures bytes { IfOk result (λ object. AreBytes
-        (decrypted proof.now binding.start head parts.now.cipher.now)) }
+    plain: &mut Sink<OBJECT_SIZE>,
+) -> Result<(), ContextFault>
+    requires empty { plain.old ≡ [] }
+    requires fits { length parts.now.cipher.now ≤ OBJECT_SIZE }
+    ensures { Decrypts (plain_in proof.now binding head parts.now.integrity.now
+        parts.now.cipher.now) result plain.new }
 {
     let right = integrity(proof, binding, head, parts.cipher);
     if !is_equal(parts.integrity, right.as_slice()) {
         return Err(ContextFault::Integrity);
     }
-    let mut plain: Sink<OBJECT_SIZE> = Sink::new();
-    decrypt_into(proof, binding.start, head, parts.cipher, &mut plain);
-    object_in(head, plain.as_slice())
+    plain.append(parts.cipher);
+    decrypt(proof, binding.start, head, plain.as_mut_slice());
+    Ok(())
+}
+
+/// Decrypts the content of a context into a buffer, and returns the head. The context must have been
+/// made with these hierarchies and this binding.
+#[tactic(auto, unfolding(crate::specs::Context::content_in))]
+fn decrypt_content(
+    hierarchies: &Hierarchies,
+    binding: Binding,
+    bytes: &[u8],
+    plain: &mut Sink<OBJECT_SIZE>,
+) -> Result<ContextHead, ContextFault>
+    requires { plain.old ≡ [] }
+    ensures value { DecryptsContent (content_in hierarchies.now binding bytes.now) result plain.new }
+    ensures bytes { AreBytes bytes.now }
+{
+    let mut text = Cursor::new(bytes);
+    let head = ContextHead::read(&mut text)?;
+    let blob = blob_in(&mut text)?;
+    let parts = parts_in(blob)?;
+    let proof = &hierarchies.secrets(head.hierarchy).proof;
+    decrypt_parts(proof, binding, head, &parts, plain)?;
+    Ok(head)
 }
 
 /// Returns the object of a context, if the context was made with these hierarchies and this
@@ -128,10 +152,26 @@ pub fn open(
     // If the bytes open as an object, they are a context of this object, with some sequence number.
     ensures made { IfOk result (λ object. IsContext hierarchies.now binding bytes.now object) }
 {
-    let mut text = Cursor::new(bytes);
-    let head = ContextHead::read(&mut text)?;
-    let blob = blob_in(&mut text)?;
-    let parts = parts_in(blob)?;
-    let proof = &hierarchies.secrets(head.hierarchy).proof;
-    open_parts(proof, binding, head, &parts)
+    let mut plain: Sink<OBJECT_SIZE> = Sink::new();
+    let head = decrypt_content(hierarchies, binding, bytes, &mut plain)?;
+    object_in(head, plain.as_slice())
+}
+
+/// Returns the sequence object of a context, if the context was made with these hierarchies and
+/// this binding.
+#[tactic(auto, unfolding(crate::specs::Sequences::opened_sequence))]
+pub fn open_sequence(
+    hierarchies: &Hierarchies,
+    binding: Binding,
+    bytes: &[u8],
+) -> Result<SequenceObject, ContextFault>
+    ensures value { result ≡ opened_sequence hierarchies.now binding bytes.now }
+    // If the bytes open as a sequence object, they are a context of this sequence object, with some
+    // sequence number.
+    ensures made { IfOk result (λ object.
+        IsSequenceContext hierarchies.now binding bytes.now object) }
+{
+    let mut plain: Sink<OBJECT_SIZE> = Sink::new();
+    let head = decrypt_content(hierarchies, binding, bytes, &mut plain)?;
+    sequence_in(head, plain.as_slice())
 }

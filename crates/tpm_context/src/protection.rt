@@ -84,7 +84,7 @@ fn restart_bound(binding: Binding, saved: SavedHandle) -> u32
     ensures { result ≡ restart_bound binding saved }
 {
     match saved {
-        SavedHandle::Ordinary => 0,
+        SavedHandle::Ordinary | SavedHandle::Sequence => 0,
         SavedHandle::StClear => binding.restart_count,
     }
 }

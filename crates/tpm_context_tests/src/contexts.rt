@@ -9,7 +9,7 @@ use tpm_record::Hierarchies;
 use tpm_types::HierarchyHandle;
 use tpm_types_object::{Public, Sensitive};
 
-/// Aborts the test if the actual value is not the expected one.
+/// Aborts the test if the actual value is not the expected value.
 pub fn check<R: Abort, T: PartialEq + Drop>(rt: &R, found: T, wanted: T) {
     assert!(rt; found == wanted);
 }
@@ -23,14 +23,14 @@ const ST_CLEAR_KEY: &[u8] = b"\0\x10\0\x08\0\x0b\0\x04\x04\x44\0\0\0\x05\0\x0b\0
 const SENSITIVE: &[u8] = b"\0\x0f\0\x08\0\x01a\0\x02sd\0\x04Jefe";
 
 /// The numbers to which the contexts are bound.
-const BINDING: Binding = Binding {
+pub const BINDING: Binding = Binding {
     start: 0x1122_3344_5566_7788,
     reset_count: 3,
     restart_count: 5,
 };
 
 /// The first context with `BINDING`: the context of the key without stClear.
-const CONTEXT: &[u8] =
+pub const CONTEXT: &[u8] =
     b"\x00\x00\x00\x00\x00\x00\x00\x01\x80\x00\x00\x00\x40\x00\x00\x01\x00\x6d\x00\x20\
     \xb1\x9c\x79\xc3\xbd\x74\x4f\x40\x25\xd6\x20\x0d\x32\x8b\x3e\x65\x51\x2e\x9e\x6d\
     \x3d\x28\x11\x7e\xa7\xf5\x51\x52\x33\x34\x41\x92\xaa\xed\x5d\x5b\xb3\x02\x95\x60\
@@ -51,7 +51,7 @@ const ST_CLEAR_CONTEXT: &[u8] =
 
 /// The hierarchies of a device that is manufactured from random bytes that all have this value.
 /// Therefore all bytes of its proofs have this value.
-fn hierarchies(value: u8) -> Hierarchies {
+pub fn hierarchies(value: u8) -> Hierarchies {
     Hierarchies::manufactured(&[value; 256])
 }
 
@@ -105,7 +105,7 @@ fn fault_of(context: &[u8], binding: Binding) -> Option<ContextFault> {
     open(&hierarchies(7), binding, context).err()
 }
 
-fn bound_to(start: u64, reset_count: u32, restart_count: u32) -> Binding {
+pub fn bound_to(start: u64, reset_count: u32, restart_count: u32) -> Binding {
     Binding {
         start,
         reset_count,
@@ -160,7 +160,8 @@ fn another_context_is_refused(rt: HostRuntime) {
     );
     for (place, byte, fault) in [
         (0, 1, ContextFault::Integrity),
-        (11, 1, ContextFault::SavedHandle),
+        (11, 1, ContextFault::Integrity),
+        (11, 3, ContextFault::SavedHandle),
         (11, 2, ContextFault::Integrity),
         (15, 0, ContextFault::Hierarchy),
         (15, 7, ContextFault::Integrity),

@@ -10,3 +10,5 @@
 mod contexts;
 #[cfg(test)]
 mod loading;
+#[cfg(test)]
+mod sequences;

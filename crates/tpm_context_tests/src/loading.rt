@@ -69,7 +69,7 @@ impl Bench {
         self.event(&Event::of_command(buffer, locality, 0, [0; 256]));
     }
 
-    /// Whether the response to a command is this one.
+    /// Whether a command gets this response.
     fn responds(&mut self, buffer: &[u8], wanted: &[u8]) -> bool {
         self.command(buffer);
         self.outcome.response.as_slice() == wanted

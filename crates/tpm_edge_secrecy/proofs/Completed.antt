@@ -1,9 +1,9 @@
 -- The effect of an event with the completing layer, on two devices that differ only in secret data.
 use Rattle.std.proofs.Common.{ap, refl, subst, sym, ◌∙◌}
 use Rattle.std.specs.Prelude.{Bool, Err, List, None, Ok, Option, Result, Some, [], false, option_map, true, ℕ, ◌&&◌, ◌==◌, ◌||◌, ◌∷◌, ◌≡◌}
-use Rattle.tpm_completion.specs.Completed.{behind, completed, completed_with, done_behind, loaded_behind, passed, sending_behind}
+use Rattle.tpm_completion.specs.Completed.{behind, completed, completed_with, done_after, loaded_after, passed, sending_after}
 use Rattle.tpm_completion.specs.Completion.{forgotten}
-use Rattle.tpm_completion.specs.Execution.{Seen, answered, asked_behind, opened_behind, reply_behind, sent_behind, sent_effect, sent_event}
+use Rattle.tpm_completion.specs.Execution.{Seen, answered, asked_after, opened_after, reply_after, sent_after, sent_effect, sent_event}
 use Rattle.tpm_completion.specs.Loading.{context_asked, object_opened, placed_reply}
 use Rattle.tpm_completion.specs.Properties.{values_set}
 use Rattle.tpm_completion.specs.Reply.{reply}
@@ -15,7 +15,7 @@ use Rattle.tpm_context.specs.declared.fault.ContextFault.{ContextFault}
 use Rattle.tpm_edge_secrecy.proofs.Contexts.{layer_loads_alike}
 use Rattle.tpm_edge_secrecy.proofs.Layer.{forgotten_same, layer_answers_alike, layer_saves_alike}
 use Rattle.tpm_edge_secrecy.proofs.Sequences.{layer_sends_alike}
-use Rattle.tpm_edge_secrecy.specs.Layer.{CompletedRunTellsNothing, CompletedTellsNothing, Completions, CompletionsAlike, CompletesAlike, NoneReadsWith, RepliesAlike, SetAlike, answers_with, is_reading_with, is_saving, layer_reads, reads_behind, saves_secret, sent_reads, starts_secret}
+use Rattle.tpm_edge_secrecy.specs.Layer.{CompletedRunTellsNothing, CompletedTellsNothing, Completions, CompletionsAlike, CompletesAlike, NoneReadsWith, RepliesAlike, SetAlike, answers_with, is_reading_with, is_saving, layer_reads, reads_after, saves_secret, sent_reads, starts_secret}
 use Rattle.tpm_object.specs.declared.object.Object.{Object}
 use Rattle.tpm_record.specs.Objects.{next_handle, object_handle}
 use Rattle.tpm_record.specs.Record.{Record}
@@ -23,8 +23,8 @@ use Rattle.tpm_row_secrecy.proofs.Each.{lowest_free_each}
 use Rattle.tpm_row_secrecy.specs.Secrecy.{DifferInSecrets, Secrecy, bare_object, of_data, unless}
 use Rattle.tpm_secrecy.proofs.Data.{alike_told_nothing}
 use Rattle.tpm_secrecy.specs.Tells.{EventsAlike, TellsNothing, is_reading}
-use Rattle.tpm_step.specs.Events.{Cycled, Given, Placed, PlainEvent}
-use Rattle.tpm_step.specs.Step.{step}
+use Rattle.tpm_step.specs.step.Events.{Cycled, Given, Placed, PlainEvent}
+use Rattle.tpm_step.specs.step.Step.{step}
 use Rattle.tpm_step.specs.declared.event.Row.{Row}
 use Rattle.tpm_types_object.specs.declared.public.Public.{Public}
 
@@ -77,9 +77,9 @@ module _ (indices : ℕ → Bool) (objects : Public → Bool) where
   abbrev is_saved : Seen → List ℕ → Bool
   is_saved x buffer = saves_secret s x.step.after x.layer buffer x.step.response
 
-  reply_alike : (x y : Seen) → CompletesAlike s false x y → (buffer : List ℕ) → RepliesAlike (is_saved x buffer) (reply_behind x buffer) (reply_behind y buffer)
+  reply_alike : (x y : Seen) → CompletesAlike s false x y → (buffer : List ℕ) → RepliesAlike (is_saved x buffer) (reply_after x buffer) (reply_after y buffer)
   reply_alike x y alike buffer =
-      subst (RepliesAlike (is_saved x buffer) (reply_behind x buffer))
+      subst (RepliesAlike (is_saved x buffer) (reply_after x buffer))
       (ap (λ (c : Completion). reply y.step.after c buffer x.step.response (x.step.row.check == 0)) alike.layer
       ∙ ap (λ (response : List ℕ). reply y.step.after y.layer buffer response (x.step.row.check == 0)) (alike.response refl)
       ∙ ap (λ (row : Row). reply y.step.after y.layer buffer y.step.response (row.check == 0)) alike.row)
@@ -99,7 +99,7 @@ module _ (indices : ℕ → Bool) (objects : Public → Bool) where
       ∙ ap (λ (x : Record). next_handle x.objects) differ
       ∙ ap (option_map object_handle) (lowest_free_each (bare_object s) t.objects)
 
-  loaded_alike : (saved : Bool) (x y : Seen) → CompletesAlike s false x y → (opened : Result Object ContextFault) → CompletesAlike s saved (loaded_behind x opened) (loaded_behind y opened)
+  loaded_alike : (saved : Bool) (x y : Seen) → CompletesAlike s false x y → (opened : Result Object ContextFault) → CompletesAlike s saved (loaded_after x opened) (loaded_after y opened)
   loaded_alike saved x y alike (Ok object) =
       let placing : TellsNothing s (step x.step.after (Placed object)) (step y.step.after (Placed object)) =
       alike_told_nothing indices objects x.step.after y.step.after false (Placed object) (Placed object) alike.after refl refl in
@@ -119,19 +119,19 @@ module _ (indices : ℕ → Bool) (objects : Public → Bool) where
     layer = alike.layer;
   }
 
-  opened_alike : (x y : Seen) → CompletesAlike s false x y → (context : List ℕ) → opened_behind x context ≡ opened_behind y context
+  opened_alike : (x y : Seen) → CompletesAlike s false x y → (context : List ℕ) → opened_after x context ≡ opened_after y context
   opened_alike x y alike context =
       (layer_loads_alike s x.step.after y.step.after x.layer [] [] context alike.after).1
       ∙ ap (λ (c : Completion). object_opened y.step.after c context) alike.layer
 
-  asked_alike : (x y : Seen) → CompletesAlike s false x y → (buffer : List ℕ) → asked_behind x buffer ≡ asked_behind y buffer
+  asked_alike : (x y : Seen) → CompletesAlike s false x y → (buffer : List ℕ) → asked_after x buffer ≡ asked_after y buffer
   asked_alike x y alike buffer =
       (layer_loads_alike s x.step.after y.step.after x.layer buffer x.step.response [] alike.after).0
       ∙ ap (context_asked y.step.after buffer) (alike.response refl)
 
   -- ---- the layer sends a command to the device
 
-  sent_behind_alike : (x y : Seen) → CompletesAlike s false x y → (buffer : List ℕ) → starts_secret s x.step.after x.layer buffer x.step.response ≡ false → sent_behind x buffer ≡ sent_behind y buffer
+  sent_behind_alike : (x y : Seen) → CompletesAlike s false x y → (buffer : List ℕ) → starts_secret s x.step.after x.layer buffer x.step.response ≡ false → sent_after x buffer ≡ sent_after y buffer
   sent_behind_alike x y alike buffer free =
       layer_sends_alike s x.step.after y.step.after x.layer buffer x.step.response alike.after free
       ∙ ap (λ (c : Completion). sent_for y.step.after c buffer x.step.response) alike.layer
@@ -155,32 +155,32 @@ module _ (indices : ℕ → Bool) (objects : Public → Bool) where
         layer = ap (λ (r : Reply). r.after) same;
       }
 
-  sending_alike : (x y : Seen) → CompletesAlike s false x y → (buffer : List ℕ) (locality : ℕ) (sent : Option Sent) → sent_reads s x locality sent ≡ false → CompletesAlike s (is_saved x buffer) (sending_behind x buffer locality sent) (sending_behind y buffer locality sent)
+  sending_alike : (x y : Seen) → CompletesAlike s false x y → (buffer : List ℕ) (locality : ℕ) (sent : Option Sent) → sent_reads s x locality sent ≡ false → CompletesAlike s (is_saved x buffer) (sending_after x buffer locality sent) (sending_after y buffer locality sent)
   sending_alike x y alike buffer locality (Some sent) free =
       effect_alike (is_saved x buffer) x y (passed x.layer x.step.after (sent_event sent locality)) (passed y.layer y.step.after (sent_event sent locality)) alike
       (second_alike x y alike (sent_event sent locality) free) sent
-  sending_alike x y alike buffer locality None free = answered_alike (is_saved x buffer) x y (reply_behind x buffer) (reply_behind y buffer) alike (reply_alike x y alike buffer)
+  sending_alike x y alike buffer locality None free = answered_alike (is_saved x buffer) x y (reply_after x buffer) (reply_after y buffer) alike (reply_alike x y alike buffer)
 
   -- ---- what comes after a command
 
-  done_alike : (x y : Seen) → CompletesAlike s false x y → (buffer : List ℕ) (locality : ℕ) (asked : Option (List ℕ)) → reads_behind s x buffer locality ≡ false → CompletesAlike s (is_saved x buffer) (done_behind x buffer locality asked) (done_behind y buffer locality asked)
+  done_alike : (x y : Seen) → CompletesAlike s false x y → (buffer : List ℕ) (locality : ℕ) (asked : Option (List ℕ)) → reads_after s x buffer locality ≡ false → CompletesAlike s (is_saved x buffer) (done_after x buffer locality asked) (done_after y buffer locality asked)
   done_alike x y alike buffer locality (Some context) free =
-      subst (λ (opened : Result Object ContextFault). CompletesAlike s (is_saved x buffer) (loaded_behind x (opened_behind x context)) (loaded_behind y opened)) (opened_alike x y alike context)
-      (loaded_alike (is_saved x buffer) x y alike (opened_behind x context))
+      subst (λ (opened : Result Object ContextFault). CompletesAlike s (is_saved x buffer) (loaded_after x (opened_after x context)) (loaded_after y opened)) (opened_alike x y alike context)
+      (loaded_alike (is_saved x buffer) x y alike (opened_after x context))
   done_alike x y alike buffer locality None free =
       let starts : Bool = starts_secret s x.step.after x.layer buffer x.step.response in
-      subst (λ (sent : Option Sent). CompletesAlike s (is_saved x buffer) (sending_behind x buffer locality (sent_behind x buffer)) (sending_behind y buffer locality sent))
-      (sent_behind_alike x y alike buffer (or_left starts (sent_reads s x locality (sent_behind x buffer)) free))
-      (sending_alike x y alike buffer locality (sent_behind x buffer) (or_right starts (sent_reads s x locality (sent_behind x buffer)) free))
+      subst (λ (sent : Option Sent). CompletesAlike s (is_saved x buffer) (sending_after x buffer locality (sent_after x buffer)) (sending_after y buffer locality sent))
+      (sent_behind_alike x y alike buffer (or_left starts (sent_reads s x locality (sent_after x buffer)) free))
+      (sending_alike x y alike buffer locality (sent_after x buffer) (or_right starts (sent_reads s x locality (sent_after x buffer)) free))
 
-  behind_alike : (x y : Seen) → CompletesAlike s false x y → (buffer : List ℕ) (locality : ℕ) → reads_behind s x buffer locality ≡ false → CompletesAlike s (is_saved x buffer) (behind x buffer locality) (behind y buffer locality)
+  behind_alike : (x y : Seen) → CompletesAlike s false x y → (buffer : List ℕ) (locality : ℕ) → reads_after s x buffer locality ≡ false → CompletesAlike s (is_saved x buffer) (behind x buffer locality) (behind y buffer locality)
   behind_alike x y alike buffer locality free =
-      subst (λ (asked : Option (List ℕ)). CompletesAlike s (is_saved x buffer) (done_behind x buffer locality (asked_behind x buffer)) (done_behind y buffer locality asked)) (asked_alike x y alike buffer)
-      (done_alike x y alike buffer locality (asked_behind x buffer) free)
+      subst (λ (asked : Option (List ℕ)). CompletesAlike s (is_saved x buffer) (done_after x buffer locality (asked_after x buffer)) (done_after y buffer locality asked)) (asked_alike x y alike buffer)
+      (done_alike x y alike buffer locality (asked_after x buffer) free)
 
   -- ---- an event
 
-  -- an event that equals a command except in secrets is that command
+  -- an event that differs from a command only in secrets is the same command
   same_command : (buffer : List ℕ) (locality elapsed : ℕ) (random : List ℕ) (also : PlainEvent) → EventsAlike s (Given buffer locality elapsed random) also → Given buffer locality elapsed random ≡ also
   same_command buffer locality elapsed random (Given others from later bytes) same = same
   same_command buffer locality elapsed random Cycled same = absurd cc

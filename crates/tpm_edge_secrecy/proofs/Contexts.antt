@@ -1,15 +1,21 @@
 -- The contexts of objects on two devices that differ only in secrets: on both, an object without
 -- secrets has the same context, and a context contains the same object.
 use Rattle.std.proofs.Common.{ap, refl, sym, ◌∙◌}
-use Rattle.std.specs.Prelude.{Bool, Err, List, None, Ok, Result, false, if◌then◌else◌, true, ℕ, ◌&&◌, ◌||◌, ◌≡◌}
+use Rattle.std.specs.Prelude.{Bool, Err, List, None, Ok, Result, Some, false, if◌then◌else◌, true, ℕ, ◌&&◌, ◌||◌, ◌≡◌}
 use Rattle.tpm_bytes.specs.Reading.{◌>>=◌}
 use Rattle.tpm_completion.specs.Loading.{context_asked, object_context_in, object_opened}
 use Rattle.tpm_completion.specs.Command.{plain_command}
 use Rattle.tpm_completion.specs.Answer.{is_refusal}
 use Rattle.tpm_completion.specs.Saving.{binding_of}
 use Rattle.tpm_completion.specs.declared.completion.Completion.{Completion}
-use Rattle.tpm_context.specs.Context.{blob_in, context_text, object_cipher, opened, opened_parts, parts_in, proof_of, sealed_text}
-use Rattle.tpm_context.specs.Head.{head_at, head_of}
+use Rattle.tpm_completion.specs.SequenceLoading.{sequence_opened}
+use Rattle.tpm_context.specs.Context.{blob_in, content_in, context_text, object_cipher, object_in, opened, parts_in, plain_in, proof_of, sealed_text}
+use Rattle.tpm_context.specs.Head.{head_at, head_of, sequence_head}
+use Rattle.tpm_context.specs.Sequences.{null_proof, opened_sequence, sequence_cipher, sequence_context_text, sequence_in}
+use Rattle.tpm_context.specs.declared.fault.ContextFault.{ContextFault}
+use Rattle.tpm_context.specs.declared.head.ContextHead.{ContextHead}
+use Rattle.tpm_sequence.specs.declared.object.SequenceObject.{SequenceObject}
+use Rattle.tpm_sequence_text.specs.Slot.{slot_text}
 use Rattle.tpm_context.specs.Protection.{encrypted}
 use Rattle.tpm_context.specs.declared.binding.Binding.{Binding}
 use Rattle.tpm_edge_secrecy.specs.Layer.{LayerLoadsAlike, has_secret}
@@ -41,6 +47,10 @@ module _ (s : Secrecy) where
   pub same_object : (a b : Object) → bare_object s a ≡ bare_object s b → has_secret s a ≡ false → a ≡ b
   same_object a b same bare = sym (bare_open a bare) ∙ same ∙ bare_open b (sym (ap (has_secret s) same) ∙ bare)
 
+-- a plaintext with its head
+abbrev with_head : ContextHead → List ℕ → Result (ContextHead × List ℕ) ContextFault
+with_head head plain = Ok (head, plain)
+
 -- ---- two devices that differ in secrets alone
 
 module _ (s : Secrecy) (one other : Record) (differ : DifferInSecrets s one other) where
@@ -63,14 +73,30 @@ module _ (s : Secrecy) (one other : Record) (differ : DifferInSecrets s one othe
       ap (λ (p : List ℕ). sealed_text p (binding_of one c) (head_of number o) (encrypted p c.start (head_of number o) (object_fields_text o))) (proof_alike o.hierarchy)
       ∙ ap (λ (b : Binding). sealed_text (proof_of other.fixed.hierarchies o.hierarchy) b (head_of number o) (object_cipher other.fixed.hierarchies c.start number o)) (binding_alike c)
 
-  opened_alike : (c : Completion) (context : List ℕ) → object_opened one c context ≡ object_opened other c context
-  unfolding opened
-  opened_alike c context =
+  -- a sequence object has the same context on both devices
+  pub sequence_context_alike : (c : Completion) (number : ℕ) (o : SequenceObject)
+      → sequence_context_text one.fixed.hierarchies (binding_of one c) number o ≡ sequence_context_text other.fixed.hierarchies (binding_of other c) number o
+  unfolding sequence_context_text
+  sequence_context_alike c number o =
+      ap (λ (p : List ℕ). sealed_text p (binding_of one c) (sequence_head number) (encrypted p c.start (sequence_head number) (slot_text (Some o)))) (proof_alike hierarchy.Null)
+      ∙ ap (λ (b : Binding). sealed_text (null_proof other.fixed.hierarchies) b (sequence_head number) (sequence_cipher other.fixed.hierarchies c.start number o)) (binding_alike c)
+
+  content_alike : (c : Completion) (context : List ℕ) → content_in one.fixed.hierarchies (binding_of one c) context ≡ content_in other.fixed.hierarchies (binding_of other c) context
+  unfolding content_in
+  content_alike c context =
       same_bind (head_at context) _ _ (λ head.
       same_bind (blob_in head.1) _ _ (λ blob.
       same_bind (parts_in blob) _ _ (λ parts.
-      ap (λ (p : List ℕ). opened_parts p (binding_of one c) head.0 parts.0 parts.1) (proof_alike head.0.hierarchy)
-      ∙ ap (λ (b : Binding). opened_parts (proof_of other.fixed.hierarchies head.0.hierarchy) b head.0 parts.0 parts.1) (binding_alike c))))
+      ap (λ (p : List ℕ). plain_in p (binding_of one c) head.0 parts.0 parts.1 >>= with_head head.0) (proof_alike head.0.hierarchy)
+      ∙ ap (λ (b : Binding). plain_in (proof_of other.fixed.hierarchies head.0.hierarchy) b head.0 parts.0 parts.1 >>= with_head head.0) (binding_alike c))))
+
+  opened_alike : (c : Completion) (context : List ℕ) → object_opened one c context ≡ object_opened other c context
+  unfolding opened
+  opened_alike c context = ap (λ (r : Result (ContextHead × List ℕ) ContextFault). r >>= λ x. object_in x.0 x.1) (content_alike c context)
+
+  pub sequence_opened_alike : (c : Completion) (context : List ℕ) → sequence_opened one c context ≡ sequence_opened other c context
+  unfolding opened_sequence
+  sequence_opened_alike c context = ap (λ (r : Result (ContextHead × List ℕ) ContextFault). r >>= λ x. sequence_in x.0 x.1) (content_alike c context)
 
   asked_alike : (buffer response : List ℕ) → context_asked one buffer response ≡ context_asked other buffer response
   unfolding context_asked

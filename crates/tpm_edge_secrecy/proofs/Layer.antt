@@ -16,13 +16,13 @@ use Rattle.tpm_completion.specs.Answer.{is_refusal, success}
 use Rattle.tpm_completion.specs.Capability.{asked_at, capability_told, command_elements, handles_told, told_of}
 use Rattle.tpm_completion.specs.Command.{Command, plain_command}
 use Rattle.tpm_completion.specs.Completion.{forgotten, sequences_kept, session_context, session_kept}
-use Rattle.tpm_completion.specs.Context.{names_session, token_at}
+use Rattle.tpm_completion.specs.Context.{names_session, token_at, names_sequence}
 use Rattle.tpm_completion.specs.Handles.{is_in_state, session_shown, sessions_shown}
 use Rattle.tpm_completion.specs.Hashing.{hash_row, hash_text, hierarchy_at, ticket_hierarchy, ticket_text}
 use Rattle.tpm_completion.specs.Listing.{element, listing}
 use Rattle.tpm_completion.specs.Properties.{active_count, attribute_if, count_elements, counter_count, identity_elements, index_count, is_counter, limit_elements, lockout_elements, object_count, permanent_attributes, property_elements, session_count, startup_attributes, values_set}
 use Rattle.tpm_completion.specs.Reply.{capability_asked, command_reply, listed, load_asked, or_reply, plain_reply, probed, replied, reply, reply_by, row_served, save_asked, served, stands}
-use Rattle.tpm_completion.specs.Saving.{Reply, binding_of, handle_given, loaded, loaded_by, next_number, object_numbered, object_saved, place_named, refused, saved, session_loaded, session_numbered, session_saved, with_session}
+use Rattle.tpm_completion.specs.Saving.{Reply, binding_of, handle_given, loaded, loaded_by, next_number, object_numbered, object_saved, place_named, refused, saved, session_loaded, session_numbered, session_saved, with_session, counted_reply, sequence_numbered, sequence_saved}
 use Rattle.tpm_completion.specs.SequenceReply.{sequence_reply}
 use Rattle.tpm_completion.specs.Testing.{incremental_row, test_parms_row, test_result_row}
 use Rattle.tpm_completion.specs.declared.capability.Asked.{Asked}
@@ -30,7 +30,7 @@ use Rattle.tpm_completion.specs.declared.completion.Completion.{Completion}
 use Rattle.tpm_completion.specs.declared.context.Token.{Token}
 use Rattle.tpm_containers.specs.Slots.{at_place}
 use Rattle.tpm_context.specs.Context.{context_text}
-use Rattle.tpm_edge_secrecy.proofs.Contexts.{context_alike, same_bind, same_object, secrets_alike}
+use Rattle.tpm_edge_secrecy.proofs.Contexts.{context_alike, same_bind, same_object, secrets_alike, sequence_context_alike, sequence_opened_alike}
 use Rattle.tpm_edge_secrecy.proofs.Sequences.{sequence_alike, ticketed_alike}
 use Rattle.tpm_edge_secrecy.specs.Layer.{LayerAnswersAlike, LayerForgetsAlike, LayerSavesAlike, RepliesAlike, SetAlike, command_saves, handle_saves, has_secret, saves_object, saves_secret}
 use Rattle.tpm_lockout.specs.Tries.{is_locked}
@@ -55,6 +55,10 @@ use Rattle.tpm_types.specs.Limits.{data_limit, object_limit, persistent_limit, s
 use Rattle.tpm_types.specs.declared.handle.Handle.{Handle}
 use Rattle.tpm_types.specs.declared.refused.Refused.{Refused}
 use Rattle.tpm_completion.specs.declared.listing.Form.TheVariants as form
+use Rattle.tpm_completion.specs.Sequences.{sequence_of}
+use Rattle.tpm_completion.specs.SequenceLoading.{opened_put, sequence_loaded}
+use Rattle.tpm_sequence.specs.declared.object.SequenceObject.{SequenceObject}
+use Rattle.tpm_context.specs.declared.fault.ContextFault.{ContextFault}
 
 map_same : {A B : Type 0} (f g : A → B) → ((a : A) → f a ≡ g a) → (xs : List A) → map f xs ≡ map g xs
 map_same f g same [] = refl
@@ -68,7 +72,7 @@ abbrev counted : ℕ → ℕ × Head → ℕ
 counted n e = n + cond (is_counter e) 1 0
 
 module _ (s : Secrecy) (r : Record) where
-  -- ---- what is there
+  -- ---- which sessions exist
 
   session_there : (handle : Handle) → is_some (session_at (places (bare_session s) r.sessions) handle) ≡ is_some (session_at r.sessions handle)
   session_there handle = ap is_some (session_at_bare s r.sessions handle) ∙ is_some_of (bare_session s) (session_at r.sessions handle)
@@ -76,7 +80,7 @@ module _ (s : Secrecy) (r : Record) where
   place_there : (place : ℕ) → is_some (at_place (places (bare_session s) r.sessions) place) ≡ is_some (at_place r.sessions place)
   place_there place = ap is_some (place_of_each (bare_session s) r.sessions place) ∙ is_some_of (bare_session s) (at_place r.sessions place)
 
-  -- ---- what is remembered
+  -- ---- what the layer remembers
 
   session_kept_same : (c : Completion) (place : ℕ) → session_kept (without_secrets s r) c place ≡ session_kept r c place
   unfolding session_kept
@@ -88,7 +92,7 @@ module _ (s : Secrecy) (r : Record) where
       ap (λ (sessions : List ℕ). record c { sessions = sessions; sequences = sequences_kept r c })
       (map_same (session_kept (without_secrets s r) c) (session_kept r c) (session_kept_same c) (numbers_below session_limit))
 
-  -- ---- what is saved
+  -- ---- which contexts contain secrets
 
   secret_there : (found : Option Object) → option_map_or (has_secret s) (option_map (bare_object s) found) false ≡ option_map_or (has_secret s) found false
   secret_there None = refl
@@ -205,11 +209,20 @@ module _ (s : Secrecy) (one other : Record) (differ : DifferInSecrets s one othe
 
   -- ---- contexts
 
-  object_saved_alike : (c : Completion) (a b : Option Object) → option_map (bare_object s) a ≡ option_map (bare_object s) b → RepliesAlike (is_some (next_number c) && option_map_or (has_secret s) a false) (object_saved one c a) (object_saved other c b)
-  object_saved_alike c None None same = same_reply (is_some (next_number c) && false) (object_saved one c None) (object_saved other c None) refl
-  object_saved_alike c None (Some b) same = absurd cc
-  object_saved_alike c (Some a) None same = absurd cc
-  object_saved_alike c (Some a) (Some b) same = by (next_number c)
+  sequence_saved_alike : (c : Completion) (found : Option SequenceObject) → sequence_saved one c found ≡ sequence_saved other c found
+  sequence_saved_alike c (Some o) = by (next_number c)
+    where
+      by : (number : Option ℕ) → sequence_numbered one c o number ≡ sequence_numbered other c o number
+      by (Some number) = ap (counted_reply c number) (sequence_context_alike s one other differ c number o)
+      by None = refl
+  sequence_saved_alike c None = refl
+
+  object_saved_alike : (c : Completion) (handle : Handle) (a b : Option Object) → option_map (bare_object s) a ≡ option_map (bare_object s) b → RepliesAlike (is_some (next_number c) && option_map_or (has_secret s) a false) (object_saved one c handle a) (object_saved other c handle b)
+  object_saved_alike c handle None None same =
+      same_reply (is_some (next_number c) && false) (object_saved one c handle None) (object_saved other c handle None) (sequence_saved_alike c (sequence_of c handle))
+  object_saved_alike c handle None (Some b) same = absurd cc
+  object_saved_alike c handle (Some a) None same = absurd cc
+  object_saved_alike c handle (Some a) (Some b) same = by (next_number c)
     where
       bare_or : Option Object → Object
       bare_or None = a
@@ -234,7 +247,7 @@ module _ (s : Secrecy) (one other : Record) (differ : DifferInSecrets s one othe
   unfolding saved
   saved_alike c handle =
       then_alike (is_transient handle) (is_some (next_number c) && option_map_or (has_secret s) (object_at one.objects handle) false) _ _ _ _
-      (object_saved_alike c (object_at one.objects handle) (object_at other.objects handle) (object_at_alike handle))
+      (object_saved_alike c handle (object_at one.objects handle) (object_at other.objects handle) (object_at_alike handle))
       (ap (λ (x : Reply). if is_session handle then x else refused c 0x184) (of_session (session_context c (place_named handle))))
     where
       of_session : (context : ℕ) → session_saved one c handle context ≡ session_saved other c handle context
@@ -312,7 +325,9 @@ module _ (s : Secrecy) (one other : Record) (differ : DifferInSecrets s one othe
       ap (λ (x : Result (List ℕ) Refused). if command.code == 0x142 then replied c (incremental_row command.parameters) else (if command.code == 0x17c then replied c (test_result_row command.parameters) else (if command.code == 0x17d then replied c x else (if command.code == 0x18a then replied c (test_parms_row command.parameters) else stands c response)))) (hash_alike command.parameters)
 
   load_alike : (c : Completion) (context response : List ℕ) → load_asked one c context response ≡ load_asked other c context response
-  load_alike c context response = ap (λ (x : Reply). if names_session context then x else stands c response) (loaded_alike c context)
+  load_alike c context response =
+      ap (λ (x : Reply). if names_session context then x else (if names_sequence context then sequence_loaded one c context else stands c response)) (loaded_alike c context)
+      ∙ ap (λ (x : Result SequenceObject ContextFault). if names_session context then loaded other c context else (if names_sequence context then opened_put c x else stands c response)) (sequence_opened_alike s one other differ c context)
 
   save_alike : (c : Completion) (response : List ℕ) (x : Result (ℕ × List ℕ) Short) → RepliesAlike (handle_saves s one c x) (save_asked one c response x) (save_asked other c response x)
   save_alike c response (Ok handle) = then_alike (length handle.1 == 0) (saves_object s one c (numbered handle.0)) _ _ _ _ (saved_alike c (numbered handle.0)) refl

@@ -3,10 +3,10 @@ use Rattle.std.specs.Prelude.{false}
 use Rattle.tpm_edge_secrecy.specs.Opened.{OpenedDataNeedPolicy, journal_history}
 use Rattle.tpm_journal.proofs.Histories.{repeats_follow}
 use Rattle.tpm_secrecy.proofs.SealedData.{followed_data_need_policy}
-use Rattle.tpm_step.proofs.Following.{stretch_follows}
-use Rattle.tpm_step.specs.Executions.{history_after}
-use Rattle.tpm_step.specs.Follows.{Follows}
-use Rattle.tpm_step.specs.History.{History}
+use Rattle.tpm_step.proofs.history.Following.{stretch_follows}
+use Rattle.tpm_step.specs.history.Executions.{history_after}
+use Rattle.tpm_step.specs.history.Follows.{Follows}
+use Rattle.tpm_step.specs.history.History.{History}
 
 pub opened_data_need_policy : OpenedDataNeedPolicy
 opened_data_need_policy objects text opened new is past follows can executions old leads event x executes =

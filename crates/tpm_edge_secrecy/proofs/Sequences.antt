@@ -1,5 +1,5 @@
--- Sequences on two devices that differ only in secrets: the layer gives the same answers on both, and
--- sends the same commands to both, unless a sequence starts with a secret key.
+-- Sequences on two devices that differ only in secrets: the layer gives the same answers on both,
+-- and sends the same commands to both, unless a sequence starts with a secret key.
 use Rattle.std.proofs.Common.{[], ap, refl, subst, sym, ◌∙◌}
 use Rattle.std.specs.Prelude.{Bool, Err, List, None, Ok, Option, Result, Some, false, if◌then◌else◌, not, ok_or, option_and_then, option_map, true, ℕ, ◌&&◌, ◌++◌, ◌==◌, ◌≡◌}
 use Rattle.std.specs.Option.{option_map_or}
@@ -34,7 +34,7 @@ use Rattle.tpm_sequence.specs.Beginning.{is_generated}
 use Rattle.tpm_sequence.specs.Sequence.{hmac_sequence, sequence_updated}
 use Rattle.tpm_sequence.specs.declared.sequence.Sequence.{Sequence}
 use Rattle.tpm_sequence.specs.declared.sequence.Sequence.TheVariants.{Event, Hash, Hmac}
-use Rattle.tpm_step.specs.Entries.{password_answer}
+use Rattle.tpm_step.specs.step.Entries.{password_answer}
 use Rattle.tpm_types.specs.Buffer.{buffer_at}
 use Rattle.tpm_types.specs.Limits.{data_limit}
 use Rattle.tpm_types.specs.declared.handle.Handle.{Handle}
@@ -44,8 +44,7 @@ use Rattle.tpm_types.specs.declared.refused.Refused.{Refused}
 
 -- ---- choices
 
--- if the refusals of two commands are the same, so are those of the commands that a condition
--- selects
+-- if two commands have the same refusal, so do the commands that a condition selects
 unsent_if : (c : Completion) (b : Bool) (x y z : Option (Result Sent Refused)) → unsent_reply c x ≡ unsent_reply c y → unsent_reply c (if b then x else z) ≡ unsent_reply c (if b then y else z)
 unsent_if c true x y z same = same
 unsent_if c false x y z same = refl
@@ -73,7 +72,7 @@ module _ (s : Secrecy) (asked : Option HashAlg) where
       bare_or None = a
       bare_or (Some o) = o
 
--- ---- two devices that differ in secrets alone
+-- ---- two devices that differ only in secrets
 
 module _ (s : Secrecy) (one other : Record) (differ : DifferInSecrets s one other) where
   pub ticketed_alike : (chosen : HierarchyHandle) (digest : List ℕ) → ticketed_text one.fixed.hierarchies chosen digest ≡ ticketed_text other.fixed.hierarchies chosen digest

@@ -11,7 +11,7 @@ use Rattle.tpm_completion.specs.Answer.{is_refusal}
 use Rattle.tpm_completion.specs.Command.{Command, authorized_command, plain_command}
 use Rattle.tpm_completion.specs.Completed.{completed, passed}
 use Rattle.tpm_completion.specs.Completion.{forgotten}
-use Rattle.tpm_completion.specs.Execution.{Seen, sent_behind, sent_event}
+use Rattle.tpm_completion.specs.Execution.{Seen, sent_after, sent_event}
 use Rattle.tpm_completion.specs.Loading.{context_asked, object_opened}
 use Rattle.tpm_completion.specs.Properties.{values_set}
 use Rattle.tpm_completion.specs.Reply.{reply}
@@ -24,7 +24,7 @@ use Rattle.tpm_record.specs.Objects.{object_at}
 use Rattle.tpm_record.specs.Record.{Record}
 use Rattle.tpm_row_secrecy.specs.Secrecy.{DifferInSecrets, Secrecy, has_secret_data, of_data, unless, without_secrets}
 use Rattle.tpm_secrecy.specs.Tells.{EventsAlike, is_reading}
-use Rattle.tpm_step.specs.Events.{Cycled, Given, Placed, PlainEvent}
+use Rattle.tpm_step.specs.step.Events.{Cycled, Given, Placed, PlainEvent}
 use Rattle.tpm_step.specs.declared.event.Row.{Row}
 use Rattle.tpm_row_secrecy.specs.Reads.{names_secret_object}
 use Rattle.tpm_types.specs.Handle.{is_transient, numbered}
@@ -91,14 +91,14 @@ sent_reads s first locality (Some sent) =
 sent_reads s first locality None = false
 
 -- whether the layer reads secret data after the device executed a command
-abbrev pub reads_behind : Secrecy → (first : Seen) → (buffer : List ℕ) → (locality : ℕ) → Bool
-reads_behind s first buffer locality =
+abbrev pub reads_after : Secrecy → (first : Seen) → (buffer : List ℕ) → (locality : ℕ) → Bool
+reads_after s first buffer locality =
     starts_secret s first.step.after first.layer buffer first.step.response
-    || sent_reads s first locality (sent_behind first buffer)
+    || sent_reads s first locality (sent_after first buffer)
 
 abbrev pub layer_reads : Secrecy → Completion → Record → PlainEvent → Bool
 layer_reads s c r (Given buffer locality elapsed random) =
-    reads_behind s (passed c r (Given buffer locality elapsed random)) buffer locality
+    reads_after s (passed c r (Given buffer locality elapsed random)) buffer locality
 layer_reads s c r Cycled = false
 layer_reads s c r (Placed object) = false
 

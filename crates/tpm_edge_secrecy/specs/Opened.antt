@@ -5,12 +5,12 @@ use Rattle.tpm_journal.specs.Replay.{run_of_all}
 use Rattle.tpm_journal.specs.declared.opening.Opened.{Opened}
 use Rattle.tpm_record.specs.Record.{Record}
 use Rattle.tpm_secrecy.specs.SealedData.{ReadsSealed, TellsNothingSealed}
-use Rattle.tpm_step.specs.Events.{PlainEvent}
-use Rattle.tpm_step.specs.Execution.{Executes}
-use Rattle.tpm_step.specs.Executions.{Execution, Leads, history_after}
-use Rattle.tpm_step.specs.Follows.{Follows}
-use Rattle.tpm_step.specs.History.{AcceptedCommand, Done, History, recorded}
-use Rattle.tpm_step.specs.Step.{Stepped}
+use Rattle.tpm_step.specs.step.Events.{PlainEvent}
+use Rattle.tpm_step.specs.step.Execution.{Executes}
+use Rattle.tpm_step.specs.history.Executions.{Execution, Leads, history_after}
+use Rattle.tpm_step.specs.history.Follows.{Follows}
+use Rattle.tpm_step.specs.history.History.{AcceptedCommand, Done, History, recorded}
+use Rattle.tpm_step.specs.step.Step.{Stepped}
 use Rattle.tpm_types_object.specs.declared.public.Public.{Public}
 
 -- the history of the device in a journal's head, extended by the executions of the journal's
@@ -27,7 +27,7 @@ journal_history text opened new is history =
 -- reveals nothing about sealed data, or is recorded as an accepted command that reads such data
 -- (`ReadsSealed`). Unless the hash is broken, a policy session of that command satisfied the
 -- object's policy, if the object has no userWithAuth and its authPolicy is the digest of a policy.
--- The history begins with that of the head's device.
+-- The opened device's history begins with the history of the head's device.
 abbrev pub OpenedDataNeedPolicy : Type 0
 OpenedDataNeedPolicy =
     (objects : Public → Bool) (text : List ℕ) (opened : Opened) (new : Record)

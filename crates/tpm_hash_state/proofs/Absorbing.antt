@@ -24,7 +24,7 @@ unfolding absorbed
 absorbs_in_parts state [] second = refl
 absorbs_in_parts state (byte ∷ first) second = absorbs_in_parts (byte_absorbed state byte) first second
 
--- one more byte of a list
+-- absorbing one more byte of a list
 pub absorbed_more : (state : HashState) (bytes : List ℕ) (i : ℕ) → i < length bytes
     → absorbed state (take (i + 1) bytes) ≡ byte_absorbed (absorbed state (take i bytes)) (slice_index bytes i)
 unfolding absorbed
@@ -32,10 +32,10 @@ absorbed_more state bytes i within =
     ap (absorbed state) (take_more bytes i 0 within)
     ∙ sym (absorbs_in_parts state (take i bytes) (slice_index bytes i ∷ []))
 
--- ---- what a state holds of a message
+-- ---- the state after a message
 
--- The value is the hash value after the whole blocks of the message, and the block begins with the
--- bytes that are left.
+-- `value` is the hash value after the whole blocks of the message, and `block` begins with the
+-- remaining bytes.
 abbrev ValueHolds : HashAlg → ChainingValue → (block message : List ℕ) → Type 0
 ValueHolds alg.Sha1 (Sha1 words) block message = sha1.IsAbsorbed words block message
 ValueHolds alg.Sha1 (Sha256 words) block message = ⊥
@@ -43,7 +43,7 @@ ValueHolds alg.Sha256 (Sha1 words) block message = ⊥
 ValueHolds alg.Sha256 (Sha256 words) block message =
     sha256.IsAbsorbed sha256.initial_hash_256 words block message
 
--- bytes that do not fill the block
+-- Appending bytes that do not fill the block leaves the hash value unchanged.
 value_short : (alg : HashAlg) (value : ChainingValue) (before block message bytes : List ℕ)
     → ValueHolds alg value before message → length message % 64 + length bytes < 64
     → take (length message % 64 + length bytes) block ≡ take (length message % 64) before ++ bytes
@@ -55,7 +55,7 @@ value_short alg.Sha256 (Sha1 words) before block message bytes holds short place
 value_short alg.Sha256 (Sha256 words) before block message bytes holds short placed =
     two.IsAbsorbed_short sha256.initial_hash_256 words before block message bytes holds short placed
 
--- bytes that fill the block
+-- Appending bytes that fill the block compresses the block into the hash value.
 value_full : (alg : HashAlg) (value : ChainingValue) (before block message bytes : List ℕ)
     → ValueHolds alg value before message → length message % 64 + length bytes ≡ 64
     → block ≡ take (length message % 64) before ++ bytes
@@ -141,7 +141,7 @@ padding_counted count size is =
     let bits : count * 8 % 2 ^ 64 ≡ size * 8 % 2 ^ 64 = omega arith in
     rw (used, bits) refl
 
--- the hash value after a padded message has the bytes of the digest
+-- the digest of a message consists of the bytes of the hash value after the padded message
 value_padded : (alg : HashAlg) (value : ChainingValue) (block message : List ℕ)
     → ValueHolds alg value block (padded_message message) → value_bytes value ≡ hash_of alg message
 unfolding sha1.sha1 sha256.sha256
@@ -162,7 +162,7 @@ digest_is_hash alg message =
 
 -- ---- words as bytes
 
--- both hash crates write words alike
+-- both hash crates encode words in the same way
 pub same_bytes : (words : List ℕ) (n : ℕ) → sha256.digest_bytes words n ≡ sha1.digest_bytes words n
 unfolding sha1.digest_bytes sha256.digest_bytes
 same_bytes words zero = refl
@@ -191,7 +191,7 @@ chosen_alg : (full : Bool) (value : ChainingValue) (block : List ℕ)
 chosen_alg true value block = compressed_alg value block
 chosen_alg false value block = refl
 
--- the algorithm stays
+-- absorbing bytes does not change the algorithm
 pub absorbed_alg : (state : HashState) (bytes : List ℕ) → state_alg (absorbed state bytes) ≡ state_alg state
 unfolding absorbed
 absorbed_alg state [] = refl

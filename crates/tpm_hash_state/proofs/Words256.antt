@@ -3,14 +3,14 @@ use Rattle.std.proofs.Common.{◌≡◌, ℕ, ◌+◌, ◌-◌, ◌*◌, ◌<◌
 use Rattle.std.proofs.lemmas.List.{get_or-take, take_more_set}
 use Rattle.sha2.specs.Sha256.{first_words, next_word, schedule, word_at}
 
--- one more word of the block
+-- storing one more word of the block
 pub first_words_more : (words block : List ℕ) (t word : ℕ) → t < length words → take t words ≡ first_words block t
     → word ≡ word_at block (4 * t) → take (t + 1) (slice_set words t word) ≡ first_words block (t + 1)
 unfolding first_words
 first_words_more words block t word within so_far is =
     take_more_set words t word within ∙ rw (so_far, is, add-one t) refl
 
--- the word after the first n + 16 depends only on these
+-- word t of the schedule depends only on the words before it
 next_word_before : (words : List ℕ) (t : ℕ) → 16 ≤ t → next_word (take t words) t ≡ next_word words t
 next_word_before words t late =
     rw (
@@ -26,7 +26,7 @@ pub schedule_none : (words block : List ℕ) → take 16 words ≡ first_words b
 unfolding schedule
 schedule_none words block so_far = so_far
 
--- one more word of the schedule
+-- storing one more word of the schedule
 pub schedule_more : (words block : List ℕ) (t word : ℕ) → 16 ≤ t → t < length words → take t words ≡ schedule block (t - 16)
     → word ≡ next_word words t → take (t + 1) (slice_set words t word) ≡ schedule block (t + 1 - 16)
 unfolding schedule

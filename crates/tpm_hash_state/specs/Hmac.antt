@@ -5,8 +5,8 @@ use Rattle.tpm_mac.specs.declared.algorithm.HashAlg.{HashAlg}
 use Rattle.tpm_hash_state.specs.State.{absorbed, empty_state, state_digest}
 use Rattle.tpm_hash_state.specs.declared.hmac.HmacState.{HmacState}
 
--- the state with this key and the empty message: both hashes have absorbed the masked key (steps 4
--- and 7)
+-- the state with this key and the empty message: each of the two hashes has absorbed its masked key
+-- (steps 4 and 7)
 unfoldable pub hmac_state : HashAlg → (key : List ℕ) → HmacState
 hmac_state alg key = record {
   inner = absorbed (empty_state alg) (masked_key 0x36 (padded_key alg key));

@@ -8,22 +8,22 @@ use Rattle.tpm_hash_state.specs.State.{absorbed, empty_state, state_digest}
 use Rattle.tpm_hash_state.specs.declared.hmac.HmacState.{HmacState}
 use Rattle.tpm_hash_state.specs.declared.state.HashState.{HashState}
 
--- The digest of the state that absorbed a message is the hash of the message.
+-- The digest after absorbing a message is the hash of the message.
 abbrev pub DigestIsHash : Type 0
 DigestIsHash = (alg : HashAlg) (message : List ℕ)
     → state_digest (absorbed (empty_state alg) message) ≡ hash_of alg message
 
--- Absorbing two parts is absorbing their concatenation.
+-- Absorbing two parts one after the other is the same as absorbing their concatenation.
 abbrev pub AbsorbsInParts : Type 0
 AbsorbsInParts = (state : HashState) (first second : List ℕ)
     → absorbed (absorbed state first) second ≡ absorbed state (first ++ second)
 
--- The digest of the HMAC state with a key that absorbed a text is the HMAC of the text.
+-- The digest of an HMAC state after absorbing a text is the HMAC of the text.
 abbrev pub HmacIsHmac : Type 0
 HmacIsHmac = (alg : HashAlg) (key text : List ℕ)
     → hmac_digest (hmac_absorbed (hmac_state alg key) text) ≡ hmac_of alg key text
 
--- For an HMAC state, absorbing two parts is absorbing their concatenation.
+-- Absorbing two parts into an HMAC state is the same as absorbing their concatenation.
 abbrev pub HmacAbsorbsInParts : Type 0
 HmacAbsorbsInParts = (state : HmacState) (first second : List ℕ)
     → hmac_absorbed (hmac_absorbed state first) second ≡ hmac_absorbed state (first ++ second)

@@ -19,12 +19,12 @@ abbrev pub compressed : ChainingValue → List ℕ → ChainingValue
 compressed (Sha1 words) block = Sha1 (sha1.compress words block)
 compressed (Sha256 words) block = Sha256 (sha256.compress words block)
 
--- the state of the empty message
+-- the initial state, in which the message is empty
 abbrev pub empty_state : HashAlg → HashState
 empty_state alg = record { chaining = initial_value alg; block = replicate 64 0; length = 0 }
 
--- the state after one more byte of the message. A byte that fills the block continues the hash
--- value with this block
+-- the state after one more byte of the message. If the byte fills the block, the block is
+-- compressed into the hash value
 abbrev pub byte_absorbed : HashState → ℕ → HashState
 byte_absorbed state byte =
     let place : ℕ = state.length % 64 in
@@ -50,10 +50,11 @@ value_bytes (Sha256 words) = sha256.digest_bytes words 8
 unfoldable pub state_digest : HashState → List ℕ
 state_digest state = value_bytes (absorbed state (padding state.length)).chaining
 
--- the algorithm of a hash value, and of a state
+-- the algorithm of a hash value
 abbrev pub value_alg : ChainingValue → HashAlg
 value_alg (Sha1 words) = alg.Sha1
 value_alg (Sha256 words) = alg.Sha256
 
+-- the algorithm of a state
 abbrev pub state_alg : HashState → HashAlg
 state_alg state = value_alg state.chaining

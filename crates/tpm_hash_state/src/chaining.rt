@@ -17,7 +17,7 @@ pub enum ChainingValue {
 }
 
 impl ChainingValue {
-    /// Continues the hash value with one more block.
+    /// Updates the hash value with one more block.
     pub(crate) fn compress(&mut self, block: &[u8; 64])
         ensures { self.new ≡ compressed self.old block.now }
     {

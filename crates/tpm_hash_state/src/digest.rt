@@ -6,7 +6,7 @@ ghost use Rattle.sha2.specs.Sha256.{digest_bytes};
 use arrayvec::ArrayVec;
 use tpm_mac::Digest;
 
-/// The longest start of a padding.
+/// The longest possible padding before the length field: 0x80, then zeros.
 static PADDING: [u8; 64] = [
     0x80, 0, 0, 0, 0, 0, 0, 0, 0, 0, 0, 0, 0, 0, 0, 0, 0, 0, 0, 0, 0, 0, 0, 0, 0, 0, 0, 0, 0, 0, 0,
     0, 0, 0, 0, 0, 0, 0, 0, 0, 0, 0, 0, 0, 0, 0, 0, 0, 0, 0, 0, 0, 0, 0, 0, 0, 0, 0, 0, 0, 0, 0, 0,

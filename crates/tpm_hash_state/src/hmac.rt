@@ -44,7 +44,7 @@ impl HmacState {
         self.inner.absorb(bytes);
     }
 
-    /// The HMAC of the message. The state may absorb more bytes after it.
+    /// The HMAC of the message. The state can absorb more bytes afterwards.
     pub fn digest(&self) -> Digest
         ensures value { result.items ≡ hmac_digest self.now }
         ensures size { length result.items ≡ digest_size (state_alg self.now.outer) }

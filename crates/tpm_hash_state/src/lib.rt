@@ -1,6 +1,6 @@
 #![tactic(auto)]
 
-//! SHA-1 and SHA-256 (FIPS 180-4) and HMAC (FIPS 198-1) over a visible state.
+//! SHA-1 and SHA-256 (FIPS 180-4) and HMAC (FIPS 198-1), with a state that callers can read.
 //!
 //! A [`HashState`] is a plain value: it is copied, compared and saved like any other value. The
 //! hash crates `sha1` and `sha2` hide their state. This crate uses only their definitions, and

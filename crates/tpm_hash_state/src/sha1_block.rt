@@ -43,7 +43,7 @@ fn loaded(block: &[u8; 64]) -> [u32; 80]
     words
 }
 
-/// The word at this byte of the block.
+/// The word at this offset in the block.
 fn word_at(block: &[u8; 64], at: usize) -> u32
     requires { at + 4 ≤ 64 }
     ensures { result ≡ word_at block.now at }
@@ -51,7 +51,7 @@ fn word_at(block: &[u8; 64], at: usize) -> u32
     u32::from_be_bytes([block[at], block[at + 1], block[at + 2], block[at + 3]])
 }
 
-/// The word with this index of the message schedule, from the words before it.
+/// Word `t` of the message schedule, computed from the words before it.
 fn next_word(words: &[u32; 80], t: usize) -> u32
     requires first { 16 ≤ t }
     requires last { t < 80 }

@@ -114,7 +114,7 @@ fn loaded(block: &[u8; 64]) -> [u32; 64]
     words
 }
 
-/// The word at this byte of the block.
+/// The word at this offset in the block.
 fn word_at(block: &[u8; 64], at: usize) -> u32
     requires { at + 4 ≤ 64 }
     ensures { result ≡ word_at block.now at }
@@ -122,7 +122,7 @@ fn word_at(block: &[u8; 64], at: usize) -> u32
     u32::from_be_bytes([block[at], block[at + 1], block[at + 2], block[at + 3]])
 }
 
-/// The word with this index of the message schedule, from the words before it.
+/// Word `t` of the message schedule, computed from the words before it.
 fn next_word(words: &[u32; 64], t: usize) -> u32
     requires first { 16 ≤ t }
     requires last { t < 64 }
@@ -169,42 +169,42 @@ fn round(variables: Words, constant: u32, word: u32) -> Words
     ]
 }
 
-/// Ch (FIPS 180-4, 4.1.2).
+/// The function Ch (FIPS 180-4, 4.1.2).
 fn choice(x: u32, y: u32, z: u32) -> u32
     ensures { result ≡ ch x y z }
 {
     (x & y) ^ (!x & z)
 }
 
-/// Maj (FIPS 180-4, 4.1.2).
+/// The function Maj (FIPS 180-4, 4.1.2).
 fn majority(x: u32, y: u32, z: u32) -> u32
     ensures { result ≡ maj x y z }
 {
     (x & y) ^ (x & z) ^ (y & z)
 }
 
-/// The upper case Σ0 (FIPS 180-4, 4.1.2).
+/// The function Σ0, upper case (FIPS 180-4, 4.1.2).
 fn big_sigma0(x: u32) -> u32
     ensures { result ≡ big_sigma0 x }
 {
     x.rotate_right(2) ^ x.rotate_right(13) ^ x.rotate_right(22)
 }
 
-/// The upper case Σ1 (FIPS 180-4, 4.1.2).
+/// The function Σ1, upper case (FIPS 180-4, 4.1.2).
 fn big_sigma1(x: u32) -> u32
     ensures { result ≡ big_sigma1 x }
 {
     x.rotate_right(6) ^ x.rotate_right(11) ^ x.rotate_right(25)
 }
 
-/// The lower case σ0 (FIPS 180-4, 4.1.2).
+/// The function σ0, lower case (FIPS 180-4, 4.1.2).
 fn small_sigma0(x: u32) -> u32
     ensures { result ≡ small_sigma0 x }
 {
     x.rotate_right(7) ^ x.rotate_right(18) ^ (x >> 3)
 }
 
-/// The lower case σ1 (FIPS 180-4, 4.1.2).
+/// The function σ1, lower case (FIPS 180-4, 4.1.2).
 fn small_sigma1(x: u32) -> u32
     ensures { result ≡ small_sigma1 x }
 {

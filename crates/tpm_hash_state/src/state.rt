@@ -16,7 +16,7 @@ const BLOCK_SIZE: usize = 64;
 pub struct HashState {
     /// The hash value after the whole blocks of the message.
     pub chaining: ChainingValue,
-    /// Begins with the bytes after the last whole block. The bytes after these are left from
+    /// The bytes after the last whole block of the message. The rest of the array is left from
     /// earlier blocks.
     pub block: [u8; 64],
     /// The length of the message in bytes, modulo 2^64.
@@ -24,7 +24,7 @@ pub struct HashState {
 }
 
 impl HashState {
-    /// The state of the empty message.
+    /// A hash that has not absorbed any byte yet.
     pub fn new(alg: HashAlg) -> HashState
         ensures { result ≡ empty_state alg }
     {
@@ -54,7 +54,7 @@ impl HashState {
         }
     }
 
-    /// The algorithm.
+    /// The hash algorithm.
     pub fn alg(&self) -> HashAlg
         ensures { result ≡ state_alg self.now }
     {
@@ -73,7 +73,7 @@ impl HashState {
         }
     }
 
-    /// Appends one byte to the message. A byte that fills the block costs a compression.
+    /// Appends one byte to the message. If the byte fills the block, compresses the block.
     fn absorb_byte(&mut self, byte: u8)
         ensures { self.new ≡ byte_absorbed self.old byte }
     {
@@ -85,7 +85,7 @@ impl HashState {
         }
     }
 
-    /// The digest of the message. The state may absorb more bytes after it.
+    /// The digest of the message. The state can absorb more bytes afterwards.
     pub fn digest(&self) -> Digest
         ensures value { result.items ≡ state_digest self.now }
         ensures size { length result.items ≡ digest_size (state_alg self.now) }

@@ -125,9 +125,10 @@ located = (0x081, codes "ASYMMETRIC")
 abbrev pub name_in : List (ℕ × List ℕ) → ℕ → Option (List ℕ)
 name_in rows number = option_map (λ row. row.1) (find (λ row. row.0 == number) rows)
 
--- what a code of RC_FMT1 reports as wrong. If bit 6 is set, it is the parameter whose number is in
--- bits 8 to 11. Otherwise it is a session if bit 11 is set, and a handle if bit 11 is clear; its
--- number is in bits 8 to 10. The number 0 means that the code identifies nothing
+-- the parameter, session or handle that a code of RC_FMT1 identifies. If bit 6 is set, the code
+-- identifies the parameter whose number is in bits 8 to 11. Otherwise it identifies a session (bit
+-- 11 set) or a handle (bit 11 clear), whose number is in bits 8 to 10. The number 0 means that the
+-- code identifies nothing
 unfoldable pub place_in : ℕ → Place
 place_in code =
     let number : ℕ = code / 0x100 in

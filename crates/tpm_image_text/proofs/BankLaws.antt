@@ -45,7 +45,7 @@ bank_done size place values text whole long =
     ap (λ (n : ℕ). behind (take place values) (many_at (bytes_in size) n text)) left
     ∙ ap (λ (l : List (List ℕ)). Ok (l, text)) (append-nil (take place values) ∙ take_all place values (omega (arith, whole, long)))
 
--- if a value of a bank is truncated, the whole loop fails with the fault of reading that value
+-- if a value of a bank is truncated, the whole loop fails with the same fault as reading the value
 pub bank_cut : (size place : ℕ) (values : List (List ℕ)) (fault : Malformed) (text : List ℕ) → place < 16 → bytes_in size text ≡ Err fault → values_left size place values text ≡ Err fault
 unfolding values_left
 bank_cut size place values fault text below is = none_more (bytes_in size) (take place values) (16 - place) (16 - (place + 1)) fault text (omega (arith, below)) is

@@ -60,8 +60,7 @@ module _ {X : Type 0} (at : List ℕ → Result ((ℕ × X) × List ℕ) Malform
   unfoldable pub entries_left : (count place low : ℕ) (so_far : Entries X) (text : List ℕ) → Result (Entries X × List ℕ) Malformed
   entries_left count place low so_far text = behind so_far (entries_from (count - place) low text)
 
-  -- before the first entry is read, the result of the whole loop is the result of reading all
-  -- entries
+  -- before the first entry is read, the whole loop has the result of reading all entries
   pub entries_begun : (count : ℕ) (so_far : Entries X) (text : List ℕ) → so_far ≡ [] → entries_left count 0 0 so_far text ≡ passing (ascend_from 0) (many_at at count) text
   unfolding entries_left
   entries_begun count so_far text none =

@@ -53,8 +53,7 @@ pub not_false : (b : Bool) → not b ≡ false → b ≡ true
 not_false true e = refl
 not_false false e = absurd cc
 
--- an exact decoder is still exact if it also tests the decoded value and returns a value made from
--- that value
+-- an exact decoder is still exact if it also tests and converts the decoded value
 pub tested : {A B E : Type 0} {text : A → List ℕ} {Is : A → Type 0} {at : List ℕ → Result (A × List ℕ) E} (test : A → Bool) (refusal : E) (made : A → B) (given : B → A) → ((x : A) → given (made x) ≡ x) → ((y : B) → made (given y) ≡ y) → Spelled text Is at → Spelled (λ y. text (given y)) (λ y. Is (given y) × (test (given y) ≡ true)) (λ bytes. at bytes >>= λ x. refused_if (not (test x.0)) refusal >>= λ passed. Ok (made x.0, x.1))
 tested {A} {B} {E} {text} {Is} {at} test refusal made given same whole law = record {
   taken = λ bytes y fits e.
@@ -71,8 +70,8 @@ tested {A} {B} {E} {text} {Is} {at} test refusal made given same whole law = rec
 pub passing_spelled : {A : Type 0} {text : A → List ℕ} {Is : A → Type 0} {at : List ℕ → Result (A × List ℕ) Malformed} (test : A → Bool) → Spelled text Is at → Spelled text (λ x. Is x × (test x ≡ true)) (passing test at)
 passing_spelled test law = tested test malformed (λ x. x) (λ x. x) (λ _. refl) (λ _. refl) law
 
--- an exact decoder is still exact if it returns a value made from the decoded value, provided that
--- each of the two values determines the other
+-- an exact decoder is still exact if it converts the decoded value, provided that each of the two
+-- values determines the other
 pub made_of : {A B E : Type 0} {text : A → List ℕ} {Is : A → Type 0} {at : List ℕ → Result (A × List ℕ) E} (made : A → B) (given : B → A) {Are : B → Type 0} → ((x : A) → Is x → (given (made x) ≡ x) × Are (made x)) → ((y : B) → Are y → (made (given y) ≡ y) × Is (given y)) → Spelled text Is at → Spelled (λ y. text (given y)) Are (λ bytes. at bytes >>= λ x. Ok (made x.0, x.1))
 made_of {A} {B} {E} {text} {Is} {at} made given {Are} to from law = record {
   taken = λ bytes y fits e.
@@ -121,8 +120,7 @@ never fault none = record {
   again = λ x rest is. absurd (none x is);
 }
 
--- a decoder that chooses one of two decoders by a test is exact if each of them is exact in its
--- case
+-- a decoder that chooses one of two decoders by a test is exact if the chosen decoder is exact
 pub either : {A E : Type 0} {text : A → List ℕ} {Is : A → Type 0} {at other : List ℕ → Result (A × List ℕ) E} (test : Bool) → (test ≡ true → Spelled text Is at) → (test ≡ false → Spelled text Is other) → Spelled text Is (λ bytes. cond test (at bytes) (other bytes))
 either true law _ = let l = law refl in record { taken = l.taken; again = l.again }
 either false _ law = let l = law refl in record { taken = l.taken; again = l.again }

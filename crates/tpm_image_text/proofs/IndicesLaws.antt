@@ -22,8 +22,8 @@ use Rattle.tpm_image_text.proofs.EntriesLaws.{before, entries_cut, entries_done,
 abbrev pub with_space : ℕ → Entries NvIndex × List ℕ → Result (Entries NvIndex × List ℕ) Malformed
 with_space limit o = refused_if (not (have_space limit o.0)) malformed >>= λ passed. Ok o
 
--- if an index does not fit although the device has fewer indices than its limit, its data exceed
--- the space that is left
+-- if a device has fewer indices than its limit, an index that does not fit has more data than the
+-- space that is left
 pub no_space : (contents : NvContents) (size : ℕ) → length contents.indices < nv_index_limit → has_room contents size ≡ false → nv_space_limit < data_bytes contents + size
 no_space contents size few full =
     leb-false (data_bytes contents + size) nv_space_limit (rest (ltb (length contents.indices) nv_index_limit) (lt-ltb (length contents.indices) nv_index_limit few) full)
@@ -74,7 +74,7 @@ indices_done limit at count place low so_far text whole small = rw (entries_done
 pub indices_over : (limit : ℕ) (at : List ℕ → Result ((ℕ × NvIndex) × List ℕ) Malformed) (count place low : ℕ) (so_far : Entries NvIndex) (text : List ℕ) → place ≡ count → limit < bytes_of so_far → (entries_left at count place low so_far text >>= with_space limit) ≡ Err malformed
 indices_over limit at count place low so_far text whole over = rw (entries_done at count place low so_far text whole, lt-leb (bytes_of so_far) limit over) refl
 
--- the heads of NV indices (which lack the data) have the same total data size as the indices
+-- NV indices and their heads, which lack the data, have the same total data size
 pub heads_total : (es : Entries NvIndex) → total (map (λ (e : ℕ × NvIndex). (e.0, head_of e.1)) es) ≡ bytes_of es
 heads_total [] = refl
 heads_total (e ∷ es) = omega (arith, heads_total es, sum_by-cons (λ (e : ℕ × NvIndex). e.1.public.data_size) e es)

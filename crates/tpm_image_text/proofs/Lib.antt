@@ -2,6 +2,7 @@ pub mod Appending
 pub mod SortedMapLaws
 pub mod BankLaws
 pub mod BodyLaws
+pub mod Bytes
 pub mod EntriesLaws
 pub mod FieldSpelling
 pub mod FrameLaws

@@ -14,8 +14,7 @@ pub both : (a b : Bool) → a ≡ true → b ≡ true → (a && b) ≡ true
 both a b first second = rw (first, second) refl
 
 module _ {X : Type 0} where
-  -- if keys ascend, and the first key is at least `low`, which is above `key`, then all keys are
-  -- above `key`
+  -- if the keys ascend from `low`, and `low` is above `key`, all keys are above `key`
   all_above : (key low : ℕ) (es : Entries X) → key < low → ascend_from low es ≡ true → AllAbove key es
   all_above key low [] less ascend = tt
   all_above key low (e ∷ es) less ascend =

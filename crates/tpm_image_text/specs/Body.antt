@@ -373,6 +373,6 @@ kept_in version text = do
     indices.1,
   )
 
--- the non-volatile state that a body encodes; bytes after it are malformed
+-- the non-volatile state that a body encodes; further bytes make the body malformed
 unfoldable pub body_of : Version → List ℕ → Result NonVolatile Malformed
 body_of version text = filling (kept_in version) text

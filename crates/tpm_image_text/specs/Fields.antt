@@ -2,7 +2,7 @@
 -- value that is not allowed, is malformed, whatever fault other decoders return for the same field.
 use Rattle.std.specs.Prelude.{ℕ, ◌==◌, nat_lt, not, Bool, true, false, List, ◌++◌, length, Result, Ok}
 use Rattle.std.specs.Int.{Width, w8, w16, to_be_bytes}
-use Rattle.std.specs.List.{flat_map}
+use Rattle.std.specs.List.{flat_map, list_all}
 use Rattle.std.specs.Str.{bytes_eq}
 use Rattle.tpm_bytes.specs.Many.{many_at}
 use Rattle.tpm_bytes.specs.Reading.{◌>>=◌, bytes_at, number_at, or_fault, refused_if}
@@ -71,6 +71,10 @@ is_trimmed value = bytes_eq (trimmed value) value
 -- end
 unfoldable pub auth_value_in : List ℕ → Result (List ℕ × List ℕ) Malformed
 auth_value_in text = passing is_trimmed (buffer_in 32) text
+
+-- whether each number of a list is below 256
+abbrev pub are_bytes : List ℕ → Bool
+are_bytes bytes = list_all (λ byte. nat_lt byte 256) bytes
 
 -- ---- lists
 

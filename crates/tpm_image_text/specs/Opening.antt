@@ -8,8 +8,8 @@ use Rattle.tpm_image_text.specs.declared.fault.ImageFault.{ImageFault}
 use Rattle.tpm_image_text.specs.declared.fault.ImageFault.TheVariants.{NoMemory}
 
 -- On success, the result is a machine with the non-volatile state in the image, just after
--- power-on. On error, it is the first fault of the bytes, or NoMemory, which is returned only if an
--- allocation failed and the bytes are an image.
+-- power-on. On error, the result is the first fault of the bytes; or NoMemory, if an allocation
+-- failed and the bytes are an image.
 abbrev pub Opens : {M : Type 0} → (M → Record) → Bool → List ℕ → Result M ImageFault → Type 0
 Opens record_of can text (Ok machine) =
     (kept : NonVolatile) × (image_of text ≡ Ok kept) × (record_of machine ≡ powered_on kept)

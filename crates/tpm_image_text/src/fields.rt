@@ -17,14 +17,16 @@ use tpm_types::{
     read_yes_no, trimmed,
 };
 
-/// The size of the encoded limits, in bytes. The next three constants are the largest sizes of the
-/// fixed part, the persistent objects and the NV indices.
+/// The size of the encoded limits, in bytes.
 const LIMITS_SIZE: usize = 6;
 
+/// The largest size of the fixed part, in bytes.
 const STATE_SIZE: usize = 1_269;
 
+/// The largest size of the persistent objects, in bytes.
 const OBJECTS_SIZE: usize = 2 + PERSISTENT_LIMIT * 330;
 
+/// The largest size of the NV indices, in bytes.
 const INDICES_SIZE: usize = 2 + NV_INDEX_LIMIT * 84 + NV_SPACE_LIMIT;
 
 /// The largest size of the part of a state text that is not in the body of an image.
@@ -91,7 +93,7 @@ pub fn read_bool(text: &mut Cursor) -> Result<bool, Malformed>
     }
 }
 
-/// Reads this many bytes.
+/// Reads `count` bytes.
 pub fn read_bytes<'a>(text: &mut Cursor<'a>, count: usize) -> Result<&'a [u8], Malformed>
     ensures exact { Reads (λ bytes. bytes.now) (bytes_in count text.old) text.old result text.new }
     ensures size { IfOk result (λ bytes. length bytes.now ≡ count) }

@@ -74,7 +74,7 @@ seen_once : (layer : Completion) (old : Record) (e : PlainEntry) (a b : Seen) �
 seen_once layer old e a b is also =
     exactly false e.completes layer old (event_of e) a is refl ∙ sym (exactly false e.completes layer old (event_of e) b also refl)
 
--- if executing some entries again can give the recorded answers, it always does so, with the same
+-- if one execution of the entries gives the recorded answers, every execution does, with the same
 -- journal and record
 same_run : (before : Journal) (old : Record) (performances : List Performance) (after : Journal) (new : Record) (layer : Completion) (mid : Record)
     → LeadsBy false before old performances after new → Answers before.layer old (map entry_in performances) layer mid
@@ -91,8 +91,8 @@ same_run before old (one ∷ performances) after new layer mid leads answers =
           ∙ ap (λ (l : List ℕ). one.entry.answered ∷ l) next.2,
     )
 
--- if the device gives the recorded answers, executing entries with a torn end has no fault and
--- reaches the last complete entry
+-- if the device gives the recorded answers, entries with a torn end are executed without a fault,
+-- up to the last complete entry
 ended : (fault : Option FollowFault) (sum : ℕ) (sums said : List ℕ) (more : List PlainEntry) (rest left : List ℕ)
     → AnswersAre fault sums said → sums ≡ said → EndsIn fault sum left → left ≡ entries_text sum more ++ rest
     → AllByRecursion IsEntry more → IsTorn (sum_after_all sum more) rest → (fault ≡ None) × (more ≡ [])
@@ -153,7 +153,7 @@ module _ (kind : HeadKind) (clock : ℕ) (content : List ℕ) (start : Start) (e
     (begins : BeginsWith text kind clock content (entries_text start.journal.sum entries ++ rest))
     (are : AllByRecursion IsEntry entries) (cut : IsTorn (sum_after_all start.journal.sum entries) rest)
     (answers : Answers start.journal.layer start.device entries layer final) where
-  -- a function of a head has the same value for two heads at the beginning of the same input
+  -- any function has the same value for two heads at the beginning of the same input
   same_of : {X : Type 0} (f : HeadKind → ℕ → List ℕ → X) (other : HeadKind) (time : ℕ) (bytes behind : List ℕ) → BeginsWith text other time bytes behind
       → f kind clock content ≡ f other time bytes
   same_of f other time bytes behind others =

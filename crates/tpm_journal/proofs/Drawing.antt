@@ -13,14 +13,14 @@ use Rattle.tpm_record.specs.Record.{Record}
 use Rattle.tpm_record.specs.Tick.{ticked}
 use Rattle.tpm_types.specs.declared.handle.Handle.{Handle}
 use Rattle.tpm_types_command.specs.AuthEntry.{Entry}
-use Rattle.tpm_step.specs.Answer.{answer_to, framed, handle_answer, success_text}
-use Rattle.tpm_step.specs.Events.{Given}
-use Rattle.tpm_step.specs.Step.{Accepted, Stepped, accepted, step, stepped_of}
+use Rattle.tpm_step.specs.step.Answer.{answer_to, framed, handle_answer, success_text}
+use Rattle.tpm_step.specs.step.Events.{Given}
+use Rattle.tpm_step.specs.step.Step.{Accepted, Stepped, accepted, step, stepped_of}
 use Rattle.tpm_step.specs.declared.refused_command.RefusedCommand.{RefusedCommand}
 use Rattle.tpm_machine.specs.Drawn.{drawn_by, drawn_by_command}
 use Rattle.tpm_completion.specs.Answer.{is_refusal, refusal}
 use Rattle.tpm_completion.specs.Command.{authorized_command, plain_command}
-use Rattle.tpm_completion.specs.Execution.{AsksFirst, Behind, CompletesIf, Loads, Passes, PlacesIf, Seen, Sends, asked_behind, opened_behind, sent_behind}
+use Rattle.tpm_completion.specs.Execution.{AsksFirst, Behind, CompletesIf, Loads, Passes, PlacesIf, Seen, Sends, asked_after, opened_after, sent_after}
 use Rattle.tpm_completion.specs.Loading.{context_asked, object_context_in}
 use Rattle.tpm_completion.specs.Sending.{sent_for, sent_in}
 use Rattle.tpm_completion.specs.declared.completion.Completion.{Completion}
@@ -67,13 +67,13 @@ sends_within can first buffer random locality None seen all few is =
 
 pub behind_within : (can : Bool) (first : Seen) (buffer random : List ℕ) (locality : ℕ) (asked : Option (List ℕ)) (seen : Seen)
     → length random ≡ 256 → first.drawn ≤ length random → Behind can first buffer locality asked seen → seen.drawn ≤ length random
-behind_within can first buffer random locality (Some context) seen all few loads = loads_within can first (opened_behind first context) seen random few loads
-behind_within can first buffer random locality None seen all few sends = sends_within can first buffer random locality (sent_behind first buffer) seen all few sends
+behind_within can first buffer random locality (Some context) seen all few loads = loads_within can first (opened_after first context) seen random few loads
+behind_within can first buffer random locality None seen all few sends = sends_within can first buffer random locality (sent_after first buffer) seen all few sends
 
 asks_within : (can : Bool) (layer : Completion) (old : Record) (buffer : List ℕ) (locality elapsed : ℕ) (random : List ℕ) (seen : Seen)
     → AsksFirst can layer old buffer locality elapsed random seen → seen.drawn ≤ length random
 asks_within can layer old buffer locality elapsed random seen (first, passes, behind) =
-    behind_within can first buffer random locality (asked_behind first buffer) seen passes.executes.happens.2 (no_more_drawn can layer old buffer locality elapsed random first passes) behind
+    behind_within can first buffer random locality (asked_after first buffer) seen passes.executes.happens.2 (no_more_drawn can layer old buffer locality elapsed random first passes) behind
 
 pub if_within : (can completes : Bool) (layer : Completion) (old : Record) (buffer : List ℕ) (locality elapsed : ℕ) (random : List ℕ) (seen : Seen)
     → CompletesIf can completes layer old (Given buffer locality elapsed random) seen → seen.drawn ≤ length random
@@ -87,7 +87,7 @@ draws_within can layer old c seen executed = if_within can c.completes layer old
 -- ---- a command that loads the context of an object, or for which the layer sends a command, draws
 -- none
 
--- a response that reports success is no refusal: the third byte of its response code is 0, not 1
+-- a response that reports success is not a refusal: the third byte of its response code is 0, not 1
 framed_success : (tag : ℕ) (body : List ℕ) → is_refusal 0x143 (framed tag 0 body) ≡ true → ⊥
 framed_success tag body is =
     let same : framed tag 0 body ≡ refusal 0x143 = (bytes_eq-Decides (framed tag 0 body) (refusal 0x143)).0 is in
@@ -134,13 +134,13 @@ draws_none layer old buffer locality elapsed random first passes refused =
     (subst (λ (x : Stepped). is_refusal 0x143 x.response ≡ true) step_is refused)
 
 pub asked_draws_none : (layer : Completion) (old : Record) (buffer : List ℕ) (locality elapsed : ℕ) (random : List ℕ) (first : Seen) (context : List ℕ)
-    → Passes false layer old (Given buffer locality elapsed random) first → asked_behind first buffer ≡ Some context
+    → Passes false layer old (Given buffer locality elapsed random) first → asked_after first buffer ≡ Some context
     → drawn_by old (Given buffer locality elapsed random) 0 ≡ 0
 asked_draws_none layer old buffer locality elapsed random first context passes asked =
     draws_none layer old buffer locality elapsed random first passes (asked_refused first.step.after buffer first.step.response context asked)
 
 pub sent_draws_none : (layer : Completion) (old : Record) (buffer : List ℕ) (locality elapsed : ℕ) (random : List ℕ) (first : Seen) (sent : Sent)
-    → Passes false layer old (Given buffer locality elapsed random) first → sent_behind first buffer ≡ Some sent
+    → Passes false layer old (Given buffer locality elapsed random) first → sent_after first buffer ≡ Some sent
     → drawn_by old (Given buffer locality elapsed random) 0 ≡ 0
 sent_draws_none layer old buffer locality elapsed random first sent passes is =
     draws_none layer old buffer locality elapsed random first passes (sent_refused first.step.after first.layer buffer first.step.response sent is)

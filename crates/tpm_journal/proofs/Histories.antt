@@ -1,5 +1,4 @@
--- If a device follows a history and executes entries again, it afterwards follows the history
--- extended by these executions.
+-- Executing entries again extends the history that a device follows by these executions.
 use Rattle.std.proofs.Common.{ℕ, Bool, List, [], ◌∷◌, Option}
 use Rattle.tpm_record.specs.Record.{Record}
 use Rattle.tpm_machine.specs.Executions.{Leads}
@@ -14,8 +13,7 @@ use Rattle.tpm_journal.specs.State.{journal_after}
 use Rattle.tpm_journal.specs.declared.following.FollowFault.{FollowFault}
 use Rattle.tpm_journal.specs.declared.journal.Journal.{Journal}
 
--- the device's executions of these entries result in the record that the device has after the
--- entries
+-- the device's executions of entries lead to its record after the entries
 run_leads_all : (can : Bool) (before : Journal) (old : Record) (performances : List Performance) (after : Journal) (new : Record)
     (leads : LeadsBy can before old performances after new) → Leads can old (run_of_all can before old performances after new leads) new
 run_leads_all can before old [] after new leads = leads.1

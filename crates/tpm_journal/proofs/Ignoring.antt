@@ -1,15 +1,15 @@
--- Random bytes that a command did not draw affect neither the command nor its layer.
+-- Random bytes that a command did not draw affect neither the command nor the completing layer.
 use Rattle.std.proofs.Common.{◌≡◌, ◌≤◌, ◌-◌, ℕ, Bool, true, false, List, [], ◌++◌, length, replicate, take, Option, Some, None, refl, subst, sym, ap, ◌∙◌}
 use native.Mathlib.Omega.{arith}
 use Rattle.std.proofs.lemmas.List.{length-append, length-replicate, length-take-le}
 use Rattle.tpm_record.specs.Record.{Record}
-use Rattle.tpm_step.specs.Events.{Given, PlainEvent}
-use Rattle.tpm_step.specs.Execution.{Executes}
+use Rattle.tpm_step.specs.step.Events.{Given, PlainEvent}
+use Rattle.tpm_step.specs.step.Execution.{Executes}
 use Rattle.tpm_machine.specs.Drawn.{drawn_by}
 use Rattle.tpm_machine.proofs.Following.{execution_follows}
 use Rattle.tpm_journal.specs.draw_laws.Bytes.{AgreeOnDrawn, zeros_behind}
 use Rattle.tpm_journal.proofs.draw_laws.Executions.{draws_alike, executes_alike, replays, replay_draws}
-use Rattle.tpm_completion.specs.Execution.{AsksFirst, Behind, CompletesIf, Passes, Seen, Sends, asked_behind, sent_behind}
+use Rattle.tpm_completion.specs.Execution.{AsksFirst, Behind, CompletesIf, Passes, Seen, Sends, asked_after, sent_after}
 use Rattle.tpm_completion.specs.declared.completion.Completion.{Completion}
 use Rattle.tpm_completion.specs.declared.sending.Sent.{Sent}
 use Rattle.tpm_journal_text.specs.Entry.{PlainEntry}
@@ -18,8 +18,8 @@ use Rattle.tpm_journal.specs.Living.{Answers, IgnoresUndrawn, Lives}
 use Rattle.tpm_journal.proofs.Again.{lives_again}
 use Rattle.tpm_journal.proofs.Drawing.{asked_draws_none, behind_within, draws_within, no_more_drawn, sends_within, sent_draws_none}
 
--- passing an event to the device has the same effect with other random bytes, if the device then
--- executes it in the same way and draws the same number of bytes
+-- replacing the random bytes of an event does not change the effect of passing the event to the
+-- device, if the device executes it in the same way and draws the same number of bytes
 passes_with : (layer : Completion) (old : Record) (event other : PlainEvent) (seen : Seen) → Passes false layer old event seen
     → Executes false old other seen.step → drawn_by old other seen.step.row.check ≡ drawn_by old event seen.step.row.check
     → Passes false layer old other seen
@@ -30,8 +30,8 @@ passes_with layer old event other seen passes executes draws = record {
   drawn = passes.drawn ∙ sym draws;
 }
 
--- passing an event to the device has the same effect with only the random bytes that it drew,
--- followed by zeros
+-- replacing undrawn random bytes by zeros does not change the effect of passing an event to the
+-- device
 passes_again : (layer : Completion) (old : Record) (buffer : List ℕ) (locality elapsed : ℕ) (random : List ℕ) (seen : Seen)
     → Passes false layer old (Given buffer locality elapsed random) seen
     → Passes false layer old (Given buffer locality elapsed (zeros_behind seen.drawn random)) seen
@@ -40,8 +40,8 @@ passes_again layer old buffer locality elapsed random seen passes =
     subst (λ (n : ℕ). Passes false layer old (Given buffer locality elapsed (zeros_behind n random)) seen) (sym passes.drawn)
     (passes_with layer old event _ seen passes (replays old event seen.step passes.executes) (replay_draws old event seen.step passes.executes))
 
--- passing an event that draws no random bytes to the device has the same effect with any other
--- random bytes
+-- if an event draws no random bytes, replacing them does not change the effect of passing the event
+-- to the device
 passes_anyhow : (layer : Completion) (old : Record) (buffer : List ℕ) (locality elapsed : ℕ) (random other : List ℕ) (seen : Seen)
     → Passes false layer old (Given buffer locality elapsed random) seen → drawn_by old (Given buffer locality elapsed random) 0 ≡ 0
     → length other ≡ length random → Passes false layer old (Given buffer locality elapsed other) seen
@@ -61,10 +61,9 @@ zeros_many n random few all =
 abbrev kept : Seen → List ℕ → List ℕ
 kept seen random = zeros_behind seen.drawn random
 
--- the device's first execution of a command stays the same if zeros replace the random bytes that
--- the command did not draw
+-- replacing undrawn random bytes by zeros does not change the device's first execution of a command
 sends_first : (layer : Completion) (old : Record) (first : Seen) (buffer : List ℕ) (locality elapsed : ℕ) (random : List ℕ) (sent : Option Sent) (seen : Seen)
-    → sent ≡ sent_behind first buffer → Passes false layer old (Given buffer locality elapsed random) first → Sends false first buffer locality sent seen
+    → sent ≡ sent_after first buffer → Passes false layer old (Given buffer locality elapsed random) first → Sends false first buffer locality sent seen
     → Passes false layer old (Given buffer locality elapsed (kept seen random)) first
 sends_first layer old first buffer locality elapsed random (Some sent) seen given passes sends =
     let all : length random ≡ 256 = passes.executes.happens.2 in
@@ -78,7 +77,7 @@ sends_first layer old first buffer locality elapsed random None seen given passe
     (passes_again layer old buffer locality elapsed random first passes)
 
 first_again : (layer : Completion) (old : Record) (first : Seen) (buffer : List ℕ) (locality elapsed : ℕ) (random : List ℕ) (asked : Option (List ℕ)) (seen : Seen)
-    → asked ≡ asked_behind first buffer → Passes false layer old (Given buffer locality elapsed random) first → Behind false first buffer locality asked seen
+    → asked ≡ asked_after first buffer → Passes false layer old (Given buffer locality elapsed random) first → Behind false first buffer locality asked seen
     → Passes false layer old (Given buffer locality elapsed (kept seen random)) first
 first_again layer old first buffer locality elapsed random (Some context) seen given passes loads =
     let all : length random ≡ 256 = passes.executes.happens.2 in
@@ -87,12 +86,12 @@ first_again layer old first buffer locality elapsed random (Some context) seen g
     passes_anyhow layer old buffer locality elapsed random (kept seen random) first passes
     (asked_draws_none layer old buffer locality elapsed random first context passes (sym given)) (zeros_many seen.drawn random few all)
 first_again layer old first buffer locality elapsed random None seen given passes sends =
-    sends_first layer old first buffer locality elapsed random (sent_behind first buffer) seen refl passes sends
+    sends_first layer old first buffer locality elapsed random (sent_after first buffer) seen refl passes sends
 
 asks_again : (layer : Completion) (old : Record) (buffer : List ℕ) (locality elapsed : ℕ) (random : List ℕ) (seen : Seen)
     → AsksFirst false layer old buffer locality elapsed random seen → AsksFirst false layer old buffer locality elapsed (kept seen random) seen
 asks_again layer old buffer locality elapsed random seen (first, passes, behind) =
-    (first, first_again layer old first buffer locality elapsed random (asked_behind first buffer) seen refl passes behind, behind)
+    (first, first_again layer old first buffer locality elapsed random (asked_after first buffer) seen refl passes behind, behind)
 
 executed_again : (completes : Bool) (layer : Completion) (old : Record) (buffer : List ℕ) (locality elapsed : ℕ) (random : List ℕ) (seen : Seen)
     → CompletesIf false completes layer old (Given buffer locality elapsed random) seen
@@ -108,8 +107,7 @@ ignores layer old c seen executed =
     (sym (length-take-le seen.drawn c.random few))
     (executed_again c.completes layer old c.buffer c.locality c.elapsed c.random seen executed)
 
--- executing the entries of a running device and its layer again results in the same layer and
--- record
+-- executing the entries of a running device again results in the same layer and record
 pub lives_alike : (layer : Completion) (old : Record) (entries : List PlainEntry) (after : Completion) (new : Record)
     → Lives layer old entries after new → Answers layer old entries after new
 lives_alike = lives_again ignores

@@ -39,22 +39,19 @@ take_further n m text within =
     ∙ ap (λ (l : List ℕ). l ++ drop n (take (n + m) text)) front
     ∙ ap (λ (l : List ℕ). take n text ++ l) (drop-take n m text)
 
--- an entry executed at the beginning of the input is also executed at the beginning of any equal
--- input
+-- an entry that was executed from one input is also executed from any equal input
 pub performs_at : (can : Bool) (before : Journal) (old : Record) (left text : List ℕ) (size : ℕ) (one : Performance) (after : Journal)
     (Holds : ℕ → ℕ → Type 0) → left ≡ text → Performs can before old left size one after Holds → Performs can before old text size one after Holds
 performs_at can before old left text size one after Holds is p = rw (← is) p
 
--- after entries were executed again, the checksum of the journal is its earlier checksum with the
--- marks of these entries added
+-- executing entries again adds their marks to the journal's checksum
 pub journal_sum : (can : Bool) (before : Journal) (old : Record) (performances : List Performance) (after : Journal) (new : Record)
     → LeadsBy can before old performances after new → after.sum ≡ sum_after_all before.sum (map entry_in performances)
 journal_sum can before old [] after new leads = ap (λ (j : Journal). j.sum) leads.0
 journal_sum can before old (one ∷ performances) after new leads =
     journal_sum can (journal_after before one.entry one.seen.layer) one.seen.step.after performances after new leads.1
 
--- if entries were executed one after another, and then one more entry, all of them were executed
--- one after another
+-- executing one more entry after a list of entries executes the longer list
 pub leads_more : (can : Bool) (before : Journal) (old : Record) (performances : List Performance) (mid : Journal) (here : Record)
     (one : Performance) (after : Journal) (new : Record) → LeadsBy can before old performances mid here
     → IsPerformed can mid.layer here one.entry one.seen → after ≡ journal_after mid one.entry one.seen.layer → new ≡ one.seen.step.after

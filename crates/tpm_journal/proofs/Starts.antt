@@ -1,4 +1,4 @@
--- Says which journal each kind of head starts.
+-- Which journal each kind of head starts.
 use Rattle.std.proofs.Common.{◌≡◌, ℕ, List, ◌++◌, Result, Ok, ap, ◌∙◌}
 use Rattle.std.specs.List.{AllByRecursion}
 use Rattle.tpm_completion.specs.declared.completion.Completion.{Completion}

@@ -4,7 +4,7 @@ use Rattle.std.specs.Prelude.{ℕ, ◌-◌, ◌^◌, Bool, List, ◌++◌, lengt
 use Rattle.tpm_completion.specs.Execution.{CompletesIf, Seen}
 use Rattle.tpm_completion.specs.declared.completion.Completion.{Completion}
 use Rattle.tpm_record.specs.Record.{Record}
-use Rattle.tpm_step.specs.Events.{PlainEvent, Given}
+use Rattle.tpm_step.specs.step.Events.{PlainEvent, Given}
 use Rattle.tpm_journal_text.specs.Entry.{PlainEntry, entry_limit}
 use Rattle.tpm_journal_text.specs.Sum.{sum_of}
 

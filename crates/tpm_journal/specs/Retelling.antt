@@ -13,7 +13,7 @@ use Rattle.tpm_journal.specs.declared.journal.Journal.{Journal}
 use Rattle.hex.specs.Hex.{encode_lower}
 use Rattle.tpm_journal_text.specs.Entry.{PlainEntry, executing_lines, mark_line_size, setting_lines}
 use Rattle.tpm_record.specs.Record.{Record}
-use Rattle.tpm_step.specs.Events.{PlainEvent}
+use Rattle.tpm_step.specs.step.Events.{PlainEvent}
 use Rattle.tpm_step.specs.declared.event.Row.{Row}
 use Rattle.tpm_text.specs.Trace.{IsAnswered, IsRow, trace_text}
 use Rattle.tpm_journal.specs.declared.retelling.RetellFault.{RetellFault}

@@ -10,10 +10,10 @@ ghost use Rattle.tpm_record.specs.rows.Request.{Request};
 ghost use Rattle.tpm_journal.specs.draw_laws.Bytes.{ActsAlike, AgreeOnDrawn, replayed, with_random};
 ghost use Rattle.tpm_machine.specs.Drawn.{drawn_by};
 ghost use Rattle.tpm_record.specs.Record.{Record};
-ghost use Rattle.tpm_step.specs.Events.{Given, PlainEvent};
-ghost use Rattle.tpm_step.specs.Execution.{Executes};
-ghost use Rattle.tpm_step.specs.Step.{Stepped, step_where};
-ghost use Rattle.tpm_step.specs.Table.{row_of};
+ghost use Rattle.tpm_step.specs.step.Events.{Given, PlainEvent};
+ghost use Rattle.tpm_step.specs.step.Execution.{Executes};
+ghost use Rattle.tpm_step.specs.step.Step.{Stepped, step_where};
+ghost use Rattle.tpm_step.specs.step.Table.{row_of};
 ghost use Rattle.tpm_commands.specs.declared.command_code.CommandCode.{CommandCode};
 ghost use Rattle.tpm_commands.specs.declared.command_code.CommandCode.TheVariants as command;
 
@@ -37,9 +37,9 @@ pub fn needed_byte_laws()
         → take s.answer.drawn other ≡ take s.answer.drawn q.random) }
 {}
 
-/// A command's step depends only on the random bytes that it draws. If the bytes after these are
-/// replaced by equally many others, the step is the same, even if an allocation fails, and draws
-/// the same number of bytes.
+/// A command's step depends only on the random bytes that it draws. If the undrawn bytes are
+/// replaced by equally many other bytes, the step is the same, even if an allocation fails, and
+/// draws the same number of bytes.
 #[inline(always)]
 #[tactic(auto, using(crate::proofs::draw_laws::Executions::steps_alike, crate::proofs::draw_laws::Executions::draws_alike))]
 pub fn step_laws()
@@ -53,8 +53,8 @@ pub fn step_laws()
         ≡ drawn_by r (Given buffer locality elapsed random) check }
 {}
 
-/// A command's execution depends only on the random bytes that it draws. If the bytes after these
-/// are replaced by equally many others, the same outcome is possible.
+/// A command's execution depends only on the random bytes that it draws. If the undrawn bytes are
+/// replaced by equally many other bytes, the same outcome is possible.
 #[inline(always)]
 pub fn execution_laws()
     ensures { (can : Bool) (r : Record) (buffer : List ℕ) (locality elapsed : ℕ)

@@ -46,8 +46,8 @@ pub(crate) enum Deed<'a> {
     Damaged,
 }
 
-/// Executes the command of an entry again, with the completing layer if the entry says so. Only
-/// this function executes entries.
+/// Executes the command of an entry again, with the completing layer if the entry says so. No other
+/// function executes entries.
 pub fn perform<K: Keep>(
     machine: &mut Machine<K>,
     layer: &mut Completion,

@@ -19,9 +19,9 @@ ghost use Rattle.tpm_record.specs.Cycle.{cycled};
 ghost use Rattle.tpm_record.specs.IsRecord.{IsRecord};
 ghost use Rattle.tpm_state_text.specs.Filling.{state_of as whole_state};
 ghost use Rattle.tpm_state_text.specs.State.{state_text};
-ghost use Rattle.tpm_step.specs.Events.{Cycled};
-ghost use Rattle.tpm_step.specs.Execution.{Executes};
-ghost use Rattle.tpm_step.specs.Step.{outcome_step};
+ghost use Rattle.tpm_step.specs.step.Events.{Cycled};
+ghost use Rattle.tpm_step.specs.step.Execution.{Executes};
+ghost use Rattle.tpm_step.specs.step.Step.{outcome_step};
 ghost use Rattle.tpm_types.specs.Locality.{locality_number};
 
 use tpm_bytes::Sink;
@@ -208,8 +208,8 @@ fn layer_in(sum: u64, layer: Option<&Layer>) -> Completion
     }
 }
 
-/// Writes a head, whose content comes in two parts, to the beginning of a buffer, if it fits.
-/// Returns its size. Sets `sum` to the checksum of the head's mark.
+/// Writes a head to the beginning of a buffer, if the head fits. The content is passed in two
+/// parts. Returns the head's size, and sets `sum` to the checksum of the head's mark.
 fn put_head(
     kind: HeadKind,
     clock_ms: u64,

@@ -111,9 +111,9 @@ pub fn checkpoint_laws()
         (checkpointed j clock r) entries layer final result new }
 {}
 
-/// If a device follows a history and executes entries again, afterwards it follows that history
-/// extended by everything that it accepted while executing them. The law also states other
-/// properties of these executions, such as the limits on failed tries.
+/// Executing entries again extends the history that a device follows by everything that the device
+/// accepts while executing them. The law also states other properties of these executions, such as
+/// the limits on failed tries.
 #[inline(always)]
 pub fn repeating_laws()
     ensures { (can : Bool) (before : Journal) (old : Record) (text : List ℕ) (taken : ℕ)

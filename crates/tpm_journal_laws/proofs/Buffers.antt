@@ -5,8 +5,8 @@ use Rattle.std.proofs.lemmas.Bool.{le-ltb, lt-ltb}
 use Rattle.std.proofs.lemmas.List.{length-take-le}
 use Rattle.tpm_record.specs.Record.{Record}
 use Rattle.tpm_record.specs.Tick.{ticked}
-use Rattle.tpm_step.specs.General.{general, header_refusal}
-use Rattle.tpm_step.specs.Step.{accepted, answer_where}
+use Rattle.tpm_step.specs.step.General.{general, header_refusal}
+use Rattle.tpm_step.specs.step.Step.{accepted, answer_where}
 use Rattle.tpm_types_command.specs.Header.{header_at}
 use Rattle.tpm_types_command.specs.declared.header.HeaderFault.TheVariants as fault
 use Rattle.tpm_journal_text.specs.Entry.{entry_limit}
@@ -15,7 +15,7 @@ use Rattle.tpm_journal_laws.specs.Buffers.{IsRecordedWhole, LongerAreRefusedAlik
 pub is_recorded_whole : IsRecordedWhole
 is_recorded_whole buffer locality elapsed completes random few = take_all 4097 buffer (omega (arith, few))
 
--- a buffer that is too long contains no header
+-- the header of a buffer of more than 4,096 bytes has the fault Length
 no_header : (buffer : List ℕ) → 4096 < length buffer → header_at buffer ≡ Err fault.Length
 unfolding header_at
 no_header buffer long = rw (le-ltb (length buffer) 10 (omega (arith, long)), lt-ltb 4096 (length buffer) long) refl

@@ -10,8 +10,8 @@ use Rattle.tpm_journal_text.specs.Entry.{shown}
 use Rattle.tpm_journal.proofs.draw_laws.Executions.{steps_alike}
 use Rattle.tpm_machine.specs.Drawn.{drawn_by, drawn_by_command}
 use Rattle.tpm_record.specs.Tick.{ticked}
-use Rattle.tpm_step.specs.Events.{Given}
-use Rattle.tpm_step.specs.Step.{Accepted, accepted}
+use Rattle.tpm_step.specs.step.Events.{Given}
+use Rattle.tpm_step.specs.step.Step.{Accepted, accepted}
 use Rattle.tpm_step.specs.declared.refused_command.RefusedCommand.{RefusedCommand}
 use Rattle.std.specs.Prelude.{Result, Ok, Err}
 use Rattle.tpmsim_script.specs.Script.{repeated}

@@ -17,7 +17,7 @@ use Rattle.tpm_journal_text.specs.declared.head.HeadKind.{HeadKind}
 use Rattle.tpm_journal_text.specs.declared.head.HeadKind.TheVariants.{Image, State}
 use Rattle.tpm_journal_text.proofs.Standing.{mark_many}
 use Rattle.tpm_record.specs.Record.{Record}
-use Rattle.tpm_step.specs.Step.{step}
+use Rattle.tpm_step.specs.step.Step.{step}
 use Rattle.tpmsim_script.specs.Line.{Meaning, Executes, SetsLocality, Waits, SetsEntropy, DoesNothing, bytes_of, line_meaning, lines_of}
 use Rattle.tpmsim_script.specs.Script.{Effect, Playing, at_first, execute, output_before, output_with, perform, perform_line, play, printed_response, printed_trace, repeated, set_entropy, silence}
 use Rattle.tpm_journal_laws.specs.Playing.{JournalPlays, printed_answers, scripted}

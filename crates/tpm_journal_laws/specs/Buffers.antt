@@ -1,8 +1,8 @@
 -- Says which buffers a journal records whole, and what it records of longer buffers.
 use Rattle.std.specs.Prelude.{◌≡◌, ℕ, ◌<◌, ◌≤◌, Bool, List, length}
 use Rattle.tpm_record.specs.Record.{Record}
-use Rattle.tpm_step.specs.Events.{Given}
-use Rattle.tpm_step.specs.Step.{step_where}
+use Rattle.tpm_step.specs.step.Events.{Given}
+use Rattle.tpm_step.specs.step.Step.{step_where}
 use Rattle.tpm_journal.specs.Command.{command_at, given}
 
 -- A buffer of up to 4,096 bytes is recorded whole.
@@ -10,8 +10,8 @@ abbrev pub IsRecordedWhole : Type 0
 IsRecordedWhole = (buffer : List ℕ) (locality elapsed : ℕ) (completes : Bool) (random : List ℕ)
     → length buffer ≤ 4096 → (command_at buffer locality elapsed completes random).buffer ≡ buffer
 
--- If a longer buffer is truncated for the journal, the recorded part has the same step as the whole
--- buffer, whether or not an allocation fails.
+-- If a buffer of more than 4,096 bytes is truncated for the journal, the recorded part has the same
+-- step as the whole buffer, whether or not an allocation fails.
 abbrev pub LongerAreRefusedAlike : Type 0
 LongerAreRefusedAlike = (refused : Bool) (r : Record) (buffer : List ℕ) (locality elapsed : ℕ)
     (completes : Bool) (random : List ℕ) → 4096 < length buffer

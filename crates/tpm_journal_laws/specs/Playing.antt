@@ -7,8 +7,8 @@ use Rattle.tpm_journal_text.specs.Journal.{entries_text}
 use Rattle.tpm_journal_text.specs.declared.head.HeadKind.{HeadKind}
 use Rattle.tpm_machine.specs.Drawn.{drawn_by}
 use Rattle.tpm_record.specs.Record.{Record}
-use Rattle.tpm_step.specs.Events.{PlainEvent, Given}
-use Rattle.tpm_step.specs.Step.{step}
+use Rattle.tpm_step.specs.step.Events.{PlainEvent, Given}
+use Rattle.tpm_step.specs.step.Step.{step}
 use Rattle.tpmsim_script.specs.Line.{lines_of}
 use Rattle.tpmsim_script.specs.Script.{at_first, play, printed_response, repeated}
 

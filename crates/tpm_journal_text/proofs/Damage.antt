@@ -14,14 +14,15 @@ use Rattle.tpm_journal_text.proofs.LineFeeds.{lines_end_zeros}
 use Rattle.tpm_journal_text.proofs.Pieces.{line_same}
 use Rattle.tpm_journal_text.proofs.Standing.{entry_text_many, line_stands, mark_bytes, mark_line_many, mark_many, stands}
 
--- If the part before the zeros of a torn input begins with a mark's line, so does the whole input.
+-- If the part of a torn input before the zeros begins with a mark's line, the whole input begins
+-- with this line.
 pub torn_line : (sum : ℕ) (text mark : List ℕ) (torn : IsTorn sum text) → BeginsWithMark sum mark torn.front → take 72 text ≡ mark_line sum mark
 torn_line sum text mark torn begins =
     let long : 72 ≤ length torn.front =
     omega (arith, ap length begins.line, mark_line_many sum mark begins.count, length-take 72 torn.front) in
     ap (take 72) torn.is ∙ take-append-le 72 torn.front (replicate torn.zeros 0) long ∙ begins.line
 
--- If the input is long enough for the line of a mark but does not begin with one, it is damaged.
+-- If the input is long enough for a mark's line but does not begin with such a line, it is damaged.
 pub no_line : (sum : ℕ) (text : List ℕ) → (HasFewer 72 text → ⊥)
     → ((mark : List ℕ) → length mark ≡ 26 → AreBytes mark → take 72 text ≡ mark_line sum mark → ⊥) → IsDamaged sum text
 no_line sum text long none = record {

@@ -112,7 +112,7 @@ module _ (sum : ℕ) (e : PlainEntry) (place : ℕ) (is : IsEntry e) (less : pla
       ∙ sym (get_or-take 72 (without place (entry_text sum e)) 71 0 (omega arith)) ∙ ap (λ (t : List ℕ). get_or t 71 0) line ∙ line_ends sum mark many in
       absurd (omega (arith, feed))
 
-  -- If a byte after the mark's line is removed, this line is unchanged.
+  -- If a byte after the mark's line is removed, the mark's line is unchanged.
   late : 72 ≤ place → take 72 cut ≡ mark_line sum (mark_of e)
   unfolding cut text
   late after =

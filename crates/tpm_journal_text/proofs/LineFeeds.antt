@@ -214,7 +214,7 @@ feeds_end e place is =
 
 -- ---- a prefix of an entry
 
--- If a line feed is found at an offset, the offset is within the bytes.
+-- A line feed is found only at offsets within the bytes.
 pub feed_within : (text : List ℕ) (place : ℕ) → get_or text place 0 ≡ 10 → place < length text
 feed_within text place e =
     elim (cases_lt place (length text)) [
@@ -252,7 +252,7 @@ front_lines_end sum e size is less place there =
       | inr last ↦ absurd (omega (arith, last, small, less))
     ]
 
--- If the lines of the input end only where the lines of the mark's entry end, so do the lines of
+-- If the lines of the input end only where the lines of the mark's entry end, this is also true for
 -- each prefix of the input.
 pub lines_end_front : (mark front back : List ℕ) → LinesEnd mark (front ++ back) → LinesEnd mark front
 lines_end_front mark front back end place there =
@@ -260,8 +260,7 @@ lines_end_front mark front back end place there =
     end place (get_or-drop 72 (front ++ back) place 0
     ∙ get_or_append_left front back 0 (72 + place) (feed_within front (72 + place) at) ∙ at)
 
--- If zeros are appended to the input, its lines still end only where the lines of the mark's entry
--- end.
+-- Appending zeros to the input adds no line end.
 pub lines_end_zeros : (mark front : List ℕ) (count : ℕ) → LinesEnd mark front → LinesEnd mark (front ++ replicate count 0)
 lines_end_zeros mark front count end place there =
     let text = front ++ replicate count 0 in

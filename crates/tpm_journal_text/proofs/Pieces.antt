@@ -55,7 +55,7 @@ all_equal (byte ∷ text) = rw (eq-eqb byte byte refl, all_equal text) refl
 pub same_is_equal : (text other : List ℕ) → text ≡ other → pointwise nat_eq text other ≡ true
 same_is_equal text other e = rw (← e) (all_equal text)
 
--- If the input consists of a prefix and a rest, it begins with the prefix.
+-- Input that consists of a prefix and a rest begins with the prefix.
 pub front_of : (front rest text : List ℕ) (size : ℕ) → length front ≡ size → text ≡ front ++ rest → take size text ≡ front
 front_of front rest text size many e = ap (take size) e ∙ take_at front rest size many
 
@@ -87,7 +87,7 @@ line_same word bytes others sum other_sum are others_are many e =
     (sym (line_digits word bytes text sum size (length others) many whole)
     ∙ line_digits word others text other_sum size (length others) refl (whole ∙ e))
 
--- The hex of two joined parts is the hex of the first, followed by the hex of the second.
+-- The hex of two joined parts is the hex of the first part, followed by the hex of the second part.
 hex_parts : (front back : List ℕ) → encode_lower (front ++ back) ≡ encode_lower front ++ encode_lower back
 unfolding encode_with
 hex_parts [] back = refl

@@ -22,8 +22,8 @@ zeros_are_all : (count : ℕ) → list_all (λ byte. byte == 0) (replicate count
 zeros_are_all zero = refl
 zeros_are_all (suc count) = zeros_are_all count
 
--- If the byte before offset `size` and all later bytes of the input are zeros, the input has fewer
--- than `size` bytes, not counting the zeros at its end.
+-- If the input consists of zeros from offset `size - 1` on, it has fewer than `size` bytes, not
+-- counting the zeros at its end.
 pub fewer : (text end : List ℕ) (size : ℕ) → 0 < size → size ≤ length text → end ≡ drop (size - 1) text
     → list_all (λ byte. byte == 0) end ≡ true → HasFewer size text
 fewer text end size some long e all = record {
@@ -136,8 +136,8 @@ take_none : (count : ℕ) → take {A = ℕ} count [] ≡ []
 take_none zero = refl
 take_none (suc count) = refl
 
--- Truncating bytes that end with zeros, and then appending zeros, yields a prefix of the bytes
--- before the zeros, followed by zeros.
+-- If bytes with zeros at their end are truncated, and zeros are appended again, the result is a
+-- prefix of the bytes before the zeros, followed by zeros.
 take_zeros : (front : List ℕ) (zeros size more : ℕ) → (count : ℕ) × (left : ℕ)
     × (take size (front ++ replicate zeros 0) ++ replicate more 0 ≡ take count front ++ replicate left 0)
 take_zeros front zeros zero more = (0, more, refl)

@@ -27,7 +27,7 @@ entry_room = 9216
 abbrev pub entry_limit : ℕ
 entry_limit = 4097
 
--- an entry of the code as plain values, without references to memory
+-- an `Entry` as plain values, without references to memory
 abbrev pub plain_entry : Entry → PlainEntry
 plain_entry e = record {
   elapsed = e.elapsed_ms;
@@ -80,7 +80,7 @@ buffer_size mark = from_be_bytes w16 (take 2 (drop 8 mark))
 abbrev pub entry_word : List ℕ
 entry_word = codes "# "
 
--- the line of a mark, where `sum` is the checksum of all earlier marks
+-- the line of a mark; `sum` is the checksum of all earlier marks
 abbrev pub mark_line : (sum : ℕ) → (mark : List ℕ) → List ℕ
 mark_line sum mark = marked_line entry_word mark (sum_from sum mark)
 

@@ -11,7 +11,7 @@ abbrev pub entries_text : (sum : ℕ) → List PlainEntry → List ℕ
 entries_text sum [] = []
 entries_text sum (e ∷ entries) = entry_text sum e ++ entries_text (sum_after sum e) entries
 
--- the checksum with the marks of these entries added
+-- the checksum extended by the marks of these entries
 abbrev pub sum_after_all : (sum : ℕ) → List PlainEntry → ℕ
 sum_after_all sum [] = sum
 sum_after_all sum (e ∷ entries) = sum_after_all (sum_after sum e) entries
@@ -42,8 +42,8 @@ IsCutOff sum text =
     ⊎ ((mark : List ℕ) × BeginsWithMark sum mark text × (length text < entry_size mark)
     × LinesEnd mark text)
 
--- Torn input is too short for an entry, not counting zeros at its end. If the process is killed, it
--- leaves a part of an entry, and a crash of the host may leave zeros instead of the rest.
+-- Torn input is too short for an entry, not counting zeros at its end. A killed process leaves a
+-- part of an entry; a crash of the host may leave zeros instead of the rest.
 pub record IsTorn (sum : ℕ) (text : List ℕ) : Type 0 where
   pub front : List ℕ
   pub zeros : ℕ
@@ -62,8 +62,8 @@ pub record IsDamaged (sum : ℕ) (text : List ℕ) : Type 0 where
   pub not_torn : IsTorn sum text → ⊥
   pub no_entry : (e : PlainEntry) (rest : List ℕ) → IsEntry e → text ≡ entry_text sum e ++ rest → ⊥
 
--- `Next` describes the input correctly: it begins with an entry of this size, and the checksum
--- after the entry is `after`; or it is torn; or it is damaged.
+-- `Next` describes the input correctly: the input begins with an entry of this size, and the
+-- checksum after the entry is `after`; or the input is torn; or the input is damaged.
 abbrev pub Finds : (sum : ℕ) → List ℕ → Next → Type 0
 Finds sum text (Whole entry size after) =
     IsEntry (plain_entry entry) × (size ≤ length text)

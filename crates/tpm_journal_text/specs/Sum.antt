@@ -14,7 +14,7 @@ prime = 0x100000001b3
 abbrev pub with_byte : (sum : ℕ) → (byte : ℕ) → ℕ
 with_byte sum byte = (bit_xor sum byte * prime) % 2 ^ 64
 
--- a checksum with these bytes added
+-- a checksum extended by these bytes
 abbrev pub sum_from : (sum : ℕ) → List ℕ → ℕ
 sum_from sum [] = sum
 sum_from sum (byte ∷ bytes) = sum_from (with_byte sum byte) bytes

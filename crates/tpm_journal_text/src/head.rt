@@ -78,7 +78,7 @@ pub fn head_size(count: usize) -> usize
     MARK_LINE_SIZE + 3 + 2 * count
 }
 
-/// Returns the mark of a head whose content comes in two parts.
+/// Returns the mark of a head whose content is passed in two parts.
 #[tactic(auto, using(crate::proofs::Sums::sum_behind, crate::proofs::Sums::joined_many), unfolding(crate::specs::Head::head_mark))]
 pub(crate) fn mark_of(clock: u64, front: &[u8], back: &[u8]) -> Sink<MARK_SIZE>
     requires { length front.now + length back.now ≤ 40960 }
@@ -92,7 +92,7 @@ pub(crate) fn mark_of(clock: u64, front: &[u8], back: &[u8]) -> Sink<MARK_SIZE>
     mark
 }
 
-/// Writes the head for this clock and this content to a buffer. The content comes in two parts.
+/// Writes the head for this clock and this content to a buffer. The content is passed in two parts.
 /// Returns the size, and sets `sum` to the checksum of the head's mark.
 #[tactic(auto, using(crate::proofs::Pieces::hex_joined), unfolding(crate::specs::Head::head_text))]
 fn put_head(
@@ -119,9 +119,9 @@ fn put_head(
     put(buffer, place, b"\n")
 }
 
-/// Writes the head for this clock and this content to a buffer of exactly its size, and returns
-/// the checksum of the head's mark. The content comes in two parts, so that its header and its
-/// body need not be joined.
+/// Writes the head for this clock and this content to a buffer of exactly its size, and returns the
+/// checksum of the head's mark. The content is passed in two parts, so that the caller need not
+/// join its header and its body.
 #[tactic(auto, using(std::proofs::lemmas::List::take_all))]
 pub fn write_head(kind: HeadKind, clock: u64, front: &[u8], back: &[u8], buffer: &mut [u8]) -> u64
     requires small { length front.now + length back.now ≤ content_limit kind }

@@ -63,7 +63,7 @@ fn read_mark(kind: HeadKind, text: &[u8], mark: &mut [u8; MARK_SIZE]) -> Option<
     read_marked_line(text, kind.word(), OFFSET_BASIS, mark)
 }
 
-/// The content of a head whose mark was read, or None if the input does not contain it.
+/// The content of a head whose mark was read, or None if the input does not contain the content.
 fn content_behind<'a>(
     kind: HeadKind,
     mark: &[u8; MARK_SIZE],

@@ -43,8 +43,8 @@ pub(crate) fn put_marked_line(
     put(room, place, b"\n")
 }
 
-/// Reads the bytes of the marked line at the beginning of the input. Returns the checksum with
-/// these bytes added, or None if there is no such line.
+/// Reads the bytes of the marked line at the beginning of the input. Returns the checksum extended
+/// by these bytes, or None if there is no such line.
 pub(crate) fn read_marked_line(text: &[u8], word: &[u8], sum: u64, bytes: &mut [u8]) -> Option<u64>
     requires small { marked_size word.now (length bytes.old) ≤ 128 }
     requires long { marked_size word.now (length bytes.old) ≤ length text.now }

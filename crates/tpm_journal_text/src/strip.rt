@@ -7,7 +7,7 @@ ghost use Rattle.hex.specs.Hex.{encode_lower};
 use tpm_bytes::is_equal;
 use tpm_hex::encode;
 
-/// The input after this piece, or None if it does not begin with the piece.
+/// The input after this piece, or None if the input does not begin with the piece.
 pub(crate) fn strip<'a>(text: &'a [u8], piece: &[u8]) -> Option<&'a [u8]>
     ensures some { IfSome result (λ rest. text.now ≡ piece.now ++ rest.now) }
     ensures none { IfNone result ((rest : List ℕ) → text.now ≡ piece.now ++ rest → ⊥) }
@@ -40,7 +40,7 @@ fn is_hex_of(digits: &[u8], bytes: &[u8]) -> bool
     true
 }
 
-/// The input after these bytes in hex, or None if it does not begin with them.
+/// The input after these bytes in hex, or None if the input does not begin with them.
 pub(crate) fn strip_hex<'a>(text: &'a [u8], bytes: &[u8]) -> Option<&'a [u8]>
     ensures some { IfSome result (λ rest. text.now ≡ encode_lower bytes.now ++ rest.now) }
     ensures none { IfNone result ((rest : List ℕ)

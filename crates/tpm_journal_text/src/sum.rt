@@ -8,7 +8,7 @@ pub const OFFSET_BASIS: u64 = 0xcbf2_9ce4_8422_2325;
 
 const PRIME: u64 = 0x100_0000_01b3;
 
-/// The checksum with these bytes added.
+/// The checksum extended by these bytes.
 pub fn sum_from(sum: u64, bytes: &[u8]) -> u64
     ensures { result ≡ sum_from sum bytes.now }
 {

@@ -50,10 +50,10 @@ pub(crate) fn lines_end(lines: &[u8], drawn_end: usize) -> bool
     true
 }
 
-/// If a crash leaves nothing of an entry, or a prefix of it, possibly followed by zeros, this rest
-/// is torn. It stays torn if another crash truncates it or adds zeros. An entry is not torn. If any
-/// byte of an entry except the last is removed, the entry is damaged. The function does nothing at
-/// run time.
+/// What a crash leaves of an entry is torn: nothing, or a prefix, possibly followed by zeros. Torn
+/// input stays torn if another crash truncates it or adds zeros. A complete entry is not torn. If
+/// any byte of an entry except the last is removed, the entry is damaged. The function does nothing
+/// at run time.
 #[inline(always)]
 pub fn torn_laws()
     ensures nothing { (sum : ℕ) → IsTorn sum [] }

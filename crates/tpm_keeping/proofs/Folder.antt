@@ -213,7 +213,7 @@ state_lives j s laws still named = trail_lives j s.file.start s.file.now.command
 
 -- ---- the knowledge of other holders
 
--- Everything that a holder knew about the folder `s` also holds for the folder `t`, as it does
+-- Everything that a holder knows about the folder `s` is also true of the folder `t`, for example
 -- after a step of another process.
 pub record Grows (j : Journal) (s t : Shared) : Type 0 where
   pub knows : (force : Force) (file : ℕ) (device : Option Spot) (place : ℕ) (unsure : List ℕ) → file < s.next
@@ -436,8 +436,7 @@ named_file j origin s k laws fresh enough kept text next lives =
       past = tt;
     }
 
--- if two lists of commands are appended to the history, one after the other, the history grows by
--- their concatenation
+-- appending two lists of commands to the history appends their concatenation
 twice_longer : (history some more : List (List ℕ)) → (history ++ some) ++ more ≡ history ++ (some ++ more)
 twice_longer history some more = append_assoc history some more
 

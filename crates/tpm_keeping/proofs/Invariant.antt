@@ -33,9 +33,9 @@ pub record IsText (j : Journal) (head : List ℕ) (start : Spot) (c : Content) :
   pub is : c.text ≡ whole j head start c.commands ++ tail
   pub torn : j.is_torn (trail j start c.commands) tail ≡ true
 
--- A content that the file has or had. Its commands begin with `surely`, and follow `before` in the
--- history. All of them have entries. If the file exists, the content's bytes are the head, these
--- entries, and a torn end, which may be empty.
+-- The contents that a file has or had at some time. The commands begin with `surely`, and follow
+-- `before` in the history. Each command has an entry. If the file exists, the contents are the
+-- head, these entries, and a torn end, which may be empty.
 pub record IsContent (j : Journal) (head : List ℕ) (start : Spot) (number : ℕ) (history before surely : List (List ℕ)) (c : Content) : Type 0 where
   pub rest : List (List ℕ)
   pub has : c.commands ≡ surely ++ rest
@@ -252,8 +252,8 @@ holds (Ended e) = false
 holds Locking = false
 holds phase = true
 
--- Suppose that the folder was synced since the holder opened this file, and that the file is still
--- the journal. Then a crash cannot give the journal's name back to an earlier file.
+-- If the folder was synced since the holder opened this file, and the file is still the journal, a
+-- crash cannot give the journal's name back to an earlier file.
 abbrev pub Calm : Sight → (settled : Bool) → (file : ℕ) → Type 0
 Calm v settled file = settled ≡ true → file ≡ v.file.number → v.older ≡ []
 

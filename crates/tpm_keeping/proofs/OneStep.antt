@@ -227,8 +227,8 @@ has_read_fits j s p k (b ∷ bs) n laws still lock below calm r is =
 
 -- ---- putting
 
--- Every response that is not gone has a position within the history. Therefore, a command that is
--- appended next has a later position.
+-- The next command that is appended to the history gets a later position than all responses that
+-- are not gone.
 each_before : (j : Journal) (origin : List ℕ) (history : List (List ℕ)) (answers : List Answer) (n : ℕ) → length history < n → Each j origin history answers
     → AllByRecursion (λ a. a.is_gone ≡ false → a.place < n) answers
 each_before j origin history [] n le h = tt

@@ -22,8 +22,8 @@ pub record IsCaughtUp (j : Journal) (s : Shared) (k : Holder) : Type 0 where
   pub is : found j k.device k.read ≡ Some (spot_of j s.file, taken)
   pub all : HasAll j s.file k.force k.file (k.place + taken) (cond (is_always k.force) (k.unsure ++ take taken k.read) [])
 
--- A holder that has executed the whole file remembers the bytes that it does not know to be synced
--- only if it syncs before each response.
+-- Only a holder that syncs before each response remembers the bytes that it does not know to be
+-- synced. After the holder has executed the whole file, `HasAll` holds in both cases.
 unsure_by : (j : Journal) (s : Shared) (k : Holder) (place : ℕ) (front unsure : List ℕ) (b : Bool) → is_always k.force ≡ b
     → k.file ≡ s.file.number → 0 < s.file.number → body j s.file ≡ front ++ unsure → place ≡ length (body j s.file)
     → (is_always k.force ≡ true → length front ≤ s.file.forced)
@@ -101,10 +101,10 @@ caught j s k laws still knows same named read = by k.device refl
         opens_all j s k laws (still.file.headed named) still.file.now.entered (still.file.now.text named) same named is e.0 e.1 read
     by (Some d) is = follows_all j s k d laws (still.file.headed named).lives still.file.now.entered (still.file.now.text named) same named is (knows.at d is same) read
 
--- ---- then the holder does its job
+-- ---- doing the job
 
--- when a holder that has done all work on the file goes to the next phase, `settles k`, its
--- invariant still holds
+-- a holder that has done all work on the file goes to the phase `settles k`, and its invariant
+-- still holds
 pub settles_fits : (j : Journal) (s : Shared) (p : ℕ) (k : Holder) → (s.locked ≡ true) × (s.locker ≡ p) → k.file < s.next → Calm (sight s) k.settled k.file
     → StaysOf j (sight s) k → (promises j k.force k.job k.command ≡ true → IsForced j s.file) → Fits j s p (goes (settles k) k)
 settles_fits j s p k lock below calm stays forced = by k.settled refl (is_never k.force) refl

@@ -128,8 +128,8 @@ is_never f = false
 abbrev pub sure : Holder → ℕ
 sure k = k.place - length k.unsure
 
--- the phase after all work on the file is done: unless the holder never syncs, it syncs the folder
--- once for each file that it opens, before its first response
+-- the phase after all work on the file is done. The holder syncs the folder once for each file that
+-- it opens, before its first response, unless it never syncs
 abbrev pub settles : Holder → Phase
 settles k = cond (k.settled || is_never k.force) (Leaving ending.Done) Settling
 

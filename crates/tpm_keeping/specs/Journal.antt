@@ -26,13 +26,13 @@ pub record Journal : Type 0 where
   pub begun : List ℕ → Option (List ℕ)
   -- the entry of a command at a position
   pub entry : Spot → List ℕ → List ℕ
-  -- the checksum to which the next entry is chained after that entry
+  -- the checksum after a command's entry, to which the next entry is chained
   pub link : Spot → List ℕ → ℕ
   -- the head of a journal that begins in a state
   pub head : List ℕ → List ℕ
-  -- the checksum to which the first entry after that head is chained
+  -- the checksum after the head of a state, to which the first entry is chained
   pub first : List ℕ → ℕ
-  -- the position after a head; the head may be of a kind that is no longer written
+  -- the position after a head, which may have a format that is no longer written
   pub after_head : List ℕ → Option Spot
   -- the position after opening a journal, and the number of bytes executed
   pub opened : List ℕ → Option (Spot × ℕ)
@@ -41,9 +41,9 @@ pub record Journal : Type 0 where
   pub followed : Spot → List ℕ → Option (Spot × ℕ)
   -- the position after the undamaged beginning of a damaged journal, and the size of that beginning
   pub salvaged : List ℕ → Option (Spot × ℕ)
-  -- whether the bytes can be what is left if an entry at this position was not written completely
+  -- whether an incomplete write of an entry at this position can leave these bytes
   pub is_torn : Spot → List ℕ → Bool
-  -- whether a crash of the host may leave these bytes, such as zeros, after a file's bytes; no
+  -- whether a crash of the host may leave these bytes, such as zeros, at the end of a file; no
   -- entry looks like them
   pub is_litter : List ℕ → Bool
 

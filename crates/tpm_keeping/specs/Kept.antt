@@ -95,8 +95,8 @@ end_with j job c = ending.Done
 abbrev pub end_of : Journal → File → Job → (command : List ℕ) → End
 end_of j f job c = cond (f.number == 0) (end_without j job c) (end_with j job c)
 
--- the events in which a process does its tasks, one event for each number in the list; each read
--- returns one byte, and at most that number of further bytes
+-- for each number in the list, an event in which the process does its next task. A read returns one
+-- byte, and at most this number of further bytes
 abbrev pub turns : (p : ℕ) → (mores : List ℕ) → List Event
 turns p mores = map (λ (more : ℕ). Does p more) mores
 

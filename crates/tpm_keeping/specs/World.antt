@@ -101,7 +101,7 @@ pub record Shared : Type 0 where
   pub locked : Bool
   pub locker : ℕ
   -- The device's history: each command whose entry was written completely, or after which a journal
-  -- began, except those that a crash of the host has removed.
+  -- began, except the commands that a crash of the host has removed.
   pub history : List (List ℕ)
   -- the number of commands, from the start of the history, that no crash removes
   pub promised : ℕ
@@ -145,12 +145,12 @@ with_holder s holders p k = record { shared = s; holders = λ q. cond (q == p) k
 abbrev pub written : (text : List ℕ) → (at : ℕ) → (bytes : List ℕ) → List ℕ
 written text at bytes = take at text ++ (bytes ++ drop (at + length bytes) text)
 
--- `adds` is the job's command if the command has an entry. `leads` is the job's command if it has
--- no entry, so that a new journal begins after it
+-- the job's command, if the command has an entry
 abbrev pub adds : Journal → Job → List ℕ → List (List ℕ)
 adds j Execute c = cond (j.is_entered c) (c ∷ []) []
 adds j job c = []
 
+-- the job's command, if the command has no entry, so that a new journal begins after it
 abbrev pub leads : Journal → Job → List ℕ → List (List ℕ)
 leads j Execute c = cond (j.is_entered c) [] (c ∷ [])
 leads j job c = []

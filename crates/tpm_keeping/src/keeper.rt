@@ -146,8 +146,8 @@ impl<D: Device> Keeper<D> {
         self.place.saturating_sub(self.unsure.len() as u64)
     }
 
-    /// Begins a call. A call that is still in progress is dropped: the host that interrupted it, or
-    /// a fork of that host, first has to close the lock's file.
+    /// Begins a call. A call that is still in progress is dropped. Before that, the host that
+    /// interrupted the call, or a fork of that host, has to close the lock's file.
     pub fn begin(&mut self, job: Job, command: &[u8]) -> Result<(), Exhausted>
         ensures ok { OnOk result (holder_of D.spot self.new
             ≡ asked (rests (holder_of D.spot self.old)) job command.now) }
@@ -232,8 +232,8 @@ impl<D: Device> Keeper<D> {
         Ok(())
     }
 
-    /// Returns the phase after all work on the file is done: unless the holder never syncs, it
-    /// syncs the folder once for each file that it opens, before its first response.
+    /// Returns the phase after all work on the file is done. The holder syncs the folder once for
+    /// each file that it opens, before its first response, unless it never syncs.
     pub(crate) fn settles(&self) -> Phase
         ensures { result ≡ settles (holder_of D.spot self.now) }
     {

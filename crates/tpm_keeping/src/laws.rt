@@ -17,10 +17,10 @@ ghost use Rattle.tpm_keeping.specs.declared.holder.Job.{Job};
 ghost use Rattle.tpm_keeping.specs.declared.holder.Job.TheVariants.{Cut, Show};
 ghost use Rattle.tpm_keeping.specs.declared.holder.Phase.TheVariants.{Ended, Leaving, Making};
 
-/// Whatever the holders of one device are asked to do, wherever each is killed, whatever fails and
-/// whenever the host crashes: the journal opens as the device that executed the history. If no
-/// crash removed the command of a response, this device returns the same response. No crash removes
-/// what a holder promised because of its `force` setting.
+/// The journal opens as the device that executed the history, whatever the holders are asked to do,
+/// wherever each is killed, whatever fails, and whenever the host crashes. If no crash removed the
+/// command of a response, this device returns the same response. No crash removes what a holder
+/// promised because of its `force` setting.
 pub fn kept_through_crashes()
     ensures { (j : Journal) (start : World) (events : List Event)
         → IsJournal j → IsStart j start → IsKept j (happen j events start).shared }
@@ -32,9 +32,9 @@ pub fn calls_advance()
         → Advances k (next_of j k told) }
 {}
 
-/// A call ends if its host does all tasks and memory suffices. It succeeds, unless there is no
-/// journal and none can begin, or the bytes to execute do not encode a command. It takes at most
-/// six steps and one more for each byte of the file. After it, the lock is free.
+/// A call ends if its host does all tasks and memory suffices. The call succeeds, unless there is
+/// no journal and none can begin, or the bytes to execute do not encode a command. The call takes
+/// at most six steps, plus one for each byte of the file, and then the lock is free.
 pub fn calls_end()
     ensures { (j : Journal) (start : World) (events : List Event) (p : ℕ) (e : End) (job : Job)
         (command : List ℕ) (mores : List ℕ) → IsJournal j → IsStart j start

@@ -324,7 +324,7 @@ impl<D: Device> Keeper<D> {
     }
 
     /// Records that the output is in the file. A holder that syncs before each response remembers
-    /// it until it is synced.
+    /// the output until it is synced.
     pub(crate) fn has_put(&mut self) -> Result<(), Exhausted>
         ensures ok { OnOk result (holder_of D.spot self.new
             ≡ has_put (holder_of D.spot self.old)) }

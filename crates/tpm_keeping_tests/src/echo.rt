@@ -11,8 +11,8 @@ use tpm_keeping::device::{Device, Exhausted};
 const ENTRY: u8 = 101;
 
 /// Responds to each command with the command itself. A command that begins with a zero has no
-/// entry, and an empty list of bytes is not a command. A journal whose first entry is another byte
-/// than `ENTRY` is damaged.
+/// entry, and an empty list of bytes is not a command. A journal is damaged if its first entry is
+/// not `ENTRY`.
 #[derive(Drop)]
 pub struct Echo;
 

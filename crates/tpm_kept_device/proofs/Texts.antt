@@ -8,7 +8,7 @@ use Rattle.tpm_image_text.proofs.FieldSpelling.{wide64, yes_no_spelled}
 use Rattle.tpm_journal_text.proofs.Bytes.{all_small}
 use Rattle.tpm_kept_journal.specs.Command.{After, At, Begins, Cycles, Executes, KeptCommand, Moment, command_in, command_of, cycled_in, executed_after_in, executed_at_in, executed_in, is_locality}
 use Rattle.tpm_kept_journal.specs.Seed.{seed_in}
-use Rattle.tpm_kept_journal.proofs.texts.Parts.{are_bytes-Decides}
+use Rattle.tpm_image_text.proofs.Bytes.{are_bytes-Decides}
 use Rattle.tpm_kept_device.specs.Texts.{cycle_text, given_text, seed_text, text_after, text_at}
 
 -- ---- bytes

@@ -15,7 +15,7 @@ pub record PlainAnswer : Type 0 where
   pub drawn : ℕ
   pub response : List ℕ
 
--- an `Answer` of the code, as a value of the definitions
+-- an `Answer` as a plain value, without its reference to memory
 abbrev pub plain_answer : Answer → PlainAnswer
 plain_answer a =
     record { code = a.code; check = a.check; drawn = a.drawn; response = a.response.now }

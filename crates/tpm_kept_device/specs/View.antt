@@ -1,4 +1,4 @@
--- The values of the code's types, as values of the definitions.
+-- Converts values of Rust types to plain values, without references to memory.
 use Rattle.std.specs.Prelude.{◌≡◌, ℕ, List, Option, Some, None}
 use Rattle.tpm_completion.specs.Execution.{Seen, seen_of}
 use Rattle.tpm_keeping.specs.Journal.{Spot}
@@ -19,14 +19,14 @@ abbrev pub plain_moment : declared_moment.Moment → Moment
 plain_moment (moment.At now) = At now
 plain_moment (moment.After elapsed) = After elapsed
 
--- a command of the code, as a value of the definitions
+-- a `Command` as a plain value
 abbrev pub plain_command : Command → KeptCommand
 plain_command (command.Execute moment locality completes random buffer) =
     Executes (plain_moment moment) (locality_number locality) completes random.now buffer.now
 plain_command (command.Cycle now start) = Cycles now start
 plain_command (command.Begin seed) = Begins seed.now
 
--- a seed of the code, as a value of the definitions
+-- a `Seed` as a plain value
 abbrev pub plain_seed : declared.Seed → Seed
 plain_seed seed = record {
   kind = seed.kind;

@@ -284,7 +284,7 @@ impl Parts {
     }
 
     /// Power-cycles the device. The completing layer keeps its start number, and forgets the
-    /// contexts of sessions.
+    /// contexts of sessions, and its sequence objects.
     #[tactic(auto, unfolding(tpm_completion::specs::Completed::passed))]
     pub fn cycle_power(&mut self, now_ms: u64)
         ensures { state_of self.new ≡ cycled_at (state_of self.old) now_ms }
@@ -359,7 +359,7 @@ fn put_head_of(
 }
 
 /// Returns the completing layer of a restored device: the stored layer with this start number, or a
-/// new one if none is stored.
+/// new layer if none is stored.
 fn layer_restored(start: u64, layer: Option<&Layer>) -> Completion
     ensures { result ≡ layer_restored start (option_copied layer.entry) }
 {

@@ -16,8 +16,8 @@ use Rattle.tpm_journal_text.specs.Sum.{offset_basis, sum_from, with_byte}
 use Rattle.tpm_kept_journal.specs.Command.{After, At, Begins, Cycles, Executes, IsGiven, KeptCommand, Moment, by_kind, command_in, command_of, cycled_in, executed_after_in, executed_at_in, executed_in, is_entered_read, is_locality}
 use Rattle.tpm_kept_journal.specs.Effect.{clock_at, command_on}
 use Rattle.tpm_kept_journal.specs.State.{DeviceState}
-use Rattle.tpm_kept_journal.specs.texts.Parts.{are_bytes}
-use Rattle.tpm_kept_journal.proofs.texts.Parts.{are_bytes-Decides}
+use Rattle.tpm_image_text.specs.Fields.{are_bytes}
+use Rattle.tpm_image_text.proofs.Bytes.{are_bytes-Decides}
 
 -- ---- the fields of a decoded command are valid
 

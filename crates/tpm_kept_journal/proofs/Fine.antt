@@ -1,4 +1,4 @@
--- Valid layers: what a state text can encode.
+-- Valid layers: layers that a state text can encode.
 use Rattle.std.proofs.Common.{◌≡◌, ◌<◌, ◌^◌, ℕ, zero, suc, Bool, true, false, cond, List, length, replicate, Option, Some, None, refl, subst, sym, ◌∙◌, arith, inl, inr, length-set}
 use Rattle.std.specs.List.{All}
 use Rattle.std.proofs.lemmas.Bool.{cases_lt}
@@ -33,7 +33,7 @@ zeros_all P zero x p k d lt = absurd (omega (arith, lt))
 zeros_all P (suc n) x p zero d lt = p
 zeros_all P (suc n) x p (suc k) d lt = zeros_all P n x p k d (omega (arith, lt))
 
--- There are three slots for sequence objects, and each is free or contains a valid one.
+-- There are three slots for sequence objects, and each is free or contains a valid sequence object.
 abbrev pub AreSlots : List (Option SequenceObject) → Type 0
 AreSlots slots = (length slots ≡ sequence_limit) × All IsSlot slots
 

@@ -3,7 +3,7 @@ use Rattle.std.proofs.Common.{◌≡◌, ◌<◌, ◌+◌, ◌==◌, ℕ, zero, 
 use Rattle.std.specs.List.{AllByRecursion}
 use Rattle.std.proofs.lemmas.Bool.{false≢true}
 use Rattle.std.proofs.lemmas.List.{length-take-le, take-append-drop}
-use Rattle.tpm_completion.specs.Execution.{AsksFirst, Behind, Completes, CompletesIf, Loads, PlacesIf, Seen, Sends, asked_behind, opened_behind, sent_behind}
+use Rattle.tpm_completion.specs.Execution.{AsksFirst, Behind, Completes, CompletesIf, Loads, PlacesIf, Seen, Sends, asked_after, opened_after, sent_after}
 use Rattle.tpm_completion.specs.declared.completion.Completion.{Completion}
 use Rattle.tpm_completion.specs.declared.sending.Sent.{Sent}
 use Rattle.tpm_completion.proofs.Exactly.{exactly}
@@ -23,7 +23,7 @@ use Rattle.tpm_context.specs.declared.fault.ContextFault.{ContextFault}
 use Rattle.tpm_object.specs.declared.object.Object.{Object}
 use Rattle.tpm_record.specs.IsRecord.{IsRecord}
 use Rattle.tpm_record.specs.Record.{Record}
-use Rattle.tpm_step.specs.Events.{Cycled, Given, Placed, PlainEvent}
+use Rattle.tpm_step.specs.step.Events.{Cycled, Given, Placed, PlainEvent}
 use Rattle.tpm_kept_journal.specs.Effect.{left_by}
 use Rattle.tpm_kept_journal.specs.Opening.{Fails, found_at, found_next, performance, performed_on, walk, walked}
 use Rattle.tpm_kept_journal.specs.State.{DeviceState, IsDeviceState, bytes_of, spot_of, state_in, state_of_bytes}
@@ -57,13 +57,13 @@ sends_record first buffer locality None seen is same = subst (λ (s : Seen). IsR
 
 behind_record : (first : Seen) (buffer : List ℕ) (locality : ℕ) (asked : Option (List ℕ)) (seen : Seen)
     → IsRecord first.step.after → Behind false first buffer locality asked seen → IsRecord seen.step.after
-behind_record first buffer locality (Some context) seen is loads = loads_record first (opened_behind first context) seen is loads
-behind_record first buffer locality None seen is sends = sends_record first buffer locality (sent_behind first buffer) seen is sends
+behind_record first buffer locality (Some context) seen is loads = loads_record first (opened_after first context) seen is loads
+behind_record first buffer locality None seen is sends = sends_record first buffer locality (sent_after first buffer) seen is sends
 
 asks_record : (c : Completion) (old : Record) (buffer : List ℕ) (locality elapsed : ℕ) (random : List ℕ) (seen : Seen)
     → AsksFirst false c old buffer locality elapsed random seen → IsRecord seen.step.after
 asks_record c old buffer locality elapsed random seen (first, passes, behind) =
-    behind_record first buffer locality (asked_behind first buffer) seen passes.executes.is_record behind
+    behind_record first buffer locality (asked_after first buffer) seen passes.executes.is_record behind
 
 completes_record : (c : Completion) (old : Record) (event : PlainEvent) (seen : Seen) → Completes false c old event seen → IsRecord seen.step.after
 completes_record c old (Given buffer locality elapsed random) seen is = asks_record c old buffer locality elapsed random seen is
@@ -75,7 +75,7 @@ pub record_after : (completes : Bool) (c : Completion) (old : Record) (event : P
 record_after false c old event seen passes = passes.executes.is_record
 record_after true c old event seen is = completes_record c old event seen is
 
--- The state after an effect is a state that a device can have.
+-- A device can have the state after an effect.
 pub state_after : (s : DeviceState) (completes : Bool) (event : PlainEvent) (elapsed : ℕ) (seen : Seen) → IsDeviceState s
     → CompletesIf false completes s.layer s.device event seen → IsDeviceState (left_by s elapsed seen)
 state_after s completes event elapsed seen is done = record {
@@ -116,8 +116,8 @@ module _ (before : Journal) (old : Record) (one : Performance) (is : IsDeviceSta
 abbrev text_of : ℕ → List Performance → List ℕ
 text_of sum performances = entries_text sum (map entry_in performances)
 
--- Walking over these entries and further bytes is the same as walking over the further bytes from
--- the position after the entries.
+-- Walking over these entries and further bytes continues with the further bytes, from the position
+-- after the entries.
 pub record GoesOn (bound : ℕ) (before : Journal) (old : Record) (performances : List Performance) (after : Journal) (new : Record)
     (taken : ℕ) (left : List ℕ) : Type 0 where
   pub more : ℕ
@@ -171,8 +171,8 @@ goes_on (one ∷ performances) (suc bound) before old after new taken left is ar
           );
     }
 
--- If a device's response differs from the recorded one, the walk fails: at this entry, or at a
--- later one.
+-- If a device's response differs from the recorded response, the walk fails at this entry or at a
+-- later entry.
 fails_at : (same : Bool) (one : Performance) (performances : List Performance) (bound : ℕ) (before : Journal) (old : Record) (taken : ℕ) (left : List ℕ)
     → IsDeviceState (state_in before old) → IsEntry one.entry → IsPerformed false before.layer old one.entry one.seen
     → (response_sum one == answer_said one) ≡ same

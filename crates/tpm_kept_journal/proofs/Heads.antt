@@ -20,14 +20,15 @@ use Rattle.tpm_state_text.specs.State.{current_state_of_text, state_text}
 use Rattle.tpm_state_text.specs.declared.fault.StateFault.{StateFault}
 use Rattle.tpm_state_text.specs.declared.layer.Layer.{Layer}
 use Rattle.tpm_state_text.proofs.StateLaws.{current_short, current_found}
-use Rattle.tpm_kept_journal.specs.Opening.{after_head_text, head_of, head_sum_of, is_state_text, no_head, opened_behind, opened_text, spot_by, started_at, started_by, started_no_head, walked, whole_head}
+use Rattle.tpm_kept_journal.specs.Opening.{after_head_text, head_of, head_sum_of, is_state_text, no_head, opened_text, spot_by, started_at, started_by, started_no_head, walked, walked_after, whole_head}
 use Rattle.tpm_kept_journal.specs.State.{DeviceState, bytes_of, content_in, state_of_bytes, time_in}
 use Rattle.tpm_kept_journal.specs.texts.HeadAt.{PlainHead, head_at, text_of_head}
-use Rattle.tpm_kept_journal.specs.texts.Parts.{are_bytes}
+use Rattle.tpm_image_text.specs.Fields.{are_bytes}
 use Rattle.tpm_kept_journal.proofs.States.{IsStateText, layer_back, text_says}
 use Rattle.tpm_kept_journal.proofs.Walks.{spot_made}
 use Rattle.tpm_kept_journal.proofs.texts.HeadAt.{head_again, head_found}
-use Rattle.tpm_kept_journal.proofs.texts.Parts.{Decides-leb, are_bytes-Decides, so_found, so_told}
+use Rattle.tpm_image_text.proofs.Bytes.{are_bytes-Decides}
+use Rattle.tpm_kept_journal.proofs.texts.Parts.{Decides-leb, so_found, so_told}
 
 -- ---- bytes that encode a state
 
@@ -56,7 +57,7 @@ writable text is =
       small = (Decides-leb (length (content_in text)) (content_limit State)).0 others.1;
     }
 
--- If a list consists of bytes, so does its part after the first eight.
+-- The part of a list of bytes after the first eight bytes consists of bytes.
 content_bytes : (text : List ℕ) → AreBytes text → AreBytes (content_in text)
 content_bytes text are i = rw get_or-drop (are (8 + i))
 
@@ -163,7 +164,7 @@ started_whole : (size : ℕ) (start : Result Start OpenFault) (p : Spot) (n : �
 started_whole size (Ok start) p n is = ap count_of is
 started_whole size (Err why) p n is = absurd cc
 
--- If the bytes are a head and nothing more, the same head is found when any bytes follow it.
+-- If the bytes are exactly one head, the same head is found when further bytes follow.
 head_alone : (head : List ℕ) (found : Option PlainHead) (p : Spot) → head_at head ≡ found → started_by found ≡ Some (p, length head)
     → (rest : List ℕ) → head_at (head ++ rest) ≡ head_at head
 head_alone head None p at is rest = absurd cc
@@ -203,5 +204,5 @@ unfolding after_head_text opened_text
 opened_after head rest p is =
     let starts : started_at (head ++ rest) ≡ Some (p, length head) =
     started_behind head rest p (found_head (length head) (started_at head) p is) in
-    ap (opened_behind (head ++ rest)) starts
+    ap (walked_after (head ++ rest)) starts
     ∙ ap (walked p (length head)) (drop_at head rest (length head) refl)

@@ -5,7 +5,7 @@ use Rattle.std.proofs.lemmas.Bool.{cases_lt}
 use Rattle.std.proofs.lemmas.List.{get_or_past, length-map}
 use Rattle.std.proofs.lemmas.List.Elements.{All-map, All-set}
 use Rattle.tpm_bytes.specs.Numbers.{numbers_below}
-use Rattle.tpm_bytes.specs.Reading.{number_at}
+use Rattle.tpm_bytes.specs.Reading.{number_at, ◌>>=◌}
 use Rattle.tpm_bytes.specs.declared.cursor.Short.{Short}
 use Rattle.std.specs.Int.{w32}
 use Rattle.tpm_context.specs.declared.fault.ContextFault.{ContextFault}
@@ -15,28 +15,35 @@ use Rattle.tpm_record.specs.Record.{Record}
 use Rattle.tpm_types.specs.Handle.{numbered}
 use Rattle.tpm_types.specs.declared.handle.Handle.{Handle}
 use Rattle.tpm_types.specs.Limits.{session_limit}
-use Rattle.tpm_step.specs.Events.{Cycled, Given, Placed, PlainEvent}
-use Rattle.tpm_step.specs.Step.{step}
+use Rattle.tpm_step.specs.step.Events.{Cycled, Given, Placed, PlainEvent}
+use Rattle.tpm_step.specs.step.Step.{step}
 use Rattle.tpm_completion.specs.Capability.{asked_at, capability_told}
 use Rattle.tpm_completion.specs.Command.{Command, plain_command}
-use Rattle.tpm_completion.specs.Completed.{completed, completed_with, done_behind, loaded_behind, passed, sending_behind}
+use Rattle.tpm_completion.specs.Completed.{completed, completed_with, done_after, loaded_after, passed, sending_after}
 use Rattle.tpm_completion.specs.Completion.{forgotten, sequences_kept, session_context, session_kept}
 use Rattle.tpm_completion.specs.Context.{token_at}
-use Rattle.tpm_completion.specs.Execution.{Seen, asked_behind, opened_behind, sent_behind, sent_event}
+use Rattle.tpm_completion.specs.Execution.{Seen, asked_after, opened_after, sent_after, sent_event}
 use Rattle.tpm_completion.specs.Hashing.{hash_row}
 use Rattle.tpm_completion.specs.Loading.{placed_reply}
 use Rattle.tpm_completion.specs.Reply.{capability_asked, command_reply, listed, load_asked, or_reply, plain_reply, probed, replied, reply, reply_by, row_served, save_asked, served, stands, stirred}
 use Rattle.tpm_completion.specs.Testing.{incremental_row, test_parms_row, test_result_row}
 use Rattle.tpm_types.specs.declared.refused.Refused.{Refused}
-use Rattle.tpm_completion.specs.Saving.{Reply, counted, loaded, loaded_by, next_number, object_numbered, object_saved, place_named, refused, saved, session_numbered, session_saved, with_session}
+use Rattle.tpm_completion.specs.Saving.{Reply, counted, loaded, loaded_by, next_number, object_numbered, object_saved, place_named, refused, saved, session_numbered, session_saved, with_session, binding_of, sequence_numbered, sequence_saved}
 use Rattle.tpm_completion.specs.declared.capability.Asked.{Asked}
 use Rattle.tpm_completion.specs.declared.completion.Completion.{Completion}
 use Rattle.tpm_completion.specs.declared.context.Token.{Token}
 use Rattle.tpm_completion.specs.declared.sending.Sent.{Sent}
 use Rattle.tpm_completion.specs.SequenceReply.{sequence_reply}
-use Rattle.tpm_completion.specs.Sequences.{no_sequences}
-use Rattle.tpm_kept_journal.proofs.Fine.{AreSlots, IsFine, LeavesFine, choice, free_are}
+use Rattle.tpm_completion.specs.Sequences.{no_sequences, free_slot, sequence_of}
+use Rattle.tpm_kept_journal.proofs.Fine.{AreSlots, IsFine, LeavesFine, choice, free_are, with_sequence_fine}
 use Rattle.tpm_kept_journal.proofs.SequenceLayers.{IsSent, sent_is, sent_reply_fine, sequence_reply_fine}
+use Rattle.tpm_completion.specs.SequenceLoading.{opened_put, sequence_loaded, sequence_opened, sequence_put}
+use Rattle.tpm_sequence.specs.declared.object.SequenceObject.{SequenceObject}
+use Rattle.tpm_sequence_text.specs.Slot.{IsSequenceObject}
+use Rattle.tpm_context.specs.Context.{content_in}
+use Rattle.tpm_context.specs.Sequences.{opened_sequence, sequence_in}
+use Rattle.tpm_context.proofs.SequenceLaws.{sequence_found}
+use Rattle.tpm_bytes.proofs.Fields.{bind_ok}
 
 -- ---- the contexts that are stored in slots
 
@@ -104,9 +111,17 @@ object_numbered_fine : (r : Record) (c : Completion) (object : Object) (number :
 object_numbered_fine r c object (Some number) is small = counted_fine c number is small
 object_numbered_fine r c object None is small = is
 
-object_saved_fine : (r : Record) (c : Completion) (found : Option Object) → IsFine c → LeavesFine (object_saved r c found)
-object_saved_fine r c (Some object) is = object_numbered_fine r c object (next_number c) is (next_small c)
-object_saved_fine r c None is = is
+sequence_numbered_fine : (r : Record) (c : Completion) (object : SequenceObject) (number : Option ℕ) → IsFine c → IsSmall number → LeavesFine (sequence_numbered r c object number)
+sequence_numbered_fine r c object (Some number) is small = counted_fine c number is small
+sequence_numbered_fine r c object None is small = is
+
+sequence_saved_fine : (r : Record) (c : Completion) (found : Option SequenceObject) → IsFine c → LeavesFine (sequence_saved r c found)
+sequence_saved_fine r c (Some object) is = sequence_numbered_fine r c object (next_number c) is (next_small c)
+sequence_saved_fine r c None is = is
+
+object_saved_fine : (r : Record) (c : Completion) (handle : Handle) (found : Option Object) → IsFine c → LeavesFine (object_saved r c handle found)
+object_saved_fine r c handle (Some object) is = object_numbered_fine r c object (next_number c) is (next_small c)
+object_saved_fine r c handle None is = sequence_saved_fine r c (sequence_of c handle) is
 
 session_numbered_fine : (c : Completion) (handle : Handle) (number : Option ℕ) → IsFine c → IsSmall number → LeavesFine (session_numbered c handle number)
 session_numbered_fine c handle (Some number) is small =
@@ -116,7 +131,7 @@ session_numbered_fine c handle None is small = is
 saved_fine : (r : Record) (c : Completion) (handle : Handle) → IsFine c → LeavesFine (saved r c handle)
 unfolding saved
 saved_fine r c handle is =
-    choice LeavesFine _ (object_saved r c (object_at r.objects handle)) _ (object_saved_fine r c (object_at r.objects handle) is)
+    choice LeavesFine _ (object_saved r c handle (object_at r.objects handle)) _ (object_saved_fine r c handle (object_at r.objects handle) is)
     (choice LeavesFine _ (session_saved r c handle (session_context c (place_named handle))) _
     (choice LeavesFine _ (session_numbered c handle (next_number c)) _ (session_numbered_fine c handle (next_number c) is (next_small c)) is)
     is)
@@ -129,6 +144,24 @@ loaded_by_fine r c (Err e) is = is
 loaded_fine : (r : Record) (c : Completion) (context : List ℕ) → IsFine c → LeavesFine (loaded r c context)
 unfolding loaded
 loaded_fine r c context is = loaded_by_fine r c (token_at c.start context) is
+
+-- a sequence object that was read from a context is valid
+opened_is : (r : Record) (c : Completion) (context : List ℕ) (object : SequenceObject) → sequence_opened r c context ≡ Ok object → IsSequenceObject object
+unfolding opened_sequence
+opened_is r c context object e =
+    let read = bind_ok (content_in r.fixed.hierarchies (binding_of r c) context) (λ x. sequence_in x.0 x.1) object e in
+    (sequence_found read.0.0 read.0.1 object read.2).0.sized
+
+sequence_put_fine : (c : Completion) (object : SequenceObject) (slot : Option ℕ) → IsFine c → IsSequenceObject object → LeavesFine (sequence_put c object slot)
+sequence_put_fine c object (Some slot) is one = with_sequence_fine c slot object is one
+sequence_put_fine c object None is one = is
+
+sequence_loaded_fine : (r : Record) (c : Completion) (context : List ℕ) → IsFine c → LeavesFine (sequence_loaded r c context)
+sequence_loaded_fine r c context is = by (sequence_opened r c context) refl
+  where
+    by : (opened : Result SequenceObject ContextFault) → sequence_opened r c context ≡ opened → LeavesFine (opened_put c opened)
+    by (Ok object) found = sequence_put_fine c object (free_slot c) is (opened_is r c context object found)
+    by (Err fault) found = is
 
 save_asked_fine : (r : Record) (c : Completion) (response : List ℕ) (handle : Result (ℕ × List ℕ) Short) → IsFine c → LeavesFine (save_asked r c response handle)
 save_asked_fine r c response (Ok handle) is = choice LeavesFine _ (saved r c (numbered handle.0)) (stands c response) (saved_fine r c (numbered handle.0) is) is
@@ -151,7 +184,8 @@ served_fine : (r : Record) (c : Completion) (command : Command) (response : List
 served_fine r c command response is =
     choice LeavesFine _ (stirred c command.parameters response) _ (choice LeavesFine _ _ (stands c response) is is)
     (choice LeavesFine _ (load_asked r c command.parameters response) _
-    (choice LeavesFine _ (loaded r c command.parameters) (stands c response) (loaded_fine r c command.parameters is) is)
+    (choice LeavesFine _ (loaded r c command.parameters) _ (loaded_fine r c command.parameters is)
+    (choice LeavesFine _ (sequence_loaded r c command.parameters) (stands c response) (sequence_loaded_fine r c command.parameters is) is))
     (choice LeavesFine _ (save_asked r c response (number_at w32 command.parameters)) (row_served r c command response)
     (save_asked_fine r c response (number_at w32 command.parameters) is) (row_served_fine r c command response is)))
 
@@ -207,12 +241,12 @@ placed_fine : (c : Completion) (handle : Option Handle) → IsFine c → LeavesF
 placed_fine c (Some handle) is = is
 placed_fine c None is = is
 
-content_fine : (first : Seen) (content : Result Object ContextFault) → IsFine first.layer → IsFine (loaded_behind first content).layer
+content_fine : (first : Seen) (content : Result Object ContextFault) → IsFine first.layer → IsFine (loaded_after first content).layer
 content_fine first (Ok object) is = placed_fine first.layer (next_handle first.step.after.objects) is
 content_fine first (Err fault) is = is
 
 sending_fine : (first : Seen) (buffer : List ℕ) (locality : ℕ) (sent : Option Sent) → IsFine first.layer → IfSome sent IsSent
-    → IsFine (sending_behind first buffer locality sent).layer
+    → IsFine (sending_after first buffer locality sent).layer
 sending_fine first buffer locality (Some sent) is valid =
     let second : Seen = passed first.layer first.step.after (sent_event sent locality) in
     sent_reply_fine second.layer (second.step.row.check == 0) sent.work second.step.response
@@ -221,15 +255,15 @@ sending_fine first buffer locality None is valid =
     reply_fine first.step.after first.layer buffer first.step.response (first.step.row.check == 0) is
 
 done_fine : (first : Seen) (buffer : List ℕ) (locality : ℕ) (asked : Option (List ℕ)) → IsFine first.layer
-    → IsFine (done_behind first buffer locality asked).layer
-done_fine first buffer locality (Some context) is = content_fine first (opened_behind first context) is
+    → IsFine (done_after first buffer locality asked).layer
+done_fine first buffer locality (Some context) is = content_fine first (opened_after first context) is
 done_fine first buffer locality None is =
-    sending_fine first buffer locality (sent_behind first buffer) is (sent_is first.step.after first.layer buffer first.step.response)
+    sending_fine first buffer locality (sent_after first buffer) is (sent_is first.step.after first.layer buffer first.step.response)
 
 with_fine : (c : Completion) (old : Record) (event : PlainEvent) → IsFine c → IsFine (completed_with c old event).layer
 with_fine c old (Given buffer locality elapsed random) is =
     let first : Seen = passed c old (Given buffer locality elapsed random) in
-    done_fine first buffer locality (asked_behind first buffer) (passed_fine c old (Given buffer locality elapsed random) is)
+    done_fine first buffer locality (asked_after first buffer) (passed_fine c old (Given buffer locality elapsed random) is)
 with_fine c old Cycled is = passed_fine c old Cycled is
 with_fine c old (Placed object) is = passed_fine c old (Placed object) is
 

@@ -93,7 +93,7 @@ walk_parts zero p q taken n text leads = absurd cc
 walk_parts (suc bound) p q taken n text leads =
     found_walked bound p q taken n text leads (λ s from left on. walk_parts bound s q from n left on) (finding p text)
 
--- ---- the executed entries are among those of the journal, and all of them if nothing follows
+-- ---- the executed entries are entries of the journal, and all of them if nothing follows
 
 few_entries : (sum : ℕ) (text : List ℕ) (entries : List PlainEntry) (rest : List ℕ) → AllByRecursion IsEntry entries
     → text ≡ entries_text sum entries ++ rest → length (entries_text sum entries) ≤ entries_size sum text

@@ -6,9 +6,9 @@ use Rattle.std.proofs.lemmas.List.{length-append, length-replicate, length-take-
 use Rattle.std.proofs.lemmas.Slice.Eq.{bytes_eq-Decides}
 use Rattle.tpm_completion.specs.Answer.{is_refusal, refusal}
 use Rattle.tpm_completion.specs.Command.{authorized_command, plain_command}
-use Rattle.tpm_completion.specs.Completed.{behind, completed, done_behind, loaded_behind, passed, sending_behind}
+use Rattle.tpm_completion.specs.Completed.{behind, completed, done_after, loaded_after, passed, sending_after}
 use Rattle.tpm_completion.specs.Completion.{forgotten}
-use Rattle.tpm_completion.specs.Execution.{Seen, asked_behind, opened_behind, sent_behind}
+use Rattle.tpm_completion.specs.Execution.{Seen, asked_after, opened_after, sent_after}
 use Rattle.tpm_completion.specs.Loading.{context_asked, object_context_in}
 use Rattle.tpm_completion.specs.Sending.{sent_for, sent_in}
 use Rattle.tpm_completion.specs.declared.completion.Completion.{Completion}
@@ -22,9 +22,9 @@ use Rattle.tpm_machine.specs.Drawn.{drawn_by, drawn_by_command}
 use Rattle.tpm_object.specs.declared.object.Object.{Object}
 use Rattle.tpm_record.specs.Record.{Record}
 use Rattle.tpm_record.specs.Tick.{ticked}
-use Rattle.tpm_step.specs.Answer.{answer_to, framed, handle_answer, success_text}
-use Rattle.tpm_step.specs.Events.{Given, PlainEvent}
-use Rattle.tpm_step.specs.Step.{Accepted, Stepped, accepted, step, stepped_of}
+use Rattle.tpm_step.specs.step.Answer.{answer_to, framed, handle_answer, success_text}
+use Rattle.tpm_step.specs.step.Events.{Given, PlainEvent}
+use Rattle.tpm_step.specs.step.Step.{Accepted, Stepped, accepted, step, stepped_of}
 use Rattle.tpm_step.specs.declared.refused_command.RefusedCommand.{RefusedCommand}
 use Rattle.tpm_types.specs.declared.handle.Handle.{Handle}
 use Rattle.tpm_types_command.specs.AuthEntry.{Entry}
@@ -82,7 +82,7 @@ module _ (c : Completion) (old : Record) (buffer : List ℕ) (locality elapsed :
     front_kept drawn random (replicate (256 - drawn) 0) drawn_few,
   )
 
-  -- The effect stays the same if zeros replace the random bytes that the command does not draw.
+  -- Replacing undrawn random bytes by zeros does not change the effect.
   pub passed_again : (n : ℕ) → n ≡ (passed c old (event random)).drawn → length random ≡ 256
       → passed c old (event (zeros_behind n random)) ≡ passed c old (event random)
   passed_again n is all =
@@ -92,8 +92,8 @@ module _ (c : Completion) (old : Record) (buffer : List ℕ) (locality elapsed :
   pub few_drawn : (passed c old (event random)).drawn ≤ length random
   few_drawn = omega (arith, passed_drawn, drawn_few)
 
-  -- If a command draws no random bytes, its effect is the same with any other random bytes, if
-  -- there are as many of them.
+  -- If a command draws no random bytes, its effect is the same with equally many other random
+  -- bytes.
   pub passed_anyhow : (other : List ℕ) → drawn ≡ 0 → length other ≡ length random → passed c old (event other) ≡ passed c old (event random)
   passed_anyhow other none as_long =
       passed_alike other (as_long, ap (λ (n : ℕ). take n other) none ∙ ap (λ (n : ℕ). take n random) (sym none))
@@ -135,7 +135,7 @@ asked_refused r buffer response context is =
     and_right r.fixed.started (is_refusal 0x143 response) (if_some _ (object_context_in (plain_command buffer)) context is)
 
 asked_draws_none : (c : Completion) (old : Record) (buffer : List ℕ) (locality elapsed : ℕ) (random context : List ℕ)
-    → asked_behind (passed c old (Given buffer locality elapsed random)) buffer ≡ Some context
+    → asked_after (passed c old (Given buffer locality elapsed random)) buffer ≡ Some context
     → drawn_by old (Given buffer locality elapsed random) 0 ≡ 0
 unfolding passed
 asked_draws_none c old buffer locality elapsed random context asked =
@@ -148,7 +148,7 @@ sent_refused r c buffer response sent is =
     and_right r.fixed.started (is_refusal 0x143 response) (if_some _ (sent_in r c (authorized_command buffer)) sent is)
 
 sent_draws_none : (c : Completion) (old : Record) (buffer : List ℕ) (locality elapsed : ℕ) (random : List ℕ) (sent : Sent)
-    → sent_behind (passed c old (Given buffer locality elapsed random)) buffer ≡ Some sent
+    → sent_after (passed c old (Given buffer locality elapsed random)) buffer ≡ Some sent
     → drawn_by old (Given buffer locality elapsed random) 0 ≡ 0
 unfolding passed
 sent_draws_none c old buffer locality elapsed random sent is =
@@ -167,36 +167,36 @@ module _ (c : Completion) (old : Record) (buffer : List ℕ) (locality elapsed :
   first = passed c old (Given buffer locality elapsed random)
 
   -- Loading a context, or refusing it, draws at most as many random bytes as are available.
-  few_content : (content : Result Object ContextFault) → (loaded_behind first content).drawn ≤ length random
+  few_content : (content : Result Object ContextFault) → (loaded_after first content).drawn ≤ length random
   few_content (Ok object) = omega arith
   few_content (Err fault) = few_drawn c old buffer locality elapsed random
 
   -- A command that the layer sends draws at most as many random bytes as are available.
-  few_sending : (sent : Option Sent) → (sending_behind first buffer locality sent).drawn ≤ length random
+  few_sending : (sent : Option Sent) → (sending_after first buffer locality sent).drawn ≤ length random
   few_sending (Some sent) =
       omega (arith, all, few_drawn first.layer first.step.after sent.command locality 0 (replicate 256 0), length-replicate {A = ℕ} 256 0)
   few_sending None = few_drawn c old buffer locality elapsed random
 
-  few_behind : (asked : Option (List ℕ)) → (done_behind first buffer locality asked).drawn ≤ length random
-  few_behind (Some context) = few_content (opened_behind first context)
-  few_behind None = few_sending (sent_behind first buffer)
+  few_behind : (asked : Option (List ℕ)) → (done_after first buffer locality asked).drawn ≤ length random
+  few_behind (Some context) = few_content (opened_after first context)
+  few_behind None = few_sending (sent_after first buffer)
 
-  -- The device's effect stays the same if zeros replace the random bytes after the bytes that the
-  -- whole command draws.
-  sending_again : (sent : Option Sent) → sent_behind first buffer ≡ sent
-      → passed c old (Given buffer locality elapsed (zeros_behind (sending_behind first buffer locality sent).drawn random)) ≡ first
+  -- Replacing random bytes that the whole command does not draw by zeros does not change the
+  -- device's effect.
+  sending_again : (sent : Option Sent) → sent_after first buffer ≡ sent
+      → passed c old (Given buffer locality elapsed (zeros_behind (sending_after first buffer locality sent).drawn random)) ≡ first
   sending_again None is = passed_again c old buffer locality elapsed random first.drawn refl all
   sending_again (Some sent) is =
-      let n : ℕ = (sending_behind first buffer locality (Some sent)).drawn in
+      let n : ℕ = (sending_after first buffer locality (Some sent)).drawn in
       passed_anyhow c old buffer locality elapsed random (zeros_behind n random)
       (sent_draws_none c old buffer locality elapsed random sent is)
       (zeros_many n random (few_sending (Some sent)) all)
 
-  first_again : (asked : Option (List ℕ)) → asked_behind first buffer ≡ asked
-      → passed c old (Given buffer locality elapsed (zeros_behind (done_behind first buffer locality asked).drawn random)) ≡ first
-  first_again None is = sending_again (sent_behind first buffer) refl
+  first_again : (asked : Option (List ℕ)) → asked_after first buffer ≡ asked
+      → passed c old (Given buffer locality elapsed (zeros_behind (done_after first buffer locality asked).drawn random)) ≡ first
+  first_again None is = sending_again (sent_after first buffer) refl
   first_again (Some context) is =
-      let n : ℕ = (done_behind first buffer locality (Some context)).drawn in
+      let n : ℕ = (done_after first buffer locality (Some context)).drawn in
       passed_anyhow c old buffer locality elapsed random (zeros_behind n random)
       (asked_draws_none c old buffer locality elapsed random context is)
       (zeros_many n random (few_behind (Some context)) all)
@@ -206,11 +206,11 @@ module _ (c : Completion) (old : Record) (buffer : List ℕ) (locality elapsed :
   completed_again false n is = passed_again c old buffer locality elapsed random n is all
   completed_again true n is =
       ap (λ (m : ℕ). completed true c old (Given buffer locality elapsed (zeros_behind m random))) is
-      ∙ ap (λ (f : Seen). behind f buffer locality) (first_again (asked_behind first buffer) refl)
+      ∙ ap (λ (f : Seen). behind f buffer locality) (first_again (asked_after first buffer) refl)
 
   pub completed_few : (completes : Bool) → (completed completes c old (Given buffer locality elapsed random)).drawn ≤ length random
   completed_few false = few_drawn c old buffer locality elapsed random
-  completed_few true = few_behind (asked_behind first buffer)
+  completed_few true = few_behind (asked_after first buffer)
 
 -- ---- entries
 

@@ -54,8 +54,7 @@ abbrev pub taken_of : Option (Spot × ℕ) → ℕ
 taken_of None = 0
 taken_of (Some found) = found.1
 
--- If walking over the bytes reaches a position, then walking over only the executed bytes reaches
--- the same position.
+-- Walking over only the executed bytes reaches the same position as walking over all bytes.
 record IsFront (p q : Spot) (taken n : ℕ) (text : List ℕ) : Type 0 where
   size : ℕ
   is : n ≡ taken + size
@@ -79,8 +78,7 @@ front_ends bound p q taken n text leads ends =
     nothing (suc more) less here =
         walk_ends more p taken [] (found_torn p [] ((is_torn_text-Decides p.chain []).1 (torn_nothing p.chain))) ∙ here
 
--- If the bytes begin with an entry, and `IsFront` holds for the bytes after it, then `IsFront`
--- holds for all bytes.
+-- If `IsFront` holds for the bytes after an entry, it holds for the entry and these bytes.
 front_goes : (p q s : Spot) (taken n : ℕ) (e : PlainEntry) (rest text : List ℕ) → IsEntry e → text ≡ entry_text p.chain e ++ rest
     → performed_on p.chain e (state_of_bytes p.state) ≡ Some s → IsFront s q (taken + length (entry_text p.chain e)) n rest
     → IsFront p q taken n text
@@ -124,7 +122,7 @@ walk_front (suc bound) p q taken n text leads =
 
 -- ---- a head and the bytes after it
 
--- If a head and the bytes after it open as a journal, so do the head and only the executed bytes.
+-- If a journal opens, its head and its executed bytes alone also open, with the same result.
 record IsFrontOf (h : PlainHead) (rest : List ℕ) (p : Spot) (n : ℕ) : Type 0 where
   size : ℕ
   is : n ≡ length (text_of_head h) + size

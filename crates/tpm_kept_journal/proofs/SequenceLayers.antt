@@ -18,8 +18,8 @@ use Rattle.tpm_sequence.specs.Authorization.{is_authorized}
 use Rattle.tpm_sequence.specs.Sequence.{hmac_sequence, object_updated, sequence_updated}
 use Rattle.tpm_sequence.specs.Sequence.{object_of as sequence_object}
 use Rattle.tpm_sequence_text.specs.Slot.{IsSequenceObject}
-use Rattle.tpm_step.proofs.AuthReadings.{parameter_then}
-use Rattle.tpm_step.proofs.Binding.{ok_bind, ok_then}
+use Rattle.tpm_step.proofs.history.AuthReadings.{parameter_then}
+use Rattle.tpm_step.proofs.rows.Binding.{ok_bind, ok_then}
 use Rattle.tpm_types.proofs.Buffers.{or_sized_ok}
 use Rattle.tpm_types.specs.Algorithm.{hash_or_null_at}
 use Rattle.tpm_types.specs.Buffer.{buffer_at}
@@ -86,7 +86,7 @@ hash_start_fine c parameters is =
 abbrev MayLeaveFine : Option Reply → Type 0
 MayLeaveFine reply = IfSome reply LeavesFine
 
--- Either answer leaves a valid layer.
+-- If both answers leave a valid layer, so does the answer that a condition selects.
 either : (b : Bool) (x y : Option Reply) → MayLeaveFine x → MayLeaveFine y → MayLeaveFine (cond b x y)
 either true x y p q = p
 either false x y p q = q

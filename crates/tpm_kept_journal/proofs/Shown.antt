@@ -11,9 +11,9 @@ use Rattle.tpm_state_text.specs.State.{state_text}
 use Rattle.tpm_state_text.proofs.StateLaws.{text_small}
 use Rattle.tpm_kept_journal.specs.Opening.{head_of, head_sum_of, is_state_text, no_head}
 use Rattle.tpm_kept_journal.specs.State.{DeviceState, IsDeviceState, bytes_of, content_in, state_of_bytes, time_in, whole_of}
-use Rattle.tpm_kept_journal.specs.texts.Parts.{are_bytes}
+use Rattle.tpm_image_text.specs.Fields.{are_bytes}
 use Rattle.tpm_kept_journal.proofs.States.{content_of, state_told, time_of}
-use Rattle.tpm_kept_journal.proofs.texts.Parts.{are_bytes-Decides}
+use Rattle.tpm_image_text.proofs.Bytes.{are_bytes-Decides}
 
 bytes_joined : (front back : List ℕ) → AreBytes front → AreBytes back → AreBytes (front ++ back)
 bytes_joined [] back are others i = others i

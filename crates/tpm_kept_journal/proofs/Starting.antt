@@ -30,9 +30,9 @@ use Rattle.tpm_state_text.specs.State.{current_state_of_text}
 use Rattle.tpm_state_text.specs.declared.fault.StateFault.{StateFault}
 use Rattle.tpm_state_text.specs.declared.layer.Layer.{Layer}
 use Rattle.tpm_state_text.proofs.StateLaws.{current_found}
-use Rattle.tpm_step.proofs.PowerCycles.{none_taken, starting_banks}
+use Rattle.tpm_step.proofs.step.PowerCycles.{none_taken, starting_banks}
 use Rattle.tpm_types.specs.Limits.{object_limit, session_limit}
-use Rattle.tpm_kept_journal.specs.Opening.{opened_behind, opened_text, spot_by, started_at, started_by, started_no_head, walked}
+use Rattle.tpm_kept_journal.specs.Opening.{walked_after, opened_text, spot_by, started_at, started_by, started_no_head, walked}
 use Rattle.tpm_kept_journal.specs.State.{IsDeviceState, spot_of, state_in}
 use Rattle.tpm_kept_journal.specs.texts.HeadAt.{PlainHead, head_at}
 use Rattle.tpm_kept_journal.proofs.Entries.{sum_small}
@@ -110,10 +110,10 @@ module _ (text : List ℕ) (kind : HeadKind) (clock : ℕ) (content rest : List 
   head_of_text = record { kind = kind; clock = clock; content = content }
 
   behind : (found : Option (Spot × ℕ)) → spot_by (length head) (start_by kind clock content) ≡ found
-      → opened_text text ≡ opened_behind text found
+      → opened_text text ≡ walked_after text found
   unfolding opened_text
   behind found is =
-      ap (opened_behind text) (ap started_at begins.is ∙ head_starts head_of_text rest begins.has ∙ is)
+      ap (walked_after text) (ap started_at begins.is ∙ head_starts head_of_text rest begins.has ∙ is)
 
   -- If the head starts a device, opening the journal makes this device execute the bytes after the
   -- head.
@@ -141,7 +141,7 @@ started_none (first ∷ second ∷ text) are none =
 
 pub opens_none : (text : List ℕ) → AreBytes text → head_at text ≡ None → opened_text text ≡ None
 unfolding opened_text
-opens_none text are none = ap (opened_behind text) (started_none text are none)
+opens_none text are none = ap (walked_after text) (started_none text are none)
 
 -- ---- the result of opening a journal
 

@@ -120,7 +120,7 @@ module _ (p : Spot) (c : List ℕ) (found : IsEntered c) where
       (performed_again s (command s) found.given.1)
       ∙ so_told (sum_of seen.step.response == sum_of seen.step.response) (spot_after s) (eq-eqb _ _ refl)
 
-  -- If the position encodes a state, there is a next position, after the command.
+  -- If the position encodes a state, the command leads to a next position.
   further : (s : DeviceState) → state_of_bytes p.state ≡ Some s → Leads p c
   further s is =
       let entry_is : entry_at_spot p c ≡ Some (entry s) = said None entered s is in
@@ -154,8 +154,8 @@ all p cs = entries device_journal p cs
 abbrev pub end_of : Spot → List (List ℕ) → Spot
 end_of p cs = trail device_journal p cs
 
--- If walking over the entries of `cs` gives the right position, so does walking over the entry of
--- `c` and then over the entries of `cs`.
+-- If walking over the entries of `cs` ends at the right position, so does walking over the entry of
+-- `c` and then over these entries.
 walk_led : (c : List ℕ) (cs : List (List ℕ)) (bound : ℕ) (p : Spot) (taken : ℕ) (tail : List ℕ)
     → ((bound taken : ℕ) → length (all (stepped device_journal p c) cs ++ tail) < bound
     → walk bound (stepped device_journal p c) taken (all (stepped device_journal p c) cs ++ tail)

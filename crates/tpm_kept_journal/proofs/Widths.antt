@@ -1,4 +1,5 @@
--- The numbers of a sequence object fit their integer types, whatever data its sequence got.
+-- The numbers of a sequence object fit their integer types, whatever data its sequence has
+-- absorbed.
 use Rattle.std.proofs.Common.{◌%◌, ◌^◌, ◌<◌, ◌≤◌, ◌-◌, ℕ, zero, suc, Bool, true, false, cond, List, [], ◌∷◌, length, replicate, slice_set, refl, ◌∙◌, arith, length-append, length-set}
 use Rattle.std.specs.Prelude.{nat_eq, reverse}
 use Rattle.std.proofs.lemmas.List.{length-replicate, length-reverse}

@@ -5,7 +5,7 @@ use Rattle.std.specs.Int.{w8, w32, w64}
 use Rattle.tpm_bytes.specs.Reading.{◌>>=◌, AreBytes, refused_if}
 use Rattle.tpm_image_text.specs.Fields.{bytes_in, malformed, number_in, passing, yes_no_in}
 use Rattle.tpm_image_text.specs.declared.fault.Malformed.{Malformed}
-use Rattle.tpm_kept_journal.specs.texts.Parts.{are_bytes}
+use Rattle.tpm_image_text.specs.Fields.{are_bytes}
 
 -- When a command arrives: at this time of the host's clock, or this many milliseconds after the
 -- previous command.

@@ -9,7 +9,7 @@ use Rattle.tpm_journal.specs.Command.{Command, command_at, elapsed_of, entry_of,
 use Rattle.tpm_journal.specs.State.{time_after}
 use Rattle.tpm_journal_text.specs.Entry.{PlainEntry, entry_text, sum_after}
 use Rattle.tpm_keeping.specs.Journal.{Spot}
-use Rattle.tpm_step.specs.Events.{Cycled}
+use Rattle.tpm_step.specs.step.Events.{Cycled}
 use Rattle.tpm_kept_journal.specs.Command.{After, At, Begins, Cycles, Executes, KeptCommand, Moment, command_of}
 use Rattle.tpm_kept_journal.specs.Seed.{begun_in}
 use Rattle.tpm_kept_journal.specs.State.{DeviceState, bytes_of, state_of_bytes}
@@ -38,14 +38,14 @@ left_by s elapsed seen =
     record { time = time_after s.time elapsed; layer = seen.layer; device = seen.step.after }
 
 -- the state after a power cycle. The completing layer keeps its start number and its count. It
--- forgets the contexts of all sessions, since the sessions end; the contexts of objects end with a
--- TPM Reset
+-- forgets its sequence objects, and the contexts of all sessions, since the sessions end; the
+-- contexts of objects end with a TPM Reset
 abbrev pub cycled_at : DeviceState → (now : ℕ) → DeviceState
 cycled_at s now =
     let seen : Seen = completed true s.layer s.device Cycled in
     record { time = now; layer = seen.layer; device = seen.step.after }
 
--- the new state of a device, or the old state if there is no new one
+-- the new state of a device, or the old state if there is no new state
 abbrev pub begun_or : Option DeviceState → DeviceState → DeviceState
 begun_or (Some begun) s = begun
 begun_or None s = s

@@ -14,7 +14,8 @@ use Rattle.tpm_kept_journal.specs.Effect.{left_by}
 use Rattle.tpm_kept_journal.specs.State.{DeviceState, bytes_of, content_in, spot_of, state_of_bytes, time_in}
 use Rattle.tpm_kept_journal.specs.texts.HeadAt.{PlainHead, head_at, text_of_head}
 use Rattle.tpm_kept_journal.specs.texts.NextAt.{Damaged, PlainNext, Torn, Whole, next_at}
-use Rattle.tpm_kept_journal.specs.texts.Parts.{are_bytes, where_so}
+use Rattle.tpm_image_text.specs.Fields.{are_bytes}
+use Rattle.tpm_kept_journal.specs.texts.Parts.{where_so}
 
 -- ---- executing the entries again
 
@@ -117,9 +118,9 @@ after_head_text text = whole_head (length text) (started_at text)
 
 -- ---- opening whole journals
 
-abbrev pub opened_behind : List ℕ → Option (Spot × ℕ) → Option (Spot × ℕ)
-opened_behind text (Some found) = walked found.0 found.1 (drop found.1 text)
-opened_behind text None = None
+abbrev pub walked_after : List ℕ → Option (Spot × ℕ) → Option (Spot × ℕ)
+walked_after text (Some found) = walked found.0 found.1 (drop found.1 text)
+walked_after text None = None
 
 unfoldable pub opened_text : List ℕ → Option (Spot × ℕ)
-opened_text text = opened_behind text (started_at text)
+opened_text text = walked_after text (started_at text)

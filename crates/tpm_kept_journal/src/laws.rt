@@ -15,8 +15,8 @@ ghost use Rattle.tpm_kept_journal.specs.State.{whole_of};
 ghost use Rattle.tpm_state_text.specs.State.{state_text};
 
 /// The journal of a kept device satisfies what a keeper requires. Whatever is executed, wherever
-/// the journal is cut, and whatever a crash leaves, it opens as the device that executed the
-/// complete entries.
+/// the journal is cut, and whatever a crash leaves, the journal opens as the device that executed
+/// the complete entries.
 #[inline(always)]
 #[tactic(auto, using(crate::proofs::JournalLaws::device_is_a_journal))]
 pub fn device_journal_laws()

@@ -42,14 +42,14 @@ pub fn head_at_laws()
         → head_at text ≡ None }
 {}
 
-/// `is_torn_text` is true exactly for the bytes that are torn.
+/// `is_torn_text` is true exactly for torn bytes.
 #[inline(always)]
 pub fn torn_text_laws()
     ensures { (sum : ℕ) (text : List ℕ) → Decides (is_torn_text sum text) (IsTorn sum text) }
 {}
 
-/// Every list of bytes begins with an entry, or is torn, or is damaged; no two of these hold for
-/// one list. The code that reads the bytes finds which one holds.
+/// Every list of bytes begins with an entry, is torn, or is damaged, and only one of these is true.
+/// The code that reads the bytes finds out which.
 #[inline(always)]
 pub fn next_at_laws()
     ensures is { (sum : ℕ) (text : List ℕ) → IsNext sum text (next_at sum text) }

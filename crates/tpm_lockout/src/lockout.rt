@@ -43,7 +43,7 @@ fn milliseconds(seconds: u32) -> u64
     1000 * u64::from(seconds)
 }
 
-/// The number of failed tries left after some of them were forgiven.
+/// The number of failed tries left after this number of tries was forgiven.
 fn tries_left(tries: u32, forgiven: u64) -> u32
     ensures { result ≡ tries - forgiven }
 {

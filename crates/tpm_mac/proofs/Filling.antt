@@ -17,8 +17,7 @@ zeros_overwritten zeros bytes written blank same =
     let none : ℕ = 0 in
     rw (blank, same, drop-replicate (length bytes) 64 none) refl
 
--- If the first i bytes of a key are masked and byte i is masked next, then the first i + 1 bytes
--- are masked.
+-- Masking byte i after the first i bytes masks the first i + 1 bytes.
 pub masked_more : (key bytes : List ℕ) (pad i : ℕ) → i < length key
     → bytes ≡ masked_key pad (take i key) ++ drop i key
     → slice_set bytes i (bit_xor (slice_index_or bytes i 0) pad) ≡ masked_key pad (take (i + 1) key) ++ drop (i + 1) key
@@ -29,8 +28,8 @@ masked_more key bytes pad i within so_far =
     map_over_more (λ (x : ℕ). bit_xor x pad) key bytes i byte within so_far
     (sym (get_or_default_zero bytes i byte (omega arith)))
 
--- Suppose that a list starts with a block, truncated only if nothing follows it. Then the first
--- bytes of the list, up to the size of the whole block, are the block as it was written.
+-- The first bytes of a list that starts with a block, as many as the block has, are the written
+-- part of the block. Nothing follows a block that is truncated.
 take-cut_block : (block rest : List ℕ) (room : ℕ) → (room < length block → rest ≡ [])
     → take (length block) (take room block ++ rest) ≡ take room block
 take-cut_block block rest room none =

@@ -41,7 +41,7 @@ pub fn kdfa(
     write_front(out, last * size, mac.finish().as_slice());
 }
 
-/// Feeds the input of the block with this counter to an HMAC that was fed nothing but its key.
+/// Feeds the input of the block with this counter to an HMAC that was fed only its key.
 fn take_text(
     mac: &mut Mac,
     counter: u32,

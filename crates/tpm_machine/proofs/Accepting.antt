@@ -14,12 +14,12 @@ use Rattle.tpm_types.specs.declared.refused.Refused.{Refused}
 use Rattle.tpm_record.specs.rows.Request.{Request}
 use Rattle.tpm_record.specs.rows.Rows.{ActsIfRoom, Success}
 use Rattle.tpm_record.specs.declared.rows.answer.Answer.{Answer}
-use Rattle.tpm_step.specs.Entries.{DrawsFew}
-use Rattle.tpm_step.specs.Answer.{Written, answer_to, text_of, written_of}
-use Rattle.tpm_step.specs.General.{general, in_command}
-use Rattle.tpm_step.specs.Safe.{IsModest}
-use Rattle.tpm_step.specs.Step.{Accepted, Accepts, Answers, RefusesOrWantsMemory, Stepped, Succeeds, acceptance, accepted, refusal_step, request_in, settled}
-use Rattle.tpm_step.specs.Table.{row_of}
+use Rattle.tpm_step.specs.step.Entries.{DrawsFew}
+use Rattle.tpm_step.specs.step.Answer.{Written, answer_to, text_of, written_of}
+use Rattle.tpm_step.specs.step.General.{general, in_command}
+use Rattle.tpm_step.specs.step.Safe.{IsModest}
+use Rattle.tpm_step.specs.step.Step.{Accepted, Accepts, Answers, RefusesOrWantsMemory, Stepped, Succeeds, acceptance, accepted, refusal_step, request_in, settled}
+use Rattle.tpm_step.specs.step.Table.{row_of}
 use Rattle.tpm_machine.specs.Drawn.{bytes_drawn, drawn_by_command}
 use Rattle.tpm_machine.proofs.Refusals.{answers_exactly, refused_answers}
 

@@ -8,10 +8,10 @@ use Rattle.tpm_commands.specs.CommandCode.{code_number}
 use Rattle.tpm_types_command.specs.Command.{Whole}
 use Rattle.tpm_record.specs.Record.{Record}
 use Rattle.tpm_auth.specs.declared.session_grant.Grant.{Grant}
-use Rattle.tpm_step.specs.Answer.{Written, answer_to, framed, handle_answer, success_text}
-use Rattle.tpm_step.specs.Entries.{Drawn, DrawsFew, entries_answer, entries_ended, entries_rolled}
-use Rattle.tpm_step.specs.Granted.{Granted, granted_entries}
-use Rattle.tpm_step.specs.Parameters.{encrypted_answer}
+use Rattle.tpm_step.specs.step.Answer.{Written, answer_to, framed, handle_answer, success_text}
+use Rattle.tpm_step.specs.step.Entries.{Drawn, DrawsFew, entries_answer, entries_ended, entries_rolled}
+use Rattle.tpm_step.specs.step.Granted.{Granted, granted_entries}
+use Rattle.tpm_step.specs.step.Parameters.{encrypted_answer}
 use Rattle.tpm_machine.specs.Drawn.{bytes_drawn}
 
 pub framed_alone : (tag code : ℕ) → framed tag code [] ≡ to_be_bytes w16 tag ++ to_be_bytes w32 10 ++ to_be_bytes w32 code

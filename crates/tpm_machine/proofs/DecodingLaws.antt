@@ -8,16 +8,16 @@ use Rattle.std.specs.List.{find, list_any, zip}
 use Rattle.tpm_bytes.proofs.Fields.{AreBytes}
 use Rattle.tpm_types_command.proofs.CommandLaws.{command_size-is, command_takes, length-body}
 use Rattle.tpm_auth.specs.Entries.{decrypts}
-use Rattle.tpm_step.specs.Parameters.{plain_parameters}
+use Rattle.tpm_step.specs.step.Parameters.{plain_parameters}
 use Rattle.tpm_types_command.specs.AuthEntry.{Entry}
 use Rattle.tpm_types_command.specs.declared.command.Command.{Command}
 use Rattle.tpm_types_command.specs.Command.{Whole, command_body_text, command_at, command_size, sessions_text, whole_of}
 use Rattle.tpm_record.specs.Record.{Record}
 use Rattle.tpm_auth.specs.declared.session_grant.Grant.{Grant}
-use Rattle.tpm_step.specs.General.{general}
+use Rattle.tpm_step.specs.step.General.{general}
 use Rattle.tpm_step.specs.declared.refused_command.RefusedCommand.{RefusedCommand}
-use Rattle.tpm_step.proofs.Binding.{ok_at}
-use Rattle.tpm_step.proofs.Decoding.{general_reads}
+use Rattle.tpm_step.proofs.rows.Binding.{ok_at}
+use Rattle.tpm_step.proofs.step.Decoding.{general_reads}
 
 -- if a buffer passes the general checks, `command_at` reads the same command from the buffer, and
 -- no bytes remain after it

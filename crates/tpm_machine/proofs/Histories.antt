@@ -3,14 +3,14 @@
 use Rattle.std.proofs.Common.{◌≡◌, Bool, List, [], Bor, ℕ, subst, sym}
 use Rattle.std.specs.Fn.{Mut}
 use Rattle.tpm_record.specs.Record.{Record, manufactured}
-use Rattle.tpm_step.specs.Events.{PlainEvent}
-use Rattle.tpm_step.specs.Execution.{Executes}
-use Rattle.tpm_step.specs.Run.{Runs}
-use Rattle.tpm_step.specs.Step.{Stepped}
+use Rattle.tpm_step.specs.step.Events.{PlainEvent}
+use Rattle.tpm_step.specs.step.Execution.{Executes}
+use Rattle.tpm_step.specs.step.Run.{Runs}
+use Rattle.tpm_step.specs.step.Step.{Stepped}
 use Rattle.tpm_step.specs.declared.event.Outcome.{Outcome}
-use Rattle.tpm_step.specs.Follows.{After, Follows, FollowsOn, RunFollows}
-use Rattle.tpm_step.specs.History.{History}
-use Rattle.tpm_step.proofs.Following.{execution_follows, manufactured_follows, run_follows}
+use Rattle.tpm_step.specs.history.Follows.{After, Follows, FollowsOn, RunFollows}
+use Rattle.tpm_step.specs.history.History.{History}
+use Rattle.tpm_step.proofs.history.Following.{execution_follows, manufactured_follows, run_follows}
 
 pub new_follows : (r : Record) (random : List ℕ) → r ≡ manufactured random → Follows r []
 new_follows r random is = subst (λ (x : Record). Follows x []) (sym is) (manufactured_follows random)

@@ -5,9 +5,9 @@ use Rattle.tpm_record.specs.Tick.{ticked}
 use Rattle.tpm_types.specs.Check.{check_number}
 use Rattle.tpm_types.specs.declared.check.Check.{Check}
 use Rattle.tpm_types.specs.declared.check.Check.TheVariants as check
-use Rattle.tpm_step.specs.Events.{PlainEvent, Given, Cycled, Placed}
-use Rattle.tpm_step.specs.Safe.{AcceptsModestly, IsModest, IsModestIfAccepted}
-use Rattle.tpm_step.specs.Step.{Accepted, Stepped, Steps, accepted, answer_where}
+use Rattle.tpm_step.specs.step.Events.{PlainEvent, Given, Cycled, Placed}
+use Rattle.tpm_step.specs.step.Safe.{AcceptsModestly, IsModest, IsModestIfAccepted}
+use Rattle.tpm_step.specs.step.Step.{Accepted, Stepped, Steps, accepted, answer_where}
 use Rattle.tpm_step.specs.declared.refused_command.RefusedCommand.{RefusedCommand}
 
 check_some : (c : Check) → check_number c ≡ 0 → ⊥

@@ -7,7 +7,7 @@ use Rattle.tpm_session.specs.declared.session.Session.{Session}
 use Rattle.tpm_types_command.specs.AuthEntry.{Entry}
 use Rattle.tpm_record.specs.Record.{Record}
 use Rattle.tpm_auth.specs.Entries.{session_of}
-use Rattle.tpm_step.specs.Entries.{draw_of}
+use Rattle.tpm_step.specs.step.Entries.{draw_of}
 
 abbrev nonce_length : Option Session → ℕ
 nonce_length o = option_map_or (λ (s : Session). length s.nonce_tpm) o 0

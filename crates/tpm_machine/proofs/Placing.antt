@@ -10,11 +10,11 @@ use Rattle.tpm_record.specs.AnyObject.{AddsObject}
 use Rattle.tpm_record.specs.IsRecord.{IsRecord}
 use Rattle.tpm_record.specs.Objects.{object_handle}
 use Rattle.tpm_record.specs.Record.{Record}
-use Rattle.tpm_step.specs.Events.{Placed}
-use Rattle.tpm_step.specs.Execution.{Executes}
-use Rattle.tpm_step.specs.Follows.{FollowsOn}
-use Rattle.tpm_step.specs.Placing.{placed, placed_at}
-use Rattle.tpm_step.proofs.Placing.{placed_executes}
+use Rattle.tpm_step.specs.step.Events.{Placed}
+use Rattle.tpm_step.specs.step.Execution.{Executes}
+use Rattle.tpm_step.specs.history.Follows.{FollowsOn}
+use Rattle.tpm_step.specs.step.Placing.{placed, placed_at}
+use Rattle.tpm_step.proofs.step.Placing.{placed_executes}
 use Rattle.tpm_machine.specs.Placing.{IfMemory, Places, placing_seen}
 use Rattle.tpm_machine.proofs.Histories.{follows_on}
 
@@ -23,7 +23,7 @@ places can old object (Ok handle) new (adds, is) = ap (option_map object_handle)
 places can old object (Err Full) new (adds, is) = (ap (option_map object_handle) adds.0, is ∙ ap (λ (objects : List (Option Object)). record old { objects = objects }) adds.1)
 places can old object (Err NoMemory) new (adds, is) = (adds.2, is ∙ ap (λ (objects : List (Option Object)). record old { objects = objects }) adds.3)
 
--- after an object was added, the record is the record after the event `Placed`
+-- adding an object results in the record after the event `Placed`
 placed_is : (old : Record) (object : Object) (found : Option ℕ) → lowest_free old.objects ≡ found → record old { objects = placed_at found object old.objects } ≡ placed old object
 placed_is old object found free = ap (λ (x : Option ℕ). record old { objects = placed_at x object old.objects }) (sym free)
 
@@ -48,7 +48,7 @@ if_memory P Q (Ok handle) so holds = so holds
 if_memory P Q (Err Full) so holds = so holds
 if_memory P Q (Err NoMemory) so holds = tt
 
--- These facts hold after an object was to be placed on a device. The result is as `Places` says.
+-- What holds after an attempt to place an object on a device. The result is as `Places` says.
 -- Unless an allocation failed, the call executed an event, and the device still follows its
 -- history.
 pub record Tells (can : Bool) (old : Record) (object : Object) (result : Result Handle SlotFault) (new : Record) : Type 0 where

@@ -9,11 +9,11 @@ use Rattle.tpm_record.specs.Tick.{ticked}
 use Rattle.tpm_types.specs.declared.refused.Refused.{Refused}
 use Rattle.tpm_types.specs.Check.{check_number}
 use Rattle.tpm_record.specs.rows.Refusals.{memory_refusal}
-use Rattle.tpm_step.specs.Answer.{refusal_text}
-use Rattle.tpm_step.specs.Events.{PlainEvent, Given, Cycled, Placed}
-use Rattle.tpm_step.specs.General.{in_command}
-use Rattle.tpm_step.specs.Safe.{IsHarmless}
-use Rattle.tpm_step.specs.Step.{Accepted, Answers, RefusesOrWantsMemory, Stepped, Steps, refusal_step, accepted, stepped_of, counted_in, refusal_without_memory, answer_without_memory, step, step_where, success_step}
+use Rattle.tpm_step.specs.step.Answer.{refusal_text}
+use Rattle.tpm_step.specs.step.Events.{PlainEvent, Given, Cycled, Placed}
+use Rattle.tpm_step.specs.step.General.{in_command}
+use Rattle.tpm_step.specs.step.Safe.{IsHarmless}
+use Rattle.tpm_step.specs.step.Step.{Accepted, Answers, RefusesOrWantsMemory, Stepped, Steps, refusal_step, accepted, stepped_of, counted_in, refusal_without_memory, answer_without_memory, step, step_where, success_step}
 use Rattle.tpm_step.specs.declared.refused_command.RefusedCommand.{RefusedCommand}
 
 -- A refusal has a response of ten bytes and reports its check. After the elapsed time was added to
@@ -47,12 +47,12 @@ step_harmless true r (Placed object) = λ refused. absurd (refused refl)
 pub steps_harmless : (can : Bool) (r : Record) (event : PlainEvent) (x : Stepped) → Steps can r event x → IsHarmless r event x
 steps_harmless can r event x (refused, only, is) = rw is (step_harmless refused r event)
 
--- an outcome equal to the step satisfies `Steps`: it is the case in which no allocation failed
+-- an outcome equal to the step satisfies `Steps`, as the case without a failed allocation
 pub steps_exactly : (can : Bool) (r : Record) (event : PlainEvent) (x : Stepped) → x ≡ step r event → Steps can r event x
 steps_exactly can r event x e = (false, λ t. absurd (false≢true t), e)
 
--- an answer equal to the defined answer satisfies `Answers`: it is the case in which no allocation
--- failed
+-- an answer equal to the defined answer satisfies `Answers`, as the case without a failed
+-- allocation
 pub answers_exactly : (can : Bool) (r : Record) (random : List ℕ) (a : Result Accepted RefusedCommand) (x : Stepped) → x ≡ stepped_of r random a → Answers can r random a x
 answers_exactly can r random a x e = (false, λ t. absurd (false≢true t), e)
 

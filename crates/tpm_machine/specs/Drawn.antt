@@ -3,9 +3,9 @@ use Rattle.std.specs.Prelude.{ℕ, zero, suc, ◌-◌, List, drop, length, Resul
 use Rattle.tpm_types_command.specs.AuthEntry.{Entry}
 use Rattle.tpm_record.specs.Record.{Record}
 use Rattle.tpm_record.specs.Tick.{ticked}
-use Rattle.tpm_step.specs.Entries.{entries_rolled}
-use Rattle.tpm_step.specs.Events.{PlainEvent, Given, Cycled, Placed}
-use Rattle.tpm_step.specs.Step.{Accepted, accepted}
+use Rattle.tpm_step.specs.step.Entries.{entries_rolled}
+use Rattle.tpm_step.specs.step.Events.{PlainEvent, Given, Cycled, Placed}
+use Rattle.tpm_step.specs.step.Step.{Accepted, accepted}
 
 -- the number of random bytes that a command draws in all: `drawn` by its row, and then the bytes
 -- for the new nonces of its entries

@@ -1,11 +1,11 @@
 -- The latest execution of a machine, reconstructed from the machine and the outcome.
 use Rattle.std.specs.Prelude.{◌≡◌, ℕ, Bool}
 use Rattle.tpm_record.specs.Record.{Record}
-use Rattle.tpm_step.specs.Events.{PlainEvent}
-use Rattle.tpm_step.specs.Execution.{Executes}
-use Rattle.tpm_step.specs.Step.{outcome_step}
+use Rattle.tpm_step.specs.step.Events.{PlainEvent}
+use Rattle.tpm_step.specs.step.Execution.{Executes}
+use Rattle.tpm_step.specs.step.Step.{outcome_step}
 use Rattle.tpm_step.specs.declared.event.Outcome.{Outcome}
-use Rattle.tpm_step.specs.Executions.{Execution}
+use Rattle.tpm_step.specs.history.Executions.{Execution}
 use Rattle.tpm_machine.specs.Drawn.{drawn_by}
 
 -- `one` is the latest execution of a machine whose record is now `now`. The event had this outcome,

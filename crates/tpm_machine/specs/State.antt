@@ -7,7 +7,7 @@ use Rattle.tpm_machine.specs.declared.machine.Machine.{Machine}
 abbrev pub state_of : {K S O P N : Type 0} → (K → Record) → Machine K S O P N → Record
 state_of record_of machine = record_of machine.keep
 
--- the machine after its state was replaced by this state
+-- the machine with this state instead of its own
 abbrev pub with_keep : {K S O P N : Type 0} → Machine K S O P N → K → Machine K S O P N
 with_keep machine keep = record machine { keep = keep }
 

@@ -8,7 +8,7 @@ ghost use Rattle.tpm_bytes.specs.Reading.{Reads};
 ghost use Rattle.tpm_commands.specs.CommandCode.{code_number, handle_count};
 ghost use Rattle.tpm_types_command.specs.Command.{command_at, whole_of};
 ghost use Rattle.tpm_types.specs.Refused.{refusal};
-ghost use Rattle.tpm_step.specs.General.{body_of, general, header_check, header_refusal, in_command, present_handle_at, present_handles_at, sessions_pass};
+ghost use Rattle.tpm_step.specs.step.General.{body_of, general, header_check, header_refusal, in_command, present_handle_at, present_handles_at, sessions_pass};
 
 use arrayvec::ArrayVec;
 use tpm_bytes::{Cursor, ReadableBy};
@@ -48,7 +48,7 @@ fn refusal_by(code: CommandCode, check: Check, rc: Rc) -> RefusedCommand
 
 /// Refuses a command that has sessions although it must not, or has none although a handle needs
 /// authorization.
-#[tactic(auto, unfolding(tpm_step::specs::General::sessions_pass))]
+#[tactic(auto, unfolding(tpm_step::specs::step::General::sessions_pass))]
 fn check_tag(code: CommandCode, tag: Tag) -> Result<(), Refused>
     ensures { result ≡ sessions_pass code tag }
 {
@@ -66,7 +66,7 @@ fn check_tag(code: CommandCode, tag: Tag) -> Result<(), Refused>
 
 /// Reads the handle with this number, counted from 1. The rule must allow the handle, and the
 /// entity that it names must exist.
-#[tactic(auto, unfolding(tpm_step::specs::General::present_handle_at))]
+#[tactic(auto, unfolding(tpm_step::specs::step::General::present_handle_at))]
 fn read_handle<K: Keep>(
     keep: &K,
     number: u8,
@@ -110,7 +110,7 @@ fn read_handles<K: Keep>(
 
 /// Decodes the bytes after a command's header, or returns the refusal of the first check that
 /// fails.
-#[tactic(auto, unfolding(tpm_step::specs::General::body_of))]
+#[tactic(auto, unfolding(tpm_step::specs::step::General::body_of))]
 fn decode_body<'a, K: Keep>(
     keep: &K,
     header: Header,
@@ -144,7 +144,7 @@ fn decode_body<'a, K: Keep>(
 }
 
 #[inline(always)]
-#[tactic(auto, unfolding(tpm_step::specs::General::general))]
+#[tactic(auto, unfolding(tpm_step::specs::step::General::general))]
 fn decode_whole<'a, K: Keep>(keep: &K, buffer: &'a [u8]) -> Result<Command<'a>, RefusedCommand>
     ensures decoded { Gives whole_of (general (K.record_of keep.now) buffer.now) result }
     ensures bytes { AreBytes buffer.now }

@@ -5,7 +5,7 @@ ghost use Rattle.std.specs.Prelude.{◌≡◌, ◌+◌, ◌*◌, ◌≤◌, ◌+
 ghost use Rattle.std.specs.List.{zip};
 ghost use Rattle.tpm_types_command.specs.AuthEntry.{entry_of};
 ghost use Rattle.tpm_auth.specs.SessionGrant.{demands_password};
-ghost use Rattle.tpm_step.specs.Entries.{answer_mac, draw_of, entries_answer, entries_ended, entries_rolled, entry_answer, entry_ended, entry_restarted, entry_rolled, session_answer};
+ghost use Rattle.tpm_step.specs.step.Entries.{answer_mac, draw_of, entries_answer, entries_ended, entries_rolled, entry_answer, entry_ended, entry_restarted, entry_rolled, session_answer};
 
 use crate::draws::Draws;
 use tpm_auth::{Cache, Grant, used_auth_value};
@@ -25,7 +25,7 @@ const PASSWORD_ANSWER: [u8; 5] = [0, 0, 1, 0, 0];
 pub const ENTRY_ANSWERS_LIMIT: usize = 207;
 
 /// The size of the next nonce of an entry's session.
-#[tactic(auto, unfolding(tpm_step::specs::Entries::draw_of))]
+#[tactic(auto, unfolding(tpm_step::specs::step::Entries::draw_of))]
 fn draw_of<K: Keep>(keep: &K, entry: &AuthEntry) -> usize
     ensures value { result ≡ draw_of (K.record_of keep.now) (entry_of entry.now) }
     ensures small { result ≤ 32 }
@@ -36,7 +36,7 @@ fn draw_of<K: Keep>(keep: &K, entry: &AuthEntry) -> usize
     }
 }
 
-#[tactic(auto, unfolding(tpm_step::specs::Entries::entry_rolled))]
+#[tactic(auto, unfolding(tpm_step::specs::step::Entries::entry_rolled))]
 fn roll_entry<K: Keep>(keep: &mut K, entry: &AuthEntry, draws: &mut Draws)
     requires { 32 ≤ length draws.old }
     ensures rolled { entry_rolled (K.record_of keep.old) (entry_of entry.now) draws.old
@@ -72,7 +72,7 @@ fn demands_password(grant: Option<Grant>) -> bool
 }
 
 /// The HMAC of the answer to an entry.
-#[tactic(auto, unfolding(tpm_step::specs::Entries::answer_mac))]
+#[tactic(auto, unfolding(tpm_step::specs::step::Entries::answer_mac))]
 fn answer_mac<K: Keep>(
     keep: &K,
     hashes: &mut ParameterHashes,
@@ -100,7 +100,7 @@ fn answer_mac<K: Keep>(
     )
 }
 
-#[tactic(auto, unfolding(tpm_step::specs::Entries::session_answer))]
+#[tactic(auto, unfolding(tpm_step::specs::step::Entries::session_answer))]
 fn answer_session<K: Keep>(
     keep: &K,
     hashes: &mut ParameterHashes,
@@ -122,7 +122,7 @@ fn answer_session<K: Keep>(
     area.append_sized(mac.as_slice());
 }
 
-#[tactic(auto, unfolding(tpm_step::specs::Entries::entry_answer))]
+#[tactic(auto, unfolding(tpm_step::specs::step::Entries::entry_answer))]
 fn answer_entry<K: Keep>(
     keep: &K,
     hashes: &mut ParameterHashes,
@@ -168,7 +168,7 @@ pub fn answer_entries<K: Keep>(
 }
 
 /// Resets the policy of an entry's session to its initial state, if it is a policy session.
-#[tactic(auto, unfolding(tpm_step::specs::Entries::entry_restarted), using(tpm_policy::proofs::Sizes::starting_sized))]
+#[tactic(auto, unfolding(tpm_step::specs::step::Entries::entry_restarted), using(tpm_policy::proofs::Sizes::starting_sized))]
 fn restart_entry<K: Keep>(keep: &mut K, entry: &AuthEntry)
     ensures { K.record_of keep.new ≡ entry_restarted (K.record_of keep.old) (entry_of entry.now) }
 {
@@ -179,7 +179,7 @@ fn restart_entry<K: Keep>(keep: &mut K, entry: &AuthEntry)
     keep.sessions_mut().set_policy(entry.session, policy);
 }
 
-#[tactic(auto, unfolding(tpm_step::specs::Entries::entry_ended))]
+#[tactic(auto, unfolding(tpm_step::specs::step::Entries::entry_ended))]
 fn end_entry<K: Keep>(keep: &mut K, entry: &AuthEntry, grant: Option<Grant>)
     ensures { K.record_of keep.new
         ≡ entry_ended (K.record_of keep.old) (entry_of entry.now) grant }

@@ -6,14 +6,14 @@ ghost use Rattle.std.specs.Prelude.{◌≡◌, ◌≤◌, ◌<◌, ◌^◌, List
 ghost use Rattle.std.specs.Borrow.{Lends, sem};
 ghost use Rattle.tpm_record.specs.IsRecord.{IsRecord};
 ghost use Rattle.tpm_record.specs.Record.{manufactured};
-ghost use Rattle.tpm_step.specs.Events.{IsEvent, plain_event};
-ghost use Rattle.tpm_step.specs.Run.{Runs, after_all};
-ghost use Rattle.tpm_step.specs.Execution.{Executes};
-ghost use Rattle.tpm_step.specs.Safe.{IsModestIfAccepted};
+ghost use Rattle.tpm_step.specs.step.Events.{IsEvent, plain_event};
+ghost use Rattle.tpm_step.specs.step.Run.{Runs, after_all};
+ghost use Rattle.tpm_step.specs.step.Execution.{Executes};
+ghost use Rattle.tpm_step.specs.step.Safe.{IsModestIfAccepted};
 ghost use Rattle.tpm_machine.specs.State.{state_of};
-ghost use Rattle.tpm_step.specs.Step.{Steps, outcome_step};
-ghost use Rattle.tpm_step.specs.Follows.{Follows, FollowsOn, RunFollows};
-ghost use Rattle.tpm_step.specs.History.{History};
+ghost use Rattle.tpm_step.specs.step.Step.{Steps, outcome_step};
+ghost use Rattle.tpm_step.specs.history.Follows.{Follows, FollowsOn, RunFollows};
+ghost use Rattle.tpm_step.specs.history.History.{History};
 
 mod placing;
 
@@ -52,7 +52,7 @@ impl<K: Keep> Machine<K> {
     /// Manufactures a device. Its memory comes from `alloc`, and the secrets of its hierarchies
     /// come from the random bytes.
     pub fn manufacture(alloc: Global, random: &[u8; 256]) -> Result<Machine<K>, NoMemory>
-        // An error is possible only if creating an empty state may fail to allocate.
+        // An error is possible only if an allocation for an empty state can fail.
         ensures refused { OnErr result (K.empty_can_refuse ≡ true) }
         ensures state { IfOk result (λ machine. state_of K.record_of machine
             ≡ manufactured random.now) }
@@ -107,9 +107,9 @@ impl<K: Keep> Machine<K> {
         self.drawn
     }
 
-    /// Executes one event. The response, the row and the new state are those that the event's step
-    /// defines, except that a command that may allocate can return MEMORY instead of succeeding.
-    /// `Executes` also states facts about every outcome and every record.
+    /// Executes one event. The event's step defines the response, the row and the new state, except
+    /// that a command that may allocate can return MEMORY instead of succeeding. `Executes` also
+    /// states facts about every outcome and every record.
     pub fn execute(&mut self, event: &Event) -> Outcome
         ensures executes { Executes K.can_refuse (state_of K.record_of self.old)
             (plain_event event.now) (outcome_step (state_of K.record_of self.new) result) }
@@ -216,12 +216,12 @@ impl<K: Keep> Machine<K> {
 
     ghost use Rattle.tpm_machine.specs.Drawn.{drawn_by_command};
     ghost use Rattle.tpm_types.specs.Locality.{locality_number};
-    ghost use Rattle.tpm_step.specs.Safe.{IsModest};
-    ghost use Rattle.tpm_step.specs.Step.{Answers, accepted};
+    ghost use Rattle.tpm_step.specs.step.Safe.{IsModest};
+    ghost use Rattle.tpm_step.specs.step.Step.{Answers, accepted};
 
     /// Executes the command in a buffer, writes the response, and returns the row. The elapsed time
     /// has already been added to the clock.
-    #[tactic(auto, unfolding(tpm_step::specs::Step::accepted))]
+    #[tactic(auto, unfolding(tpm_step::specs::step::Step::accepted))]
     fn command(
         &mut self,
         buffer: &[u8],
@@ -265,8 +265,8 @@ impl<K: Keep> Machine<K> {
     ghost use Rattle.std.specs.Prelude.{Ok};
     ghost use Rattle.tpm_types_command.specs.Command.{whole_of};
     ghost use Rattle.tpm_auth.specs.Grant.{authorize as authorization};
-    ghost use Rattle.tpm_step.specs.General.{in_command};
-    ghost use Rattle.tpm_step.specs.Step.{acceptance};
+    ghost use Rattle.tpm_step.specs.step.General.{in_command};
+    ghost use Rattle.tpm_step.specs.step.Step.{acceptance};
 
     /// Executes an authorized command. `grants` says which handles its entries authorize.
     #[inline(always)]
@@ -317,8 +317,8 @@ impl<K: Keep> Machine<K> {
 }
 
 ghost use Rattle.tpm_types.specs.Check.{check_number};
-ghost use Rattle.tpm_step.specs.Step.{counted_in, settled};
-ghost use Rattle.tpm_step.specs.Answer.{refusal_text};
+ghost use Rattle.tpm_step.specs.step.Step.{counted_in, settled};
+ghost use Rattle.tpm_step.specs.step.Answer.{refusal_text};
 ghost use Rattle.tpm_types.specs.Locality.{locality_number};
 
 /// Does nothing. Its contract states what the argument types guarantee for the event of every

@@ -7,7 +7,7 @@ ghost use Rattle.tpm_session.specs.Encryption.{encrypted_parameter, plain_parame
 ghost use Rattle.tpm_session.specs.FirstBuffer.{with_first_buffer};
 ghost use Rattle.tpm_types.specs.Limits.{buffer_limit};
 ghost use Rattle.tpm_types_command.specs.AuthEntry.{entry_of};
-ghost use Rattle.tpm_step.specs.Parameters.{asks_for, entry_parameters, session_bytes, session_parameters};
+ghost use Rattle.tpm_step.specs.step.Parameters.{asks_for, entry_parameters, session_bytes, session_parameters};
 
 use tpm_auth::{Grant, decrypts, encrypts, granted_value};
 use tpm_record::Keep;
@@ -72,7 +72,7 @@ fn pass_first(
     }
 }
 
-#[tactic(auto, unfolding(tpm_step::specs::Parameters::entry_parameters))]
+#[tactic(auto, unfolding(tpm_step::specs::step::Parameters::entry_parameters))]
 fn pass_by<K: Keep>(
     direction: Direction,
     keep: &K,

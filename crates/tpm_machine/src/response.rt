@@ -7,9 +7,9 @@ ghost use Rattle.std.specs.List.{zip};
 ghost use Rattle.tpm_types_command.specs.AuthEntry.{entry_of};
 ghost use Rattle.tpm_types_command.specs.Command.{whole_of};
 ghost use Rattle.tpm_machine.specs.Drawn.{bytes_drawn};
-ghost use Rattle.tpm_step.specs.Answer.{answer_to, framed, handle_answer, refusal_tag, refusal_text, text_of};
-ghost use Rattle.tpm_step.specs.Entries.{DrawsFew};
-ghost use Rattle.tpm_step.specs.Parameters.{encrypted_answer};
+ghost use Rattle.tpm_step.specs.step.Answer.{answer_to, framed, handle_answer, refusal_tag, refusal_text, text_of};
+ghost use Rattle.tpm_step.specs.step.Entries.{DrawsFew};
+ghost use Rattle.tpm_step.specs.step.Parameters.{encrypted_answer};
 
 use crate::draws::Draws;
 use crate::entries::{ENTRY_ANSWERS_LIMIT, answer_entries, end_entries, roll_entries};
@@ -169,7 +169,7 @@ fn write_with_sessions<K: Keep>(
 }
 
 /// Writes the response to a successful command, and returns how many random bytes the command drew.
-#[tactic(auto, unfolding(tpm_step::specs::Answer::success_text, tpm_step::specs::Answer::answer_to))]
+#[tactic(auto, unfolding(tpm_step::specs::step::Answer::success_text, tpm_step::specs::step::Answer::answer_to))]
 pub fn write_success<K: Keep>(
     keep: &mut K,
     command: &Command,

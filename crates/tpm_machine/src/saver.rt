@@ -8,11 +8,11 @@
 //! does with them. Witnesses work the same way.
 
 ghost use Rattle.std.specs.Prelude.{◌≡◌, Bool, OnErr, OnOk, false, true};
-ghost use Rattle.tpm_step.specs.Executions.{Execution};
+ghost use Rattle.tpm_step.specs.history.Executions.{Execution};
 ghost use Rattle.tpm_machine.specs.State.{latest_drawn, state_of};
 ghost use Rattle.tpm_record.specs.Record.{Record};
 ghost use Rattle.tpm_machine.specs.Latest.{IsLatest};
-ghost use Rattle.tpm_step.specs.Events.{plain_event};
+ghost use Rattle.tpm_step.specs.step.Events.{plain_event};
 
 use crate::machine::Machine;
 use tpm_record::Keep;

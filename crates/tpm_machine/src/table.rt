@@ -12,9 +12,9 @@ ghost use Rattle.tpm_auth.specs.Grant.{authorize};
 ghost use Rattle.tpm_record.specs.rows.Answer.{IsEmpty};
 ghost use Rattle.tpm_record.specs.rows.Request.{request_of};
 ghost use Rattle.tpm_record.specs.rows.Rows.{ActsIfRoom};
-ghost use Rattle.tpm_step.specs.Step.{Accepts, acceptance};
-ghost use Rattle.tpm_step.specs.Table.{row_of};
-ghost use Rattle.tpm_step.specs.Parameters.{plain_parameters};
+ghost use Rattle.tpm_step.specs.step.Step.{Accepts, acceptance};
+ghost use Rattle.tpm_step.specs.step.Table.{row_of};
+ghost use Rattle.tpm_step.specs.step.Parameters.{plain_parameters};
 
 use crate::parameters::pass_parameters;
 use arrayvec::ArrayVec;
@@ -77,7 +77,7 @@ use tpm_types_command::{AuthEntry, Command};
 
 /// Executes the row of a command. Only a command that may allocate can return MEMORY.
 #[inline(always)]
-#[tactic(auto, unfolding(tpm_step::specs::Table::row_of, tpm_commands::specs::CommandCode::shape_of))]
+#[tactic(auto, unfolding(tpm_step::specs::step::Table::row_of, tpm_commands::specs::CommandCode::shape_of))]
 fn act<K: Keep>(
     keep: &mut K,
     code: CommandCode,
@@ -193,7 +193,7 @@ fn act_decrypted<K: Keep>(
 
 /// Executes the row of an authorized command. `grants` says which handles its entries authorize. A
 /// refusal leaves the record unchanged.
-#[tactic(auto, using(crate::proofs::DecodingLaws::plain_as_sent), unfolding(tpm_step::specs::Step::acceptance))]
+#[tactic(auto, using(crate::proofs::DecodingLaws::plain_as_sent), unfolding(tpm_step::specs::step::Step::acceptance))]
 pub fn accept<K: Keep>(
     keep: &mut K,
     command: &Command,

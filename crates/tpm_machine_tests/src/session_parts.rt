@@ -308,8 +308,8 @@ fn an_entry_s_text_is_written(rt: HostRuntime) {
     check(&rt, short.len(), 0);
 }
 
-/// Encrypts the plaintext parameter, compares the result with the expected one, and decrypts it
-/// again.
+/// Encrypts the plaintext parameter, compares the result with the expected ciphertext, and decrypts
+/// it again.
 fn close_and_open<R: Abort>(rt: &R, symmetric: SymmetricDefinition, encrypted: &[u8]) {
     let session = bound_session(rt, symmetric);
     let mut parameter = [0; 25];

@@ -33,7 +33,7 @@ first_is_no_plus radix (c ∷ cs) small some d = λ plus. absurd (worthless c pl
     worthless : (c : ℕ) → c ≡ 43 → digit_value c < radix → ⊥
     worthless c plus h = let same = ap digit_value plus in omega (arith, same)
 
--- A text that is empty or contains a byte that is not a digit is not a number.
+-- A text is not a number if it is empty or contains a byte that is not a digit.
 pub no_digits : (most radix : ℕ) (digits : List ℕ) → length digits ≡ 0 → at_most most (numeral radix digits) ≡ Err Bad
 unfolding at_most numeral
 no_digits most radix [] none = refl
@@ -48,7 +48,7 @@ other_bytes most radix (c ∷ cs) other = rw other refl
 pub digits_are_utf8 : (radix : ℕ) (digits : List ℕ) → radix ≤ 36 → list_all (is_digit radix) digits ≡ true → IsUtf8 digits
 digits_are_utf8 radix digits small all = IsUtf8-from_ascii digits (digits_are_ascii radix digits small ((each_decides radix digits).0 all))
 
--- If a text is not empty and consists of digits, the number in it is the value of these digits.
+-- A text of one or more digits encodes the value of these digits.
 is_number : (radix : ℕ) (digits : List ℕ) → 0 < length digits → list_all (is_digit radix) digits ≡ true → numeral radix digits ≡ Some (digits_value radix digits)
 unfolding numeral
 is_number radix [] some all = absurd (omega arith)

@@ -58,7 +58,7 @@ none_below [] key low above under = refl
 none_below (e ∷ es) key low above under =
     rw (ne_eqb e.0 key (λ same. omega (arith, same, above.0, under))) (none_below es key low above.1 under)
 
--- A key below an entry's key is found neither at that entry nor after it.
+-- In a sorted list, a key below an entry's key is not found from that entry on.
 pub none_from : (es : Entries Head) (i key : ℕ) (d : ℕ × Head) → i < length es → Ascends (drop i es) → key ≤ (get_or es i d).0 → key ≢ (get_or es i d).0 → at_key (drop i es) key ≡ None
 none_from [] i key d in_es up under apart = absurd (omega (arith, in_es))
 none_from (e ∷ es) zero key d in_es up under apart =
@@ -280,8 +280,8 @@ put_back start size area fits =
     let many : length (take size behind) ≡ size = length-take-le size behind (omega (arith, fits, length-drop start area)) in
     rw (many, ← drop-drop size start area, take-append-drop size behind, take-append-drop start area) refl
 
--- Bytes can be written into a piece either before or after the piece is written into an area: the
--- resulting area is the same.
+-- The area is the same whether bytes are written into a piece before or after the piece is written
+-- into the area.
 put_inside : (start offset : ℕ) (inner piece area : List ℕ) → start + length piece ≤ length area → offset + length inner ≤ length piece → put_over (start + offset) inner (put_over start piece area) ≡ put_over start (put_over offset inner piece) area
 put_inside start offset inner piece area fits within =
     let front = take start area in
@@ -299,8 +299,8 @@ put_inside start offset inner piece area fits within =
     ∙ drop-append-le (offset + length inner) piece back within in
     rw (first, last, length_put offset inner piece within) (simp append_assoc refl)
 
--- Writing bytes into a piece that is read from an area, and writing the piece back, equals writing
--- the bytes into the area.
+-- Reading a piece from an area, writing bytes into it, and writing the piece back is the same as
+-- writing the bytes into the area.
 pub put_within : (start size offset : ℕ) (inner area : List ℕ) → start + size ≤ length area → offset + length inner ≤ size → put_over (start + offset) inner area ≡ put_over start (put_over offset inner (piece_of start size area)) area
 put_within start size offset inner area fits within =
     let piece = piece_of start size area in
@@ -328,7 +328,7 @@ closed_again start size piece area inside same =
     ∙ drop_at piece (drop start area) size same in
     rw (take_at front (piece ++ drop start area) start many, behind) (take-append-drop start area)
 
--- Writing a piece into an opened gap equals inserting the piece, padded with zeros if it is
+-- Writing a piece into an opened gap is the same as inserting the piece, padded with zeros if it is
 -- shorter than the gap.
 pub put_opened : (start size : ℕ) (piece area : List ℕ) → start ≤ length area → length piece ≤ size → put_over start piece (opened start size area) ≡ take start area ++ ((piece ++ replicate (size - length piece) 0) ++ drop start area)
 put_opened start size piece area inside within =

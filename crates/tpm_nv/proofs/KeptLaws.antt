@@ -53,14 +53,13 @@ there_is es area count handle (Some h) kept is =
       },
     )
 
--- If a property holds for whatever index a search returns, and the search returned this index, the
--- property holds for this index.
+-- If the result of a search has a property, the index that the search found has this property.
 pub known_of : (P : NvIndex → Type 0) (found : Option NvIndex) (x : NvIndex) → found ≡ Some x → IsSomeAnd found P → P x
 known_of P None x is known = absurd cc
 known_of P (Some y) x is known = let same : y ≡ x = cc in subst P same known
 
--- If the new heads and area represent the old indices with one index changed, they represent the
--- old contents with this index changed.
+-- If the new heads and area represent the old indices with one index changed, the contents change
+-- in the same way.
 pub contents_changed : (es new : Entries Head) (area after : List ℕ) (count : ℕ) (handle : Handle) (shown : NvContents) (x : NvIndex) (f : NvIndex → NvIndex) → (let view : NvContents = record { indices = indices_of es area; max_count = count } in view ≡ shown) → at_key (indices_of es area) handle.number ≡ Some x → indices_of new after ≡ changed_key (indices_of es area) handle.number (f x) → (index : NvIndex) → index_at shown handle ≡ Some index → (let view : NvContents = record { indices = indices_of new after; max_count = count } in view ≡ changed_index shown handle (f index))
 contents_changed es new area after count handle shown x f view found seen index is =
     let there : at_key (indices_of es area) handle.number ≡ Some index = ap (λ (s : NvContents). index_at s handle) view ∙ is in
@@ -137,8 +136,8 @@ length_filled true start size byte area fits = refl
 length_filled false start size byte area fits =
     length_put start (replicate size byte) area (omega (arith, fits, length-replicate {A = ℕ} size byte))
 
--- Filling a piece of the area, if it is unwritten, and then writing bytes into it can be done in a
--- copy of the piece. If the copy then replaces the piece, the result is the same.
+-- Filling an unwritten piece and then writing bytes into it has the same result in the area as in a
+-- copy that then replaces the piece.
 filled_put : (is_written : Bool) (start size offset byte : ℕ) (bytes area : List ℕ) → start + size ≤ length area → offset + length bytes ≤ size → put_over (start + offset) bytes (filled is_written start size byte area) ≡ put_over start (put_over offset bytes (cond is_written (piece_of start size area) (replicate size byte))) area
 filled_put true start size offset byte bytes area fits within = put_within start size offset bytes area fits within
 filled_put false start size offset byte bytes area fits within =
@@ -148,8 +147,7 @@ filled_put false start size offset byte bytes area fits within =
 abbrev pub written_head : Head → Head
 written_head h = with_attributes h (with_attribute h.public.attributes attribute.Written)
 
--- The data of an index with this head and `bytes` is `bytes` or, before the first write, copies of
--- `byte`.
+-- The data of an index with this head is `bytes` or, before the first write, copies of `byte`.
 data_is : (h : Head) (bytes : List ℕ) (byte : ℕ) → data_or byte (index_with h bytes) ≡ cond (has h.public.attributes attribute.Written) bytes (replicate (size_of h) byte)
 data_is h bytes byte = by (has h.public.attributes attribute.Written)
   where
@@ -197,8 +195,8 @@ kept_put es area bytes key offset byte h kept there within =
     refl
     (length_put_filled es area bytes key offset byte h kept there within)
 
--- The result of a write stays the same if the offset, the size and the written state of the index
--- replace the equal values that the code uses.
+-- Replaces the code's offset, size and written state in the result of a write by the equal values
+-- of the index.
 pub put_is : (after bytes area : List ℕ) (is_written : Bool) (start size offset byte from many : ℕ) (b : Bool) → after ≡ put_over (from + offset) bytes (filled b from many byte area) → b ≡ is_written → from ≡ start → many ≡ size → after ≡ put_over (start + offset) bytes (filled is_written start size byte area)
 put_is after bytes area is_written start size offset byte from many b is written from_is size_is =
     is
@@ -221,8 +219,8 @@ pub seen_head : (es : Entries Head) (area : List ℕ) (key : ℕ) (found : Optio
 seen_head es area key None up is = rw (none_among es area key (sym is)) refl
 seen_head es area key (Some h) up is = rw (found_among es area key h.now up (sym is)) refl
 
--- If an index exists and has a property, its head is found, and the index that this head and its
--- bytes represent has the property.
+-- If an index with some property exists, its head is found, and the index that this head and its
+-- bytes represent has the same property.
 pub head_of_index : (P : NvIndex → Type 0) (es : Entries Head) (area : List ℕ) (count : ℕ) (handle : Handle) (shown : NvContents) → (let view : NvContents = record { indices = indices_of es area; max_count = count } in view ≡ shown) → AreKept es area → IsSomeAnd (index_at shown handle) P → (h : Head) × (at_key es handle.number ≡ Some h) × P (index_with h (piece_of (start_of es handle.number) (size_of h) area))
 head_of_index P es area count handle shown view kept known = by (at_key es handle.number) refl
   where

@@ -19,7 +19,7 @@ use Rattle.tpm_nv.proofs.KeptLaws.{is_head_with}
 abbrev started_entry : ℕ × Head → ℕ × Head
 started_entry e = (e.0, started_head e.1)
 
--- the heads after the startup has changed the first `count` of them
+-- the heads after the startup has changed the first `count` heads
 abbrev pub started_up_to : ℕ → Entries Head → Entries Head
 started_up_to count es = map started_entry (take count es) ++ drop count es
 
@@ -35,14 +35,13 @@ entry_there [] i inside = absurd (omega arith)
 entry_there (f ∷ es) zero inside = (f, refl)
 entry_there (f ∷ es) (suc i) inside = entry_there es i (omega arith)
 
--- As long as the startup has changed only earlier entries, an entry is unchanged.
+-- The startup does not change an entry before its turn.
 pub same_in_turn : (es : Entries Head) (i : ℕ) (e : ℕ × Head) → i < length es → get_or (started_up_to i es) i e ≡ get_or es i e
 same_in_turn [] i e inside = absurd (omega arith)
 same_in_turn (f ∷ es) zero e inside = refl
 same_in_turn (f ∷ es) (suc i) e inside = same_in_turn es i e (omega arith)
 
--- As long as the startup has changed only earlier entries, a search for an entry's key finds the
--- entry.
+-- A search for the key of an entry whose turn has not come yet finds the entry.
 pub found_in_turn : (es : Entries Head) (i : ℕ) (e : ℕ × Head) → Ascends es → i < length es → get_or es i e ≡ e → at_key (started_up_to i es) e.0 ≡ Some e.1
 found_in_turn [] i e up inside is = absurd (omega arith)
 found_in_turn (f ∷ es) zero e up inside is =

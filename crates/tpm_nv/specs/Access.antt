@@ -99,10 +99,10 @@ written contents handle offset bytes = do
 abbrev pub counted : NvContents → ℕ → NvContents
 counted contents count = record contents { max_count = max contents.max_count count }
 
--- the contents after TPM2_NV_Increment: the counter is incremented. Its first increment makes it
--- one more than the largest value that any counter has ever had (section 31.2). That largest value
--- is raised to the counter's new value if it was lower. The new value must be at most 2^64 - 1 (a
--- choice of this implementation)
+-- the contents after TPM2_NV_Increment, which increments a counter. The first increment sets the
+-- counter to one more than the largest value that any counter has ever had (section 31.2). That
+-- largest value is raised to the counter's new value if the new value is larger. The new value must
+-- be at most 2^64 - 1 (a choice of this implementation)
 unfoldable pub incremented : NvContents → Handle → Result NvContents WriteFault
 incremented contents handle = do
   index ← index_or_fault contents handle write_fault.Undefined

@@ -48,7 +48,7 @@ undefinable_attributes =
     attribute.Written ∷ attribute.ReadLocked ∷ attribute.WriteLocked
     ∷ attribute.PolicyDelete ∷ attribute.GlobalLock ∷ attribute.Orderly ∷ []
 
--- for each of these faults, whether the attributes of a new index have it: the type is not
+-- for each fault that the attributes of a new index can have, whether they have it: the type is not
 -- supported; an attribute is set that a definition may not set; nobody may write; nobody may read;
 -- the index is a counter that a startup clears; PLATFORMCREATE is set but the owner defines the
 -- index, or not set but the platform does

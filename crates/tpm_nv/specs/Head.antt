@@ -42,12 +42,12 @@ indices_of [] area = []
 indices_of (e ∷ es) area =
     (e.0, index_with e.1 (take (size_of e.1) area)) ∷ indices_of es (drop (size_of e.1) area)
 
--- the number of bytes of all these indices (`total`), and of the indices with keys below this key
--- (`start_of`)
+-- the number of bytes of all these indices
 abbrev pub total : Entries Head → ℕ
 total [] = 0
 total (e ∷ es) = size_of e.1 + total es
 
+-- the number of bytes of the indices with keys below this key
 abbrev pub start_of : Entries Head → ℕ → ℕ
 start_of [] key = 0
 start_of (e ∷ es) key = if nat_le key e.0 then 0 else size_of e.1 + start_of es key

@@ -27,16 +27,17 @@ no_indices = record { indices = []; max_count = 0 }
 abbrev pub index_at : NvContents → Handle → Option NvIndex
 index_at contents handle = at_key contents.indices handle.number
 
--- the contents after an index was added (`with_index`), replaced (`changed_index`) or removed
--- (`without_index`)
+-- the contents after an index was added
 abbrev pub with_index : NvContents → Handle → NvIndex → NvContents
 with_index contents handle index =
     record contents { indices = with_key contents.indices handle.number index }
 
+-- the contents after an index was replaced
 abbrev pub changed_index : NvContents → Handle → NvIndex → NvContents
 changed_index contents handle index =
     record contents { indices = changed_key contents.indices handle.number index }
 
+-- the contents after an index was removed
 abbrev pub without_index : NvContents → Handle → NvContents
 without_index contents handle =
     record contents { indices = without_key contents.indices handle.number }

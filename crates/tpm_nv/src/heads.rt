@@ -84,8 +84,8 @@ pub(crate) fn set_auth_value<H: SortedMap<Head, NV_INDEX_LIMIT>>(
     }
 }
 
-/// A proof only: states the bounds that the type of an authorization value guarantees. It has no
-/// effect at run time.
+/// States the bounds that the type of an authorization value guarantees. This function is only a
+/// proof: it has no effect at run time.
 pub(crate) fn auth_value_fits(value: &AuthValue)
     ensures { IsAuthValue value.now }
 {

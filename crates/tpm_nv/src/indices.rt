@@ -137,8 +137,8 @@ pub trait Indices: Drop + Sized {
     fn set_max_count(&mut self, count: u64)
         ensures { contents self.new ≡ record (contents self.old) { max_count = count } };
 
-    /// A proof only: states the facts that always hold for the indices. It has no effect at run
-    /// time.
+    /// States the facts that always hold for the indices. This function is only a proof: it has no
+    /// effect at run time.
     fn read_sizes(&self)
         ensures { IsContents (contents self.now) };
 }

@@ -84,7 +84,7 @@ pub fn create(template: &Public, given: &SensitiveCreate, random: &[u8; 256]) ->
 
 /// The public and sensitive areas of a new object have the same type, whether made from random
 /// bytes or from a seed. Therefore, the private area that the parent makes can be unwrapped again
-/// with the object's public area. A proof only: it has no effect at run time.
+/// with the object's public area. This function is only a proof: it has no effect at run time.
 #[inline(always)]
 #[tactic(auto, unfolding(crate::specs::Areas::created, crate::specs::Areas::new_object_areas, crate::specs::Primary::primary_areas))]
 pub fn area_laws()

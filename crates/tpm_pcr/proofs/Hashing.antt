@@ -1,5 +1,5 @@
--- Feeding a hasher the values of the selected PCRs one by one, bank by bank, equals feeding it
--- their concatenation.
+-- Feeding a hasher the values of the selected PCRs one by one, bank by bank, is the same as feeding
+-- it their concatenation.
 use Rattle.tpm_bytes.specs.Numbers.{numbers_below}
 use Rattle.std.proofs.Common.{◌≡◌, ℕ, ◌+◌, ◌<◌, Bool, true, false, cond, List, [], ◌∷◌, ◌++◌, add-one, ap, append-nil, append_assoc, filter, get_or, length, map, refl, subst, sym, take, ◌∙◌}
 use Rattle.std.proofs.lemmas.Grind.{flat_map-append}
@@ -15,13 +15,12 @@ use Rattle.tpm_types.specs.declared.pcr_selection.BankSelection.{BankSelection}
 use Rattle.tpm_pcr.specs.Banks.{all_pcrs, pcr_value, selected_pcrs, selected_values}
 use Rattle.tpm_pcr.specs.Values.{BankValues}
 
--- the concatenated values of the selected PCRs of a bank whose numbers are below n
+-- the concatenated values of a bank's selected PCRs with numbers below n
 abbrev pub text_below : BankValues → BankSelection → ℕ → List ℕ
 text_below all bank n =
     concat (map (pcr_value all bank.hash) (filter (is_selected bank.select) (numbers_below n)))
 
--- If number n is chosen, the list `f n` is appended to the concatenated lists of the numbers chosen
--- before n; otherwise nothing is appended.
+-- Choosing the number n appends `f n` to the concatenated lists; not choosing it appends nothing.
 joined_cond : (f : ℕ → List ℕ) (front : List ℕ) (n : ℕ) (b : Bool)
     → concat (map f (front ++ cond b (n ∷ []) [])) ≡ concat (map f front) ++ cond b (f n) []
 joined_cond f front n true =
@@ -58,8 +57,8 @@ banks_joined_more all banks i bank below =
     ∙ concat-append (flat_map (selected_values all) (take i banks)) _
     ∙ ap (λ (l : List (List ℕ)). concat (flat_map (selected_values all) (take i banks)) ++ concat l) (append-nil (selected_values all (get_or banks i bank)))
 
--- Suppose that a hasher was fed the values of the selected PCRs below n, and then the value of PCR
--- n if it is selected. Then it was fed the values of the selected PCRs below n + 1.
+-- One step of the loop over the PCRs: a hasher that has taken the values of the selected PCRs below
+-- n, and then the value of PCR n if it is selected, has taken the values below n + 1.
 pub taken_more : (all : BankValues) (bank : BankSelection) (n pcr : ℕ) (start before after : Hasher) → pcr ≡ n
     → Takes start (text_below all bank n) before
     → Takes before (cond (is_selected bank.select pcr) (pcr_value all bank.hash pcr) []) after
@@ -79,8 +78,8 @@ pub taken_all : (all : BankValues) (bank : BankSelection) (n : ℕ) (start after
 taken_all all bank n start after done so_far =
     subst (λ (text : List ℕ). Takes start text after) (ap (text_below all bank) done ∙ text_below_all all bank) so_far
 
--- Suppose that a hasher was fed the values of the first i banks, and then the values of bank i.
--- Then it was fed the values of the first i + 1 banks.
+-- One step of the loop over the banks: a hasher that has taken the values of the first i banks, and
+-- then of bank i, has taken the values of the first i + 1 banks.
 pub held_more : (all : BankValues) (banks : List BankSelection) (i : ℕ) (bank : BankSelection) (hash : HashAlg)
     (before after : Hasher) → i < length banks → bank ≡ get_or banks i bank
     → Holds before hash (concat (flat_map (selected_values all) (take i banks)))

@@ -37,7 +37,7 @@ new_values alg.Sha256 pcr below = get_or-map (starting_value alg.Sha256) (number
 
 -- ---- replacing one value
 
--- whether two banks are the same bank
+-- whether two hash algorithms name the same bank
 abbrev same_bank : HashAlg → HashAlg → Bool
 same_bank alg.Sha1 alg.Sha1 = true
 same_bank alg.Sha1 alg.Sha256 = false

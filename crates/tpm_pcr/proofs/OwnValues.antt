@@ -13,13 +13,13 @@ use Rattle.tpm_types.specs.Pcr.{is_selected, with_pcr}
 use Rattle.tpm_pcr.specs.Banks.{all_pcrs, answer_selection, pcr_value, read_values, select_with, selected_pcrs, selected_values}
 use Rattle.tpm_pcr.proofs.Reading.{chosen_more, read_values-nil, take-append}
 
--- Adding a PCR to a selection selects this PCR, and does not affect whether any other PCR is
--- selected.
+-- Adding a PCR to a selection selects this PCR.
 added_here : (select n : ℕ) → bit_at (with_pcr select n) n ≡ 1
 added_here select n =
     let low : bit_at select n < 2 = bit_at-lt select n in
     bit_at_or select (2 ^ n) n ∙ ap (max (bit_at select n)) (bit_at-pow_same n) ∙ omega arith
 
+-- Adding a PCR to a selection does not affect whether any other PCR is selected.
 added_there : (select n k : ℕ) → (k ≡ n → ⊥) → bit_at (with_pcr select n) k ≡ bit_at select k
 added_there select n k other = bit_at_or select (2 ^ n) k ∙ ap (max (bit_at select k)) (bit_at-pow_other n k other) ∙ omega arith
 

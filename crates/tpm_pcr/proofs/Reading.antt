@@ -21,8 +21,8 @@ le_false a b e = grind (arith, nat_tests)
 lt_false : (a b : ℕ) → nat_lt a b ≡ false → a < b → ⊥
 lt_false a b e below = let above : b ≤ a = grind (arith, nat_tests) in absurd (omega arith)
 
--- If a list has fewer than `room` elements, an element appended to it is also appended to its first
--- `room` elements. Otherwise its first `room` elements do not change.
+-- An element that is appended to a list with fewer than `room` elements is also appended to the
+-- list's first `room` elements.
 take_push_room : {X : Type 0} (room : ℕ) (xs : List X) (x : X) → nat_lt (length xs) room ≡ true → take room (xs ++ x ∷ []) ≡ take room xs ++ x ∷ []
 take_push_room room xs x e =
     let below : length xs < room = grind (arith, nat_tests) in
@@ -30,6 +30,8 @@ take_push_room room xs x e =
     let short : length xs ≤ room = omega arith in
     take_all room (xs ++ x ∷ []) longer ∙ ap (λ l. l ++ x ∷ []) (sym (take_all room xs short))
 
+-- If a list has at least `room` elements, appending an element does not change its first `room`
+-- elements.
 take_push_full : {X : Type 0} (room : ℕ) (xs : List X) (x : X) → nat_lt (length xs) room ≡ false → take room (xs ++ x ∷ []) ≡ take room xs
 take_push_full room xs x e =
     let above : room ≤ length xs = grind (arith, nat_tests) in
@@ -46,13 +48,13 @@ same_test a b c d false false e f h k = refl
 same_test a b c d true false e f h k = absurd (lt_false c d f (h (lt_true a b e)))
 same_test a b c d false true e f h k = absurd (lt_false a b e (k (lt_true c d f)))
 
--- Suppose that `old` values were read, and then up to k more values, until there were eight in all.
--- One more value can be read exactly when k is less than 8 - `old`.
+-- If `old` values were read, and then up to k more until there were eight, another value can be
+-- read exactly when k is below 8 - `old`.
 pub room_left : (old k : ℕ) → nat_lt (old + min (8 - old) k) 8 ≡ nat_lt k (8 - old)
 room_left old k = same_test (old + min (8 - old) k) 8 k (8 - old) _ _ refl refl (λ h. omega arith) (λ h. omega arith)
 
--- The first `room` chosen PCRs below n + 1 are the first `room` chosen PCRs below n. If PCR n is
--- chosen and there is room for it, it follows them.
+-- The first `room` chosen PCRs below n + 1 are those below n, followed by PCR n if it is chosen and
+-- there is room for it.
 chosen_by : (p : ℕ → Bool) (n room : ℕ) (b : Bool) → p n ≡ b → take room (filter p (numbers_below (n + 1))) ≡ cond (b && nat_lt (length (filter p (numbers_below n))) room) (take room (filter p (numbers_below n)) ++ n ∷ []) (take room (filter p (numbers_below n)))
 chosen_by p n room true e =
     rw (add-one, filter-append p (numbers_below n) (n ∷ []), e) (take_push room (filter p (numbers_below n)) n _ refl)
@@ -114,8 +116,8 @@ take_by : {X : Type 0} (room : ℕ) (xs ys : List X) (b : Bool) → nat_lt (leng
 take_by room xs ys true e = let below : length xs < room = lt_true (length xs) room e in take_beyond room (room - length xs) xs ys (omega arith)
 take_by room xs ys false e = let above : room ≤ length xs = le_false (length xs) room e in take_within room xs ys above
 
--- The first `room` elements of two concatenated lists are the first `room` elements of the first
--- list. If the first list is shorter, elements of the second list follow them.
+-- The first `room` elements of two concatenated lists are those of the first list, followed by
+-- elements of the second list if there is room for them.
 pub take-append : {X : Type 0} (room : ℕ) (xs ys : List X) → take room (xs ++ ys) ≡ take room xs ++ take (room - length xs) ys
 take-append room xs ys = take_by room xs ys _ refl
 

@@ -70,7 +70,7 @@ value_extended alg.Sha1 old (Sha256 digest) = old
 value_extended alg.Sha256 old (Sha1 digest) = old
 value_extended alg.Sha256 old (Sha256 digest) = hash_of alg.Sha256 (old ++ digest)
 
--- a check of a change of this many values. It fails if the PCR does not allow the change from the
+-- checks a change of this many values: fails if the PCR does not allow the change from the
 -- locality, or if the update counter would exceed 2^64 - 1
 abbrev pub change_check : Bool → ℕ → BankValues → Result (Unit {0}) ChangeFault
 change_check may updates banks = do

@@ -12,7 +12,7 @@ ghost use Rattle.tpm_pcr.specs.Values.{BankValues};
 /// New banks contain the starting value of each PCR. When a PCR is extended with several digests,
 /// each digest in turn extends the PCR's value in the bank of the digest's hash algorithm. A reset
 /// replaces a PCR's value by zeros in both banks. All other values are unchanged. Each digest
-/// counts as an update. A proof only: it has no effect at run time.
+/// counts as an update. This function is only a proof: it has no effect at run time.
 #[inline(always)]
 #[tactic(auto, using(crate::proofs::OneValue::new_all, crate::proofs::OneValue::new_values, crate::proofs::OneValue::extensions_at, crate::proofs::OneValue::extensions_count, crate::proofs::OneValue::zeros_at))]
 pub fn value_laws()

@@ -66,8 +66,8 @@ impl SavedPcrs {
         &self.sha256
     }
 
-    /// A proof only: states that each bank contains sixteen values of the size of its digests. It
-    /// has no effect at run time.
+    /// States that each bank contains sixteen values of the size of its digests. This function is
+    /// only a proof: it has no effect at run time.
     #[inline(always)]
     pub fn read_sizes(&self)
         ensures { IsSaved self.now }

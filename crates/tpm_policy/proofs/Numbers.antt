@@ -10,7 +10,7 @@ use Rattle.tpm_policy.specs.Comparison.{signed_number, unsigned_number}
 abbrev pub AreBytes : List ℕ → Type 0
 AreBytes bytes = (i : ℕ) → slice_index bytes i < 256
 
--- the number that a prefix and these bytes encode together, where the prefix alone encodes `n`
+-- the number that a prefix and these bytes encode together, if the prefix alone encodes `n`
 abbrev number_after : ℕ → List ℕ → ℕ
 number_after n bytes = number_from_digits_after 256 n bytes
 
@@ -162,8 +162,8 @@ pub rest-length : (bytes others : List ℕ) → length bytes ≡ length others
     → length (rest_of bytes) ≡ length (rest_of others)
 rest-length bytes others same = simp (length-take, length-drop, same) refl
 
--- For two byte strings that are not empty, the first bytes decide which is less; if they are equal,
--- the remaining bytes do.
+-- The first bytes of two nonempty byte strings decide which is less; if they are equal, the
+-- remaining bytes decide.
 pub unsigned_less : (bytes others : List ℕ) → 1 ≤ length bytes → length bytes ≡ length others
     → AreBytes bytes → AreBytes others
     → nat_lt (unsigned_number bytes) (unsigned_number others)

@@ -1,9 +1,9 @@
 -- The assertions of policies. TPM 2.0 Library, Part 3, section 23, and Part 1, section 19.7. Each
 -- assertion changes the policy digest. Most assertions also record a value to compare later, when
--- the session authorizes a command. A trial session skips the comparison of TPM2_PolicyPCR with the
--- PCRs, of TPM2_PolicyOR with the current digest, and of TPM2_PolicyNV with the index. It also
--- skips the comparison of TPM2_PolicySecret with nonceTPM and with a recorded cpHash. The order of
--- the checks is a choice of this implementation.
+-- the session authorizes a command. A trial session does not compare the data of TPM2_PolicyPCR
+-- with the PCRs, the list of TPM2_PolicyOR with the current digest, or the operand of TPM2_PolicyNV
+-- with the index. Nor does it compare the parameters of TPM2_PolicySecret with nonceTPM and a
+-- recorded cpHash. The order of the checks is a choice of this implementation.
 use Rattle.tpm_commands.specs.declared.command_code.CommandCode.{CommandCode as ServedCommand}
 use Rattle.tpm_commands.specs.CommandCode.{code_number, is_served}
 use Rattle.tpm_commands.specs.declared.command_code.CommandCode.TheVariants as served
@@ -117,7 +117,7 @@ pub data Assertion : Type 0 where
   Secret : SecretParts → Assertion
   Nv : NvParts → Assertion
 
--- whether a value is recorded, and differs from this value
+-- whether a value other than this number is recorded
 abbrev pub is_other : Option ℕ → ℕ → Bool
 is_other None number = false
 is_other (Some recorded) number = not (recorded == number)

@@ -25,11 +25,11 @@ signed_number bytes =
     then pos (unsigned_number bytes) -ℤ pos (256 ^ length bytes)
     else pos (unsigned_number bytes)
 
--- whether every bit that is set in the operand is also set in the bytes of the index (`has_set`),
--- or is clear in them (`has_clear`)
+-- whether every bit that is set in the operand is also set in the bytes of the index
 abbrev pub has_set : (bytes operand : List ℕ) → Bool
 has_set bytes operand = pointwise (λ byte mask. bit_and byte mask == mask) bytes operand
 
+-- whether every bit that is set in the operand is clear in the bytes of the index
 abbrev pub has_clear : (bytes operand : List ℕ) → Bool
 has_clear bytes operand = pointwise (λ byte mask. bit_and byte mask == 0) bytes operand
 

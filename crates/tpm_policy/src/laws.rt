@@ -10,7 +10,7 @@ ghost use Rattle.tpm_policy.specs.State.{Policy};
 
 /// If an assertion passes its checks, the new policy is the result of `policy_with`, which is
 /// defined without checks. The new policy digest is as long as a digest of the session's hash
-/// algorithm. A proof only: it has no effect at run time.
+/// algorithm. This function is only a proof: it has no effect at run time.
 #[inline(always)]
 #[tactic(auto, using(crate::proofs::Made::policy_made, crate::proofs::Sizes::made_sized))]
 pub fn assertion_laws()

@@ -220,8 +220,8 @@ impl PolicyState {
         }
     }
 
-    /// A proof only: states the bounds that the types of the fields guarantee. It has no effect
-    /// at run time.
+    /// States the bounds that the types of the fields guarantee. This function is only a proof: it
+    /// has no effect at run time.
     #[inline(always)]
     pub fn read_sizes(&self)
         ensures { IsPolicy self.now }

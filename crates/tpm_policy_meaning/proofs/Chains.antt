@@ -39,7 +39,7 @@ pub among_either : {X Elsewhere : Type 0} (x : X) (front back : List X) → IsAm
 among_either x front back (inl among) there = among_front x front back among
 among_either x front back (inr elsewhere) there = among_back x front back (there elsewhere)
 
--- Two byte strings are either equal or different. A byte string is either in a list or not.
+-- Two byte strings are either equal or different.
 pub is_same_or_not : (t u : List ℕ) → (t ≡ u) ⊎ (t ≢ u)
 is_same_or_not t u = by (bytes_eq t u) refl
   where
@@ -51,6 +51,7 @@ none_among : (t u : List ℕ) (texts : List (List ℕ)) → t ≢ u → (IsAmong
 none_among t u texts apart none (inl is) = apart is
 none_among t u texts apart none (inr among) = none among
 
+-- A byte string is either in a list or not.
 pub is_among_or_not : (t : List ℕ) (texts : List (List ℕ)) → IsAmong t texts ⊎ (IsAmong t texts → ⊥)
 is_among_or_not t [] = inr (λ among. among)
 is_among_or_not t (u ∷ texts) = by (is_same_or_not t u) (is_among_or_not t texts)

@@ -39,7 +39,7 @@ same_latest x y xs ys is = (cc, cc)
 none_said : (x : Said) (xs : List Said) → x ∷ xs ≡ [] → ⊥
 none_said x xs is = absurd cc
 
--- If a session's assertion asserts the same as an assertion of a policy expression, it is not a
+-- A session's assertion that asserts the same as an assertion of a policy expression is not a
 -- TPM2_PolicyOR. Therefore it discards no earlier assertion.
 earlier_said : (one : Assertion) (written : PolicyAssertion) (said : List Said) → Says one written → said_before one said ≡ said
 earlier_said (assertion.Or digests) written said asserts = absurd asserts

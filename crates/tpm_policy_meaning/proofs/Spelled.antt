@@ -53,7 +53,7 @@ policy_chain_texts hash (PolicyOr branches) text (inr among) = absurd among
 
 -- ---- the steps of a session
 
--- the earlier assertions that still count after this assertion; TPM2_PolicyOR discards all of them
+-- the earlier assertions that still count after this assertion: none after TPM2_PolicyOR
 abbrev pub said_before : Assertion → List Said → List Said
 said_before (assertion.Or digests) said = []
 said_before _ said = said

@@ -18,8 +18,7 @@ use Rattle.tpm_policy_meaning.specs.Expression.{Nothing, Then, PolicyOr}
 use Rattle.tpm_policy_meaning.specs.PolicyDigest.{branch_digests, nv_arguments_text}
 use Rattle.tpm_policy_meaning.specs.Trial.{TrialComputes, assertions_of}
 
--- A digest as long as the hash algorithm's digests is not empty, and therefore counts as present in
--- the command.
+-- A digest of the right size is not empty, and therefore counts as present in the command.
 sized_given : (hash : HashAlg) (digest : List ℕ) → length digest ≡ digest_size hash → is_given digest ≡ true
 sized_given alg.Sha1 digest size = rw size refl
 sized_given alg.Sha256 digest size = rw size refl

@@ -4,8 +4,8 @@ use Rattle.tpm_containers.specs.Numbered.{at_number}
 use Rattle.tpm_record.specs.IsRecord.{IsRecord}
 use Rattle.tpm_record.specs.Objects.{object_at}
 use Rattle.tpm_record.specs.Record.{Record}
-use Rattle.tpm_step.proofs.FailedRun.{failed_run_is}
-use Rattle.tpm_step.proofs.Placing.{placed_executes}
+use Rattle.tpm_step.proofs.history.FailedRun.{failed_run_is}
+use Rattle.tpm_step.proofs.step.Placing.{placed_executes}
 use Rattle.tpm_completion.proofs.Loaded.{loads_what_was_saved}
 use Rattle.tpm_completion.specs.Loaded.{StaysValid}
 use Rattle.tpm_premises.proofs.Placed.{is_placed}

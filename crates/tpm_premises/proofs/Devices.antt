@@ -6,8 +6,8 @@ use Rattle.std.specs.Prelude.{replicate}
 use Rattle.tpm_types.specs.declared.handle.Handle.{Handle}
 use Rattle.tpm_record.specs.Record.{Record}
 use Rattle.tpm_nv.specs.Index.{NvIndex}
-use Rattle.tpm_step.proofs.Following.{manufactured_follows}
-use Rattle.tpm_step.specs.View.{view_of}
+use Rattle.tpm_step.proofs.history.Following.{manufactured_follows}
+use Rattle.tpm_step.specs.history.View.{view_of}
 use Rattle.tpm_premises.specs.Devices.{AreTwoDevices, AreTwoSecrets, holding, seeded}
 
 seeds_differ : seeded 0 ≢ seeded 1

@@ -12,9 +12,9 @@ use Rattle.tpm_journal_text.specs.Entry.{IsEntry}
 use Rattle.tpm_journal_text.specs.Sum.{offset_basis, sum_from, with_byte}
 use Rattle.tpm_journal.specs.Command.{entry_of}
 use Rattle.tpm_machine.proofs.Following.{execution_follows}
-use Rattle.tpm_step.proofs.FailedRun.{failed_run_is}
-use Rattle.tpm_step.specs.Execution.{Executes}
-use Rattle.tpm_step.specs.FailedRun.{tried, wrong_after, wrong_read, zeros}
+use Rattle.tpm_step.proofs.history.FailedRun.{failed_run_is}
+use Rattle.tpm_step.specs.step.Execution.{Executes}
+use Rattle.tpm_step.specs.history.FailedRun.{tried, wrong_after, wrong_read, zeros}
 use Rattle.tpm_premises.specs.Journals.{HasOneEntry, effect, given_command, refusal_step}
 
 -- ---- the parts of the entry

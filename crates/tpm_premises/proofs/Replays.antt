@@ -11,8 +11,8 @@ use Rattle.tpm_types_command.specs.AuthArea.{area_at}
 use Rattle.tpm_types_command.specs.AuthEntry.{entry_at}
 use Rattle.tpm_types_command.specs.Command.{command_at}
 use Rattle.tpm_types_command.specs.Header.{header_at}
-use Rattle.tpm_step.specs.History.{Done}
-use Rattle.tpm_step.specs.Sessions.{LiveSession, sessions_of, start_key, started}
+use Rattle.tpm_step.specs.history.History.{Done}
+use Rattle.tpm_step.specs.history.Sessions.{LiveSession, sessions_of, start_key, started}
 use Rattle.tpm_premises.specs.Replays.{HasReplay, asking, buffer, entry, session, starting}
 
 spelled : command_at buffer ≡ Ok (asking.command, [])

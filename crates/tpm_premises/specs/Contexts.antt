@@ -5,8 +5,8 @@ use Rattle.tpm_types.specs.Handle.{is_transient}
 use Rattle.tpm_record.specs.IsRecord.{IsRecord}
 use Rattle.tpm_record.specs.Objects.{next_handle, object_at}
 use Rattle.tpm_record.specs.Record.{Record}
-use Rattle.tpm_step.specs.FailedRun.{tried}
-use Rattle.tpm_step.specs.Placing.{placed}
+use Rattle.tpm_step.specs.history.FailedRun.{tried}
+use Rattle.tpm_step.specs.step.Placing.{placed}
 use Rattle.tpm_context.specs.Meaning.{IsMaking, Making, context_of}
 use Rattle.tpm_completion.specs.Completion.{new_completion}
 use Rattle.tpm_completion.specs.Loaded.{StaysValid}
@@ -19,7 +19,7 @@ use Rattle.tpm_premises.specs.Placed.{first_transient, saved_object}
 abbrev pub without_object : Record
 without_object = tried 1 0 0
 
--- this device with one more copy of the object
+-- a device with one more copy of the object
 abbrev pub one_more : Record → Record
 one_more r = placed r saved_object
 
@@ -51,8 +51,8 @@ making = record {
   object = saved_object;
 }
 
--- The object can be saved on `with_object`. Its context is valid on `without_object`, where it gets
--- the same handle again, and on `full`, which has no free slot.
+-- The object can be saved on `with_object`. Its context is valid on `without_object`, where the
+-- object gets the same handle again, and on `full`, which has no free slot.
 pub record HasSavedObject : Type 0 where
   pub started : with_object.fixed.started ≡ true
   pub transient : is_transient first_transient ≡ true

@@ -2,14 +2,14 @@
 use Rattle.std.specs.Prelude.{◌≢◌, ℕ, true, [], ◌∷◌, replicate}
 use Rattle.tpm_record.specs.Record.{Record, manufactured}
 use Rattle.tpm_row_secrecy.specs.Secrecy.{DifferInSecrets, of_data}
-use Rattle.tpm_step.specs.Alike.{AreAlike}
-use Rattle.tpm_step.specs.FailedRun.{protected_index, tried}
+use Rattle.tpm_step.specs.uses.Alike.{AreAlike}
+use Rattle.tpm_step.specs.history.FailedRun.{protected_index, tried}
 
 -- a device whose seeds and proofs consist only of this byte
 abbrev pub seeded : (byte : ℕ) → Record
 seeded byte = manufactured (replicate 256 byte)
 
--- Two devices with different seeds, before any command, follow the same history and show the same
+-- Before any command, two devices with different seeds follow the same history and show the same
 -- views (`AreAlike`).
 pub record AreTwoDevices : Type 0 where
   pub alike : AreAlike (seeded 0) (seeded 1) []

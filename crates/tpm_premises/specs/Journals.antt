@@ -3,8 +3,8 @@ use Rattle.std.specs.Prelude.{false, [], ◌∷◌}
 use Rattle.tpm_completion.specs.Completion.{forgotten, new_completion}
 use Rattle.tpm_completion.specs.Execution.{Seen}
 use Rattle.tpm_machine.specs.Drawn.{drawn_by}
-use Rattle.tpm_step.specs.FailedRun.{tried, wrong_after, wrong_read, zeros}
-use Rattle.tpm_step.specs.Step.{Stepped, step}
+use Rattle.tpm_step.specs.history.FailedRun.{tried, wrong_after, wrong_read, zeros}
+use Rattle.tpm_step.specs.step.Step.{Stepped, step}
 use Rattle.tpm_journal.specs.Command.{Command, entry_of}
 use Rattle.tpm_journal.specs.Living.{Lives}
 

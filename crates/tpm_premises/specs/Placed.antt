@@ -9,11 +9,11 @@ use Rattle.tpm_types_object.specs.declared.public.KeyedHashScheme.TheVariants as
 use Rattle.tpm_types_object.specs.declared.public.PublicParameters.TheVariants as parameters_of
 use Rattle.tpm_record.specs.Objects.{object_at}
 use Rattle.tpm_record.specs.Record.{manufactured}
-use Rattle.tpm_step.specs.AuthValues.{auth_of}
-use Rattle.tpm_step.specs.Events.{IsEvent, Placed}
-use Rattle.tpm_step.specs.FailedRun.{zeros}
-use Rattle.tpm_step.specs.History.{ObjectPlaced, recorded}
-use Rattle.tpm_step.specs.Placing.{placed}
+use Rattle.tpm_step.specs.history.AuthValues.{auth_of}
+use Rattle.tpm_step.specs.step.Events.{IsEvent, Placed}
+use Rattle.tpm_step.specs.history.FailedRun.{zeros}
+use Rattle.tpm_step.specs.history.History.{ObjectPlaced, recorded}
+use Rattle.tpm_step.specs.step.Placing.{placed}
 
 -- sealed data with the authorization value "a"; its only attributes are fixedTPM and fixedParent
 abbrev pub saved_object : Object

@@ -7,10 +7,10 @@ use Rattle.tpm_types.specs.declared.session_type.SessionType.TheVariants as type
 use Rattle.tpm_types.specs.declared.symmetric.SymmetricDefinition.TheVariants as symmetric
 use Rattle.tpm_types_command.specs.AuthEntry.{Entry}
 use Rattle.tpm_record.specs.rows.Answer.{Plain, nothing}
-use Rattle.tpm_step.specs.History.{AcceptedCommand, Done}
-use Rattle.tpm_step.specs.Replays.{IsReplay}
-use Rattle.tpm_step.specs.Sessions.{LiveSession}
-use Rattle.tpm_step.specs.View.{OfHandle}
+use Rattle.tpm_step.specs.history.History.{AcceptedCommand, Done}
+use Rattle.tpm_step.specs.uses.Replays.{IsReplay}
+use Rattle.tpm_step.specs.history.Sessions.{LiveSession}
+use Rattle.tpm_step.specs.history.View.{OfHandle}
 
 abbrev pub zeros : List ℕ
 zeros = replicate 256 0

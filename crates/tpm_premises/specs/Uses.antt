@@ -9,9 +9,9 @@ use Rattle.tpm_types_object.specs.declared.public.PublicParameters.TheVariants a
 use Rattle.tpm_policy_meaning.specs.Examples.{by_value}
 use Rattle.tpm_policy_meaning.specs.PolicyDigest.{policy_digest}
 use Rattle.tpm_record.specs.rows.Answer.{nothing}
-use Rattle.tpm_step.specs.History.{AcceptedCommand}
-use Rattle.tpm_step.specs.PolicyReviews.{UsesObject}
-use Rattle.tpm_step.specs.View.{OfObject}
+use Rattle.tpm_step.specs.history.History.{AcceptedCommand}
+use Rattle.tpm_step.specs.uses.PolicyReviews.{UsesObject}
+use Rattle.tpm_step.specs.history.View.{OfObject}
 
 -- the public area of sealed data whose authPolicy is the policy of TPM2_PolicyAuthValue; its only
 -- attributes are fixedTPM and fixedParent

@@ -9,7 +9,7 @@ use Rattle.tpm_containers.specs.Slots.{at_place, taken_count}
 use Rattle.tpm_containers.proofs.SlotLaws.{counted}
 use Rattle.tpm_record.specs.Clear.{ClearingLaws, cleared_objects, cleared_place, is_cleared, is_place_cleared}
 
--- the slots after TPM2_Clear has processed the first `count` of them
+-- the slots after TPM2_Clear has processed the first `count` slots
 abbrev pub cleared_up_to : ℕ → List (Option Object) → List (Option Object)
 cleared_up_to count places = map cleared_place (take count places) ++ drop count places
 
@@ -21,7 +21,8 @@ rest_cleared : (b : Bool) (p : Option Object) (ps qs : List (Option Object)) →
 rest_cleared true p ps qs = refl
 rest_cleared false p ps qs = refl
 
--- If the first i slots are cleared and then the next slot, the first i + 1 slots are cleared.
+-- One step of the loop: processing slot i, after the first i slots, completes the first i + 1
+-- slots.
 pub cleared_in_turn : (places : List (Option Object)) (i : ℕ) → cond (is_place_cleared (at_place (cleared_up_to i places) i)) (slice_set (cleared_up_to i places) i None) (cleared_up_to i places) ≡ cleared_up_to (suc i) places
 cleared_in_turn [] zero = refl
 cleared_in_turn [] (suc i) = refl
@@ -51,7 +52,7 @@ at_cleared [] place = refl
 at_cleared (p ∷ ps) zero = refl
 at_cleared (p ∷ ps) (suc place) = at_cleared ps place
 
--- the object in a slot, if its handle has this number
+-- the object in a slot, if this number is the handle of a transient object
 abbrev of_number : ℕ → Option Object → Option Object
 of_number number cell = option_and_then (if_of_kind transient_byte number) cell
 
@@ -107,8 +108,7 @@ cleared_few (p ∷ ps) =
     let old = sum_by-cons counted p ps in
     omega (arith, new, old, one_cleared p, cleared_few ps)
 
--- If the object in a slot has a property and clearing does not remove the object, the object still
--- has the property.
+-- Clearing keeps the properties of each object that it does not remove.
 kept_in : (Is : Object → Type 0) (cell : Option Object) → IfSome cell Is → IfSome (cleared_place cell) Is
 kept_in Is None is = tt
 kept_in Is (Some x) is = by (is_cleared x.hierarchy)

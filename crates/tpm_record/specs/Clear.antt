@@ -36,21 +36,22 @@ outlasts object = not (is_cleared object.hierarchy)
 abbrev pub cleared_persistent : Entries Object → Entries Object
 cleared_persistent objects = kept_entries outlasts objects
 
--- The claims about transient objects after TPM2_Clear.
+-- What TPM2_Clear does to the transient objects.
 pub record ClearingLaws : Type 0 where
-  -- an object in a cleared hierarchy is removed, and any other object is unchanged
+  -- an object in a cleared hierarchy is removed
   pub gone : (places : List (Option Object)) (number : ℕ) (object : Object)
       → at_number transient_byte places number ≡ Some object
       → is_cleared object.hierarchy ≡ true
       → at_number transient_byte (cleared_objects places) number ≡ None
+  -- any other object is unchanged
   pub stays : (places : List (Option Object)) (number : ℕ) (object : Object)
       → at_number transient_byte places number ≡ Some object
       → is_cleared object.hierarchy ≡ false
       → at_number transient_byte (cleared_objects places) number ≡ Some object
-  -- if there was no object with this handle, there is still no such object. The number of slots in
-  -- use does not increase
+  -- if there was no object with this handle, there is still none
   pub absent : (places : List (Option Object)) (number : ℕ)
       → at_number transient_byte places number ≡ None
       → at_number transient_byte (cleared_objects places) number ≡ None
+  -- the number of slots in use does not increase
   pub few : (places : List (Option Object))
       → taken_count (cleared_objects places) ≤ taken_count places

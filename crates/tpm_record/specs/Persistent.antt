@@ -18,11 +18,11 @@ no_persistent = []
 abbrev pub persistent_at : Entries Object → Handle → Option Object
 persistent_at objects handle = at_key objects handle.number
 
--- the persistent objects after an object was added (`with_persistent`) or removed
--- (`without_persistent`)
+-- the persistent objects after an object was added
 abbrev pub with_persistent : Entries Object → Handle → Object → Entries Object
 with_persistent objects handle object = with_key objects handle.number object
 
+-- the persistent objects after an object was removed
 abbrev pub without_persistent : Entries Object → Handle → Entries Object
 without_persistent objects handle = without_key objects handle.number
 

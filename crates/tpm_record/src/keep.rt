@@ -121,31 +121,26 @@ pub trait Keep: Drop + Sized {
             (with_nv self.entry.now)) }
         ensures value { Self.NvIndices.contents result.now ≡ (record_of self.old).nv };
 
-    /// If the fixed part is changed through its mutable reference, the record has the changed fixed
-    /// part.
+    /// A change through `fixed_mut` changes the record's fixed part, and nothing else.
     ghost fixed_written: { (keep : Self) (fixed : FixedParts)
         → record_of (with_fixed keep fixed) ≡ record (record_of keep) { fixed = fixed } };
 
-    /// If the sessions are changed through their mutable reference, the record has the changed
-    /// sessions.
+    /// A change through `sessions_mut` changes the record's sessions, and nothing else.
     ghost sessions_written: { (keep : Self) (sessions : SessionsParts Self.SessionSlots)
         → record_of (with_sessions keep sessions)
         ≡ record (record_of keep) { sessions = places_of Self.SessionSlots.places sessions } };
 
-    /// If the transient objects are changed through their mutable reference, the record has the
-    /// changed objects.
+    /// A change through `objects_mut` changes the record's transient objects, and nothing else.
     ghost objects_written: { (keep : Self) (objects : ObjectsParts Self.ObjectSlots)
         → record_of (with_objects keep objects)
         ≡ record (record_of keep) { objects = objects_of Self.ObjectSlots.places objects } };
 
-    /// If the persistent objects are changed through their mutable reference, the record has the
-    /// changed objects.
+    /// A change through `persistent_mut` changes the record's persistent objects, and nothing else.
     ghost persistent_written: { (keep : Self) (persistent : Self.PersistentMap)
         → record_of (with_persistent keep persistent)
         ≡ record (record_of keep) { persistent = Self.PersistentMap.entries persistent } };
 
-    /// If the NV indices are changed through their mutable reference, the record has the changed
-    /// indices.
+    /// A change through `nv_mut` changes the record's NV indices, and nothing else.
     ghost nv_written: { (keep : Self) (nv : Self.NvIndices)
         → record_of (with_nv keep nv)
         ≡ record (record_of keep) { nv = Self.NvIndices.contents nv } };

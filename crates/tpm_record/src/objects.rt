@@ -59,8 +59,8 @@ impl<O: Slots<Object, OBJECT_LIMIT>> Objects<O> {
         Some(handle_of(self.places.free()?))
     }
 
-    /// The sizes of each object's fields, and the number of slots, follow from their types. A proof
-    /// only: it has no effect at run time.
+    /// The sizes of each object's fields, and the number of slots, follow from their types. This
+    /// function is only a proof: it has no effect at run time.
     #[inline(always)]
     pub fn read_sizes(&self)
         ensures each { AreAll IsObject (objects_of O.places self.now) }
@@ -120,8 +120,8 @@ impl<O: Slots<Object, OBJECT_LIMIT>> Objects<O> {
 }
 
 /// The transient objects of a device form a map keyed by handle: after an object is added or
-/// removed, a lookup by handle returns the right object, or None. A proof only: it has no effect at
-/// run time.
+/// removed, a lookup by handle returns the right object, or None. This function is only a proof: it
+/// has no effect at run time.
 pub fn object_laws()
     ensures { MapLaws transient_byte }
 {
@@ -129,7 +129,7 @@ pub fn object_laws()
 }
 
 /// TPM2_Clear removes the transient objects in the owner and endorsement hierarchies, and does not
-/// change the other transient objects. A proof only: it has no effect at run time.
+/// change the other transient objects. This function is only a proof: it has no effect at run time.
 #[tactic(auto, using(crate::proofs::ClearLaws::are_cleared))]
 pub fn clearing_laws()
     ensures { ClearingLaws }

@@ -62,7 +62,8 @@ pub trait PersistentObjects: Drop + Sized {
     fn clear_hierarchies(&mut self)
         ensures { entries self.new ≡ cleared_persistent (entries self.old) };
 
-    /// A proof only: states the invariant of the persistent objects. It has no effect at run time.
+    /// States the invariant of the persistent objects. This function is only a proof: it has no
+    /// effect at run time.
     fn read_sizes(&self)
         ensures { ArePersistent (entries self.now) };
 }

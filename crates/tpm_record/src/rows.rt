@@ -5,8 +5,8 @@
 //! The crates of the commands use these parts: tpm_actions_device, tpm_actions_policy,
 //! tpm_actions_object, tpm_actions_capability and tpm_nvactions. Each call equals its definition in
 //! `specs/`. `Acts`, also defined there, is the contract of every row: a success returns the row's
-//! answer and changes the record as the row says. A refusal is the row's refusal, and does not
-//! change the record.
+//! answer and changes the record as the row says. A refusal is the refusal that the row specifies,
+//! and does not change the record.
 
 pub mod answer;
 pub mod call;

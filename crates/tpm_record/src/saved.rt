@@ -110,8 +110,8 @@ impl Saved {
         }
     }
 
-    /// The sizes of the saved values follow from their types. A proof only: it has no effect at run
-    /// time.
+    /// The sizes of the saved values follow from their types. This function is only a proof: it has
+    /// no effect at run time.
     #[inline(always)]
     pub fn read_sizes(&self)
         ensures { IsSavedState self.now }

@@ -50,8 +50,8 @@ alike_after {B = B} {E = E} first see (Err e) (Err h) f g alike more = subst (λ
     fault (Ok c) = e
     fault (Err k) = k
 
--- If a value is present in both rows, or absent from both, it is enough to compare the rest of the
--- rows for the present values.
+-- If two rows look up a value that both find or both miss, it is enough to compare the rest of the
+-- rows for the values that they find.
 pub alike_found : {X A B E : Type 0} (see : A → B) (change : X → X) (one other : Option X) (e : E) (f g : X → Result A E) → one ≡ option_map change other → ((x : X) → other ≡ Some x → Alike see (f (change x)) (g x)) → Alike see (ok_or one e >>= f) (ok_or other e >>= g)
 alike_found {X = X} see change one other e f g same more =
     subst (λ (found : Option X). Alike see (ok_or found e >>= f) (ok_or other e >>= g)) (sym same) (by other refl)
@@ -89,8 +89,7 @@ both_succeed {A = A} {E = E} x y alike = sym (unseen x) ∙ ap is_ok alike.is �
     unseen (Ok a) = refl
     unseen (Err e) = refl
 
--- If both results are refusals and look the same, they are equal, whatever part of a success is
--- visible.
+-- Two refusals that look the same are equal, whatever part of a success is visible.
 pub refused_alike : {A B E : Type 0} (see : A → B) (x y : Result A E) → Alike success x y → is_ok y ≡ false → Alike see x y
 refused_alike see (Ok a) (Ok b) alike refused = absurd (false≢true (sym refused))
 refused_alike see (Ok a) (Err e) alike refused = let never = alike.is in absurd cc
@@ -107,8 +106,7 @@ pub either_free : {P : Type 0} (a b : Bool) → (a && b) ≡ false → (a ≡ fa
 either_free false b free unread refused = unread refl
 either_free true b free unread refused = refused free
 
--- If two computations of nested steps look the same, so do the computations of the same steps in
--- sequence.
+-- If two rows with nested steps look the same, so do the rows with the same steps in sequence.
 pub alike_nested : {A B C D E : Type 0} (see : C → D) (x y : Result A E) (f g : A → Result B E) (h k : B → Result C E) → Alike see (x >>= λ a. f a >>= h) (y >>= λ a. g a >>= k) → Alike see ((x >>= f) >>= h) ((y >>= g) >>= k)
 alike_nested see (Ok a) (Ok b) f g h k alike = alike
 alike_nested see (Ok a) (Err e) f g h k alike = alike

@@ -83,8 +83,7 @@ module _ (s : Secrecy) where
   pub record_again : (r : Record) → without_secrets s (without_secrets s r) ≡ without_secrets s r
   record_again r = same_parts (without_secrets s r) r (fixed_again r.fixed) (sessions_again r.sessions) (objects_again r.objects) (persistent_again r.persistent) (nv_again r.nv)
 
-  -- Suppose that one part of a record is changed. Erasing the secrets before the change, or after
-  -- it, gives the same record.
+  -- Erasing the secrets before or after a change of one part of a record gives the same record.
   module _ (r : Record) where
     pub with_fixed : (f g : Fixed) → bare_fixed s f ≡ bare_fixed s g → without_secrets s (record (without_secrets s r) { fixed = f }) ≡ without_secrets s (record r { fixed = g })
     with_fixed f g same = same_parts (record (without_secrets s r) { fixed = f }) (record r { fixed = g }) same (sessions_again r.sessions) (objects_again r.objects) (persistent_again r.persistent) (nv_again r.nv)

@@ -1,6 +1,5 @@
--- After secrets were erased, each change of an NV index is refused as on the device with its
--- secrets, or has the same result except for secrets. The only exception is a counter with a secret
--- value.
+-- Each change of an NV index has the same outcome, except for secrets, on a device and on the
+-- device with its secrets erased. The only exception is a counter with a secret value.
 use Rattle.std.proofs.Common.{ap, refl, subst, sym, ◌∙◌}
 use Rattle.std.proofs.lemmas.Bool.{false≢true}
 use Rattle.std.proofs.lemmas.List.Folds.{fold-map}
@@ -159,7 +158,7 @@ module _ (s : Secrecy) where
         refused_if (nat_le (2 ^ 64) (number_or contents.max_count i + 1)) write_fault.Exhausted >>= λ fits.
         Ok (counted (changed_index contents handle (with_data i (to_be_bytes w64 (number_or contents.max_count i + 1)))) (number_or contents.max_count i + 1))
 
-    -- an index whose authorization value is erased if it is secret
+    -- an index with its authorization value erased, if the value is secret
     abbrev other_value : NvIndex → NvIndex
     other_value i = record i { auth_value = unless (s.index_values i.public.nv_index.number) i.auth_value }
 

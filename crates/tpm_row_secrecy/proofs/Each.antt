@@ -1,4 +1,4 @@
--- If a function is applied to each value of a map or of slots, a lookup returns the function's
+-- After a function is applied to all values of a map or of slots, a lookup returns the function's
 -- result for the old value.
 use Rattle.std.proofs.Common.{ap, eqb, leb, refl, sym, ◌∙◌}
 use Rattle.std.specs.List.{prefix_len}
@@ -98,8 +98,8 @@ module _ {X Y : Type 0} (f : X → Y) where
   free_each zero = refl
   free_each (suc n) = ap (λ (others : List (Option Y)). None ∷ others) (free_each n)
 
-  -- Suppose that a function preserves the kind of each value and is applied to all values. Looking
-  -- up a number afterwards finds the function's result for the value that was found before.
+  -- After a function that preserves the kinds of values is applied to all slots, a lookup by number
+  -- returns the function's result for the old value.
   module _ (kind : Y → ℕ) (was : X → ℕ) (kept : (x : X) → kind (f x) ≡ was x) where
     of_kind : (number : ℕ) (found : Option X) → option_and_then (if_of_kind kind number) (option_map f found) ≡ option_map f (option_and_then (if_of_kind was number) found)
     of_kind number None = refl

@@ -172,8 +172,7 @@ module _ (s : Secrecy) where
   value_open r handle (AnIndex i) shown = unless_open _ _ shown
   value_open r handle Permanent shown = permanent_open r.fixed.hierarchies (hierarchy_auth_of handle) shown
 
-  -- If an entity's authorization value is not secret, it is unchanged when the device's secrets are
-  -- erased.
+  -- Erasing a device's secrets does not change an authorization value that is not secret.
   pub value_bare : (r : Record) (handle : Handle) → has_secret_value s r handle ≡ false → auth_value_of (without_secrets s r) handle ≡ auth_value_of r handle
   unfolding auth_value_of
   value_bare r handle shown = ap (entity_auth_value (without_secrets s r) handle) (entity_bare r handle) ∙ value_open r handle (entity_at r handle) shown

@@ -70,7 +70,7 @@ use Rattle.tpm_actions_object.specs.Hmac as keyed
 module _ (s : Secrecy) (r : Record) (q : Request) where
   -- ---- objects whose data is not secret
 
-  -- an object whose authorization value is erased if it is secret
+  -- an object with its authorization value erased, if the value is secret
   abbrev other_value : Object → Object
   other_value o = record o { auth_value = unless (s.object_values o.public) o.auth_value }
 

@@ -40,8 +40,8 @@ module _ (s : Secrecy) (covers : CoversKeys s) (r : Record) (q : Request) where
   abbrev bound : (name value : List ℕ) → Protection → Binding
   bound name value protection = record { name = name; auth_value = value; protection = protection }
 
-  -- Unless the keys of sessions that are bound to an entity's Name are secret, the entity's
-  -- authorization value is unchanged when the device's secrets are erased.
+  -- Erasing a device's secrets does not change an entity's authorization value, unless the keys of
+  -- sessions that are bound to the entity's Name are secret.
   value_open : (bind : Handle) (b : Bool) → s.bound_names (name_of r bind) ≡ b → unless b (auth_value_of (without_secrets s r) bind) ≡ unless b (auth_value_of r bind)
   value_open bind true is = refl
   value_open bind false is = value_bare s r bind (by (has_secret_value s r bind) refl)

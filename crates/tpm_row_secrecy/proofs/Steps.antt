@@ -36,8 +36,8 @@ same_end s answer a b same = alike_end (bare_success s) _ _ (ap (λ (r : Record)
 pub same_unchanged : (s : Secrecy) (r : Record) (answer : AnswerParts) → Same s (Ok (unchanged (without_secrets s r) answer)) (Ok (unchanged r answer))
 same_unchanged s r answer = same_end s answer _ _ (record_again s r)
 
--- Suppose that a change gives the same record whether secrets are erased before or after it. Then a
--- device, and the same device with its secrets erased, still look the same after the change.
+-- If erasing the secrets before or after a change gives the same record, a device and the device
+-- with its secrets erased still look the same after the change.
 pub change_same : (s : Secrecy) (change : Record → Record) → ((r : Record) → without_secrets s (change r) ≡ change (without_secrets s r)) → (r : Record) → without_secrets s (change (without_secrets s r)) ≡ without_secrets s (change r)
 change_same s change apart r = apart (without_secrets s r) ∙ ap change (record_again s r) ∙ sym (apart r)
 

@@ -144,7 +144,7 @@ pub record CoversKeys (s : Secrecy) : Type 0 where
       → option_map_or s.hierarchy_values (hierarchy_auth_of handle) false ≡ true
       → s.bound_names (handle_name handle) ≡ true
 
--- the choice of secrets in which only the data of these NV indices and objects is secret
+-- a choice of secrets: only the data of these NV indices and objects
 abbrev pub of_data : (ℕ → Bool) → (Public → Bool) → Secrecy
 of_data indices objects = record {
   index_data = indices;

@@ -19,12 +19,12 @@ use Rattle.tpm_session.specs.ParameterHash.{HashedParts, OfResponse}
 use Rattle.tpm_session.specs.Session.{with_nonce, with_policy}
 use Rattle.tpm_session.specs.Sessions.{flushed, rolled, session_byte, with_session_policy}
 use Rattle.tpm_session.specs.declared.session.Session.{Session}
-use Rattle.tpm_step.proofs.Binding.{asked}
-use Rattle.tpm_step.specs.Answer.{Answered, Written, answer_to, success_text}
-use Rattle.tpm_step.specs.Entries.{Drawn, answer_mac, draw_of, entries_answer, entries_ended, entries_rolled, entry_answer, entry_ended, entry_restarted, entry_rolled, password_answer, restarted_by, session_answer}
-use Rattle.tpm_step.specs.Granted.{Granted, granted_entries}
-use Rattle.tpm_step.specs.Parameters.{asks_for, encrypted_answer, entry_parameters, session_bytes, session_parameters}
-use Rattle.tpm_step.specs.Step.{request_in}
+use Rattle.tpm_step.proofs.rows.Binding.{asked}
+use Rattle.tpm_step.specs.step.Answer.{Answered, Written, answer_to, success_text}
+use Rattle.tpm_step.specs.step.Entries.{Drawn, answer_mac, draw_of, entries_answer, entries_ended, entries_rolled, entry_answer, entry_ended, entry_restarted, entry_rolled, password_answer, restarted_by, session_answer}
+use Rattle.tpm_step.specs.step.Granted.{Granted, granted_entries}
+use Rattle.tpm_step.specs.step.Parameters.{asks_for, encrypted_answer, entry_parameters, session_bytes, session_parameters}
+use Rattle.tpm_step.specs.step.Step.{request_in}
 use Rattle.tpm_step.specs.declared.direction.Direction.{Direction}
 use Rattle.tpm_types.specs.SessionAttributes.{continues_session}
 use Rattle.tpm_types.specs.declared.handle.Handle.{Handle}

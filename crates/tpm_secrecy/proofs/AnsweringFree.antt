@@ -21,13 +21,13 @@ use Rattle.tpm_record.specs.Record.{Record}
 use Rattle.tpm_record.specs.rows.Request.{Request, first_handle}
 use Rattle.tpm_session.specs.Sessions.{session_at}
 use Rattle.tpm_session.specs.declared.session.Session.{Session}
-use Rattle.tpm_step.proofs.Binding.{ok_at, ok_bind}
+use Rattle.tpm_step.proofs.rows.Binding.{ok_at, ok_bind}
 use Rattle.tpm_step.proofs.rows.Sessions.{entries_have}
-use Rattle.tpm_step.specs.Entries.{entries_rolled, entry_rolled}
-use Rattle.tpm_step.specs.Granted.{granted_entries}
-use Rattle.tpm_step.specs.Grounds.{allows}
-use Rattle.tpm_step.specs.Step.{Accepted}
-use Rattle.tpm_step.specs.Table.{row_of}
+use Rattle.tpm_step.specs.step.Entries.{entries_rolled, entry_rolled}
+use Rattle.tpm_step.specs.step.Granted.{granted_entries}
+use Rattle.tpm_step.specs.uses.Grounds.{allows}
+use Rattle.tpm_step.specs.step.Step.{Accepted}
+use Rattle.tpm_step.specs.step.Table.{row_of}
 use Rattle.tpm_step.specs.rows.Acceptance.{IsAcceptance}
 use Rattle.tpm_step.specs.rows.Handles.{HandlesFit}
 use Rattle.tpm_step.specs.rows.Sessions.{HasSession, HaveSessions}

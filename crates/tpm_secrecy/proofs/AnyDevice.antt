@@ -22,12 +22,12 @@ use Rattle.tpm_record.specs.Record.{Record}
 use Rattle.tpm_record.specs.Tick.{ticked}
 use Rattle.tpm_record.specs.rows.Request.{Request, first_handle}
 use Rattle.tpm_session.specs.declared.session.Session.{Session}
-use Rattle.tpm_step.proofs.Binding.{asked, ok_at, ok_bind_is, ok_checked, ok_then}
-use Rattle.tpm_step.proofs.UseGrounds.{Passes, hash_one, use_passed}
+use Rattle.tpm_step.proofs.rows.Binding.{asked, ok_at, ok_bind_is, ok_checked, ok_then}
+use Rattle.tpm_step.proofs.uses.UseGrounds.{Passes, hash_one, use_passed}
 use Rattle.tpm_step.proofs.rows.Acceptance.{accepted_is}
-use Rattle.tpm_step.specs.Events.{Cycled, Given, Placed, PlainEvent}
-use Rattle.tpm_step.specs.General.{general}
-use Rattle.tpm_step.specs.Step.{Accepted, accepted, request_in}
+use Rattle.tpm_step.specs.step.Events.{Cycled, Given, Placed, PlainEvent}
+use Rattle.tpm_step.specs.step.General.{general}
+use Rattle.tpm_step.specs.step.Step.{Accepted, accepted, request_in}
 use Rattle.tpm_step.specs.rows.Handles.{HandlesFit}
 use Rattle.tpm_types.specs.Algorithm.{hash_number}
 use Rattle.tpm_types.specs.Handle.{session_kind}

@@ -26,7 +26,7 @@ use Rattle.tpm_session.specs.Sessions.{session_at}
 use Rattle.tpm_session.specs.declared.session.Binding.{Binding}
 use Rattle.tpm_session.specs.declared.session.Protection.{Protection}
 use Rattle.tpm_session.specs.declared.session.Session.{Session}
-use Rattle.tpm_step.proofs.Binding.{asked}
+use Rattle.tpm_step.proofs.rows.Binding.{asked}
 use Rattle.tpm_types.proofs.Spelled.{first}
 use Rattle.tpm_types.specs.Handle.{session_kind}
 use Rattle.tpm_types.specs.Refused.{checked}

@@ -15,10 +15,10 @@ use Rattle.tpm_record.specs.Tick.{ticked}
 use Rattle.tpm_session.specs.Sessions.{session_at}
 use Rattle.tpm_session.specs.declared.session.Binding.{Binding}
 use Rattle.tpm_session.specs.declared.session.Session.{Session}
-use Rattle.tpm_step.specs.Events.{Cycled, Given, Placed, PlainEvent}
-use Rattle.tpm_step.specs.General.{general}
-use Rattle.tpm_step.specs.Granted.{Granted, granted_entries}
-use Rattle.tpm_step.specs.Step.{request_in, step_where}
+use Rattle.tpm_step.specs.step.Events.{Cycled, Given, Placed, PlainEvent}
+use Rattle.tpm_step.specs.step.General.{general}
+use Rattle.tpm_step.specs.step.Granted.{Granted, granted_entries}
+use Rattle.tpm_step.specs.step.Step.{request_in, step_where}
 use Rattle.tpm_step.specs.declared.refused_command.RefusedCommand.{RefusedCommand}
 use Rattle.tpm_types.proofs.Named.{none}
 use Rattle.tpm_types.specs.Handle.{hierarchy_auth_of, session_kind}

@@ -4,7 +4,7 @@ use Rattle.std.proofs.Common.{ap, inl, inr, refl, subst, sym, ◌∙◌}
 use Rattle.std.specs.List.{concat, flat_map}
 use Rattle.std.specs.Prelude.{Bool, List, [], Some, false, if◌then◌else◌, slice_get, ℕ, ◌≡◌, ◌⊎◌}
 use Rattle.tpm_commands.specs.declared.command_code.CommandCode.TheVariants as command
-use Rattle.tpm_step.specs.View.{OfObject}
+use Rattle.tpm_step.specs.history.View.{OfObject}
 use Rattle.tpm_mac.proofs.DigestSize.{length-hash_of}
 use Rattle.tpm_mac.specs.Digest.{hash_of}
 use Rattle.tpm_mac.specs.declared.algorithm.HashAlg.{HashAlg}
@@ -12,12 +12,12 @@ use Rattle.tpm_policy_meaning.proofs.Chains.{is_same_or_not}
 use Rattle.tpm_policy_meaning.specs.Expression.{PolicyExpression}
 use Rattle.tpm_policy_meaning.specs.Meaning.{BreaksHash, IsMet, IsPolicyExpression}
 use Rattle.tpm_policy_meaning.specs.PolicyDigest.{policy_digest}
-use Rattle.tpm_step.specs.AssertedBy.{ShowsSecret}
-use Rattle.tpm_step.specs.Executions.{history_after}
-use Rattle.tpm_step.specs.History.{AcceptedCommand, History}
-use Rattle.tpm_step.specs.Pcrs.{digest_in, values_in}
-use Rattle.tpm_step.specs.PolicyReviews.{HavePcrValues, IsUsedBySession}
-use Rattle.tpm_step.specs.PolicyUses.{HasPcrsNow, IsMetBy, PolicyUse, ShowsAuthValue}
+use Rattle.tpm_step.specs.uses.AssertedBy.{ShowsSecret}
+use Rattle.tpm_step.specs.history.Executions.{history_after}
+use Rattle.tpm_step.specs.history.History.{AcceptedCommand, History}
+use Rattle.tpm_step.specs.history.Pcrs.{digest_in, values_in}
+use Rattle.tpm_step.specs.uses.PolicyReviews.{HavePcrValues, IsUsedBySession}
+use Rattle.tpm_step.specs.uses.PolicyUses.{HasPcrsNow, IsMetBy, PolicyUse, ShowsAuthValue}
 use Rattle.tpm_types.proofs.Named.{none}
 use Rattle.tpm_types.specs.declared.pcr_selection.BankSelection.{BankSelection}
 use Rattle.tpm_types_object.specs.declared.public.Public.{Public}

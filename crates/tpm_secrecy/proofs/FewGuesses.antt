@@ -1,7 +1,7 @@
 -- Wrong guesses reveal nothing. If recoveryTime is not 0 and nothing resets failedTries, the number
 -- of failed tries is limited.
 use Rattle.std.specs.Prelude.{true}
-use Rattle.tpm_step.proofs.FewTries.{fails_within}
+use Rattle.tpm_step.proofs.history.FewTries.{fails_within}
 use Rattle.tpm_secrecy.proofs.Data.{covers}
 use Rattle.tpm_secrecy.proofs.Stepping.{run_of_wrong_guesses_tells_nothing}
 use Rattle.tpm_secrecy.specs.Tells.{WrongTriesAreFew, after_all, executions_of}

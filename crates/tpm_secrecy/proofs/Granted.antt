@@ -15,8 +15,8 @@ use Rattle.tpm_containers.specs.Slots.{at_place, free}
 use Rattle.tpm_record.specs.Record.{Record}
 use Rattle.tpm_session.specs.Sessions.{session_at, session_byte}
 use Rattle.tpm_session.specs.declared.session.Session.{Session}
-use Rattle.tpm_step.proofs.Binding.{ok_at, ok_bind, ok_bind_is}
-use Rattle.tpm_step.specs.Granted.{granted_entries}
+use Rattle.tpm_step.proofs.rows.Binding.{ok_at, ok_bind, ok_bind_is}
+use Rattle.tpm_step.specs.step.Granted.{granted_entries}
 use Rattle.tpm_types.specs.Handle.{is_session, password_handle, session_kind}
 use Rattle.tpm_types.specs.SessionType.{type_byte}
 use Rattle.tpm_types.specs.declared.handle.Handle.{Handle}

@@ -23,11 +23,11 @@ use Rattle.tpm_record.specs.rows.Rows.{Success, all_read}
 use Rattle.tpm_session.specs.Session.{with_nonce, with_policy}
 use Rattle.tpm_session.specs.Sessions.{rolled, session_at, session_byte, with_session_policy}
 use Rattle.tpm_session.specs.declared.session.Session.{Session}
-use Rattle.tpm_step.proofs.Binding.{ok_bind, ok_bind_is, some_is}
+use Rattle.tpm_step.proofs.rows.Binding.{ok_bind, ok_bind_is, some_is}
 use Rattle.tpm_step.proofs.rows.Table.{of_success}
-use Rattle.tpm_step.specs.Entries.{draw_of, entries_rolled, entry_rolled}
-use Rattle.tpm_step.specs.Grounds.{allows}
-use Rattle.tpm_step.specs.Table.{row_of}
+use Rattle.tpm_step.specs.step.Entries.{draw_of, entries_rolled, entry_rolled}
+use Rattle.tpm_step.specs.uses.Grounds.{allows}
+use Rattle.tpm_step.specs.step.Table.{row_of}
 use Rattle.tpm_step.specs.rows.Footprint.{Touches}
 use Rattle.tpm_types.proofs.Named.{none}
 use Rattle.tpm_types.specs.declared.handle.Handle.{Handle}

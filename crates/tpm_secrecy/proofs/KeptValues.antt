@@ -43,11 +43,11 @@ use Rattle.tpm_record.specs.rows.Refusals.{handle_refusal, or_refusal, parameter
 use Rattle.tpm_record.specs.rows.Request.{Request, first_handle}
 use Rattle.tpm_record.specs.rows.Rows.{Success, all_read, only}
 use Rattle.tpm_record.specs.rows.Target.{index_or_refusal, target_of}
-use Rattle.tpm_step.proofs.Binding.{ok_bind, ok_bind_is, some_is}
+use Rattle.tpm_step.proofs.rows.Binding.{ok_bind, ok_bind_is, some_is}
 use Rattle.tpm_step.proofs.rows.HandleRules.{first_fits}
 use Rattle.tpm_step.proofs.rows.Table.{of_success, row_touches}
-use Rattle.tpm_step.specs.Table.{row_of}
-use Rattle.tpm_step.specs.Tries.{touched}
+use Rattle.tpm_step.specs.step.Table.{row_of}
+use Rattle.tpm_step.specs.history.Tries.{touched}
 use Rattle.tpm_step.specs.rows.Footprint.{Touches}
 use Rattle.tpm_step.specs.rows.Handles.{HandlesFit}
 use Rattle.tpm_types.specs.AuthValue.{auth_value_at}
@@ -257,8 +257,7 @@ module _ (s : Secrecy) where
   permanent_stays : (old new : Record) (h : Handle) → names_kept h ≡ false → StaysOpen old new h
   permanent_stays old new h kept shown = permanent_value new h kept ∙ sym (permanent_value old h kept) ∙ shown
 
-  -- an existing object is not in a free slot, and so a new object in a free slot does not replace
-  -- it
+  -- a new object in a free slot replaces no existing object
   placed_same : (r : Record) (n : ℕ) (new o : Object) (h : Handle) → object_of r h ≡ Some o → lowest_free r.objects ≡ Some n → object_of (record r { objects = with_object r.objects n new }) h ≡ object_of r h
   unfolding object_of object_at at_number
   placed_same r n new o h found free = by (is_persistent h) found

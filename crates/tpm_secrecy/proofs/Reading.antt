@@ -21,10 +21,10 @@ use Rattle.tpm_record.specs.Record.{Record}
 use Rattle.tpm_record.specs.rows.Refusals.{action_refusal}
 use Rattle.tpm_record.specs.rows.Request.{Request, first_handle, second_handle, third_handle}
 use Rattle.tpm_record.specs.rows.Rows.{Success, all_read}
-use Rattle.tpm_step.proofs.Binding.{asked, ok_at, ok_bind, ok_bind_is}
+use Rattle.tpm_step.proofs.rows.Binding.{asked, ok_at, ok_bind, ok_bind_is}
 use Rattle.tpm_step.proofs.rows.HandleRules.{first_fits}
-use Rattle.tpm_step.specs.Table.{row_of}
-use Rattle.tpm_step.specs.View.{OfObject, entity_view, view_of}
+use Rattle.tpm_step.specs.step.Table.{row_of}
+use Rattle.tpm_step.specs.history.View.{OfObject, entity_view, view_of}
 use Rattle.tpm_step.specs.rows.Handles.{HandlesFit}
 use Rattle.tpm_types.specs.Handle.{handle_type}
 use Rattle.tpm_types.specs.Rc.{at, plain}

@@ -14,21 +14,21 @@ use Rattle.tpm_record.specs.Record.{Record, manufactured}
 use Rattle.tpm_record.specs.Tick.{ticked}
 use Rattle.tpm_record.specs.rows.Request.{Request}
 use Rattle.tpm_record.specs.rows.Rows.{Success}
-use Rattle.tpm_step.proofs.Binding.{ok_at}
-use Rattle.tpm_step.proofs.Following.{execution_follows, manufactured_follows, stretch_follows}
-use Rattle.tpm_step.proofs.PolicyReviews.{object_needs}
+use Rattle.tpm_step.proofs.rows.Binding.{ok_at}
+use Rattle.tpm_step.proofs.history.Following.{execution_follows, manufactured_follows, stretch_follows}
+use Rattle.tpm_step.proofs.uses.PolicyReviews.{object_needs}
 use Rattle.tpm_step.proofs.rows.Acceptance.{accepted_is}
-use Rattle.tpm_step.specs.EntryHmacs.{used_in}
-use Rattle.tpm_step.specs.Events.{Cycled, Given, Placed, PlainEvent}
-use Rattle.tpm_step.specs.Execution.{Executes}
-use Rattle.tpm_step.specs.Executions.{Execution, Leads, history_after, with_execution}
-use Rattle.tpm_step.specs.Follows.{Follows}
-use Rattle.tpm_step.specs.General.{general}
-use Rattle.tpm_step.specs.History.{AcceptedCommand, Done, History, command_of, recorded, with_command}
-use Rattle.tpm_step.specs.PolicyUses.{AllMeetPolicies, UsesMeetPolicies}
-use Rattle.tpm_step.specs.Step.{Accepted, Stepped, Steps, acceptance, accepted, answer_where, request_in, step_where}
-use Rattle.tpm_step.specs.Table.{row_of}
-use Rattle.tpm_step.specs.View.{OfObject, View}
+use Rattle.tpm_step.specs.uses.EntryHmacs.{used_in}
+use Rattle.tpm_step.specs.step.Events.{Cycled, Given, Placed, PlainEvent}
+use Rattle.tpm_step.specs.step.Execution.{Executes}
+use Rattle.tpm_step.specs.history.Executions.{Execution, Leads, history_after, with_execution}
+use Rattle.tpm_step.specs.history.Follows.{Follows}
+use Rattle.tpm_step.specs.step.General.{general}
+use Rattle.tpm_step.specs.history.History.{AcceptedCommand, Done, History, command_of, recorded, with_command}
+use Rattle.tpm_step.specs.uses.PolicyUses.{AllMeetPolicies, UsesMeetPolicies}
+use Rattle.tpm_step.specs.step.Step.{Accepted, Stepped, Steps, acceptance, accepted, answer_where, request_in, step_where}
+use Rattle.tpm_step.specs.step.Table.{row_of}
+use Rattle.tpm_step.specs.history.View.{OfObject, View}
 use Rattle.tpm_step.specs.declared.refused_command.RefusedCommand.{RefusedCommand}
 use Rattle.tpm_step.specs.rows.Handles.{HandlesFit}
 use Rattle.tpm_types.proofs.Named.{none}

@@ -20,16 +20,16 @@ use Rattle.tpm_record.specs.Tick.{ticked}
 use Rattle.tpm_record.specs.rows.Refusals.{memory_refusal}
 use Rattle.tpm_record.specs.rows.Request.{Request}
 use Rattle.tpm_record.specs.rows.Rows.{Success}
-use Rattle.tpm_step.proofs.Binding.{ok_bind}
+use Rattle.tpm_step.proofs.rows.Binding.{ok_bind}
 use Rattle.tpm_step.proofs.rows.Acceptance.{accepted_is}
 use Rattle.tpm_step.proofs.rows.Table.{row_tells}
-use Rattle.tpm_step.specs.Answer.{Answered, answer_to, written_of}
-use Rattle.tpm_step.specs.Events.{Cycled, Given, Placed, PlainEvent}
-use Rattle.tpm_step.specs.General.{body_of, general, in_command, in_header, present_handle_at}
-use Rattle.tpm_step.specs.Granted.{granted_entries}
-use Rattle.tpm_step.specs.Placing.{placed, placed_at}
-use Rattle.tpm_step.specs.Step.{Accepted, Stepped, acceptance, accepted, answer_where, counted_in, refusal_step, refusal_without_memory, request_in, settled, step_where, success_step, success_without_memory}
-use Rattle.tpm_step.specs.Table.{row_of}
+use Rattle.tpm_step.specs.step.Answer.{Answered, answer_to, written_of}
+use Rattle.tpm_step.specs.step.Events.{Cycled, Given, Placed, PlainEvent}
+use Rattle.tpm_step.specs.step.General.{body_of, general, in_command, in_header, present_handle_at}
+use Rattle.tpm_step.specs.step.Granted.{granted_entries}
+use Rattle.tpm_step.specs.step.Placing.{placed, placed_at}
+use Rattle.tpm_step.specs.step.Step.{Accepted, Stepped, acceptance, accepted, answer_where, counted_in, refusal_step, refusal_without_memory, request_in, settled, step_where, success_step, success_without_memory}
+use Rattle.tpm_step.specs.step.Table.{row_of}
 use Rattle.tpm_step.specs.declared.event.Row.{Row}
 use Rattle.tpm_step.specs.declared.refused_command.RefusedCommand.{RefusedCommand}
 use Rattle.tpm_step.specs.rows.Acceptance.{IsAcceptance}
@@ -309,8 +309,8 @@ module _ (s : Secrecy) (covers : CoversKeys s) where
 pub wrong_guesses_tell_nothing : WrongGuessesTellNothing
 wrong_guesses_tell_nothing s covers one other refused event also differ alike keeps keeps_also = told_nothing s covers refused one other event also differ alike keeps keeps_also
 
--- If one event reveals nothing, and the events after it reveal nothing, all of them together reveal
--- nothing.
+-- If the first event reveals nothing, and the later events reveal nothing, all events together
+-- reveal nothing.
 pub runs_on : (s : Secrecy) (one other : Record) (e f : Bool × PlainEvent) (es fs : Attempts) → TellsNothing s (step_where e.0 one e.1) (step_where f.0 other f.1) → RunsAlike s (step_where e.0 one e.1).after (step_where f.0 other f.1).after es fs → RunsAlike s one other (e ∷ es) (f ∷ fs)
 runs_on s one other e f es fs this rest =
     let x : Stepped = step_where e.0 one e.1 in

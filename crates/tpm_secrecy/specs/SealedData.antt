@@ -9,16 +9,16 @@ use Rattle.tpm_policy_meaning.specs.Expression.{Branch, NoBranch, Nothing, Polic
 use Rattle.tpm_policy_meaning.specs.Meaning.{IsMet, IsPolicyExpression}
 use Rattle.tpm_policy_meaning.specs.PolicyDigest.{policy_digest}
 use Rattle.tpm_record.specs.Record.{Record, manufactured}
-use Rattle.tpm_step.specs.AssertedBy.{ShowsSecret}
-use Rattle.tpm_step.specs.Events.{PlainEvent}
-use Rattle.tpm_step.specs.Execution.{Executes}
-use Rattle.tpm_step.specs.Executions.{Execution, Leads, history_after, with_execution}
-use Rattle.tpm_step.specs.Follows.{Follows}
-use Rattle.tpm_step.specs.History.{AcceptedCommand, Done, History, recorded}
-use Rattle.tpm_step.specs.PolicyReviews.{HavePcrValues, IsUsedBySession, by_pcrs}
-use Rattle.tpm_step.specs.PolicyUses.{IsMetBy, ShowsAuthValue}
-use Rattle.tpm_step.specs.Step.{Stepped, Steps}
-use Rattle.tpm_step.specs.View.{OfObject}
+use Rattle.tpm_step.specs.uses.AssertedBy.{ShowsSecret}
+use Rattle.tpm_step.specs.step.Events.{PlainEvent}
+use Rattle.tpm_step.specs.step.Execution.{Executes}
+use Rattle.tpm_step.specs.history.Executions.{Execution, Leads, history_after, with_execution}
+use Rattle.tpm_step.specs.history.Follows.{Follows}
+use Rattle.tpm_step.specs.history.History.{AcceptedCommand, Done, History, recorded}
+use Rattle.tpm_step.specs.uses.PolicyReviews.{HavePcrValues, IsUsedBySession, by_pcrs}
+use Rattle.tpm_step.specs.uses.PolicyUses.{IsMetBy, ShowsAuthValue}
+use Rattle.tpm_step.specs.step.Step.{Stepped, Steps}
+use Rattle.tpm_step.specs.history.View.{OfObject}
 use Rattle.tpm_types.specs.declared.pcr_selection.BankSelection.{BankSelection}
 use Rattle.tpm_types_object.specs.ObjectAttributes.{has}
 use Rattle.tpm_types_object.specs.declared.public.Public.{Public}
@@ -27,8 +27,7 @@ use Rattle.tpm_secrecy.specs.Tells.{EventsAlike, TellsNothing}
 use Rattle.tpm_types_object.specs.declared.object_attributes.ObjectAttribute.TheVariants as attribute
 use Rattle.tpm_commands.specs.declared.command_code.CommandCode.TheVariants as command
 
--- the choice of secrets in which only the sealed data or keys of objects with these public areas
--- are secret
+-- a choice of secrets: only the sealed data or keys of objects with these public areas
 abbrev pub sealed : (Public → Bool) → Secrecy
 sealed objects = of_data (λ number. false) objects
 

@@ -4,12 +4,12 @@ use Rattle.tpm_auth.specs.Grant.{authorize}
 use Rattle.tpm_auth.specs.declared.session_grant.Grant.{Grant}
 use Rattle.tpm_record.specs.Record.{Record}
 use Rattle.tpm_record.specs.Tick.{ticked}
-use Rattle.tpm_step.specs.Events.{Cycled, Given, Placed, PlainEvent}
-use Rattle.tpm_step.specs.Executions.{Execution, Leads, history_after}
-use Rattle.tpm_step.specs.General.{general}
-use Rattle.tpm_step.specs.Potential.{IsForgiving}
-use Rattle.tpm_step.specs.Step.{Stepped, request_in, step_where}
-use Rattle.tpm_step.specs.Tries.{HasNoReset, failures_in, tries_within}
+use Rattle.tpm_step.specs.step.Events.{Cycled, Given, Placed, PlainEvent}
+use Rattle.tpm_step.specs.history.Executions.{Execution, Leads, history_after}
+use Rattle.tpm_step.specs.step.General.{general}
+use Rattle.tpm_step.specs.history.Potential.{IsForgiving}
+use Rattle.tpm_step.specs.step.Step.{Stepped, request_in, step_where}
+use Rattle.tpm_step.specs.history.Tries.{HasNoReset, failures_in, tries_within}
 use Rattle.tpm_step.specs.declared.event.Row.{Row}
 use Rattle.tpm_step.specs.declared.refused_command.RefusedCommand.{RefusedCommand}
 use Rattle.tpm_types.specs.declared.refused.Refused.{Refused}
@@ -22,7 +22,7 @@ use Rattle.tpm_secrecy.specs.Guesses.{BindingsHold, GuessesFail}
 -- ---- single events
 
 -- whether a command with these grants reads secret data; a command whose authorization is refused
--- reads none
+-- reads no secret data
 abbrev pub granted_reads : Secrecy → Record → Whole → (locality : ℕ) → (random : List ℕ)
     → Result (List (Option Grant)) Refused → Bool
 granted_reads s r c locality random (Ok grants) =

@@ -20,8 +20,8 @@ ghost use Rattle.tpm_secrecy.specs.Tells.{WrongGuessesTellNothing};
 /// Suppose that two devices differ only in secret data. An event that does not read this data on
 /// one device reveals nothing about it: both devices return the same response, report the same row,
 /// and afterwards differ only in this data. This also holds for a list of events up to the first
-/// one that reads the data. An event reads the data on both devices, or on neither. Allocations may
-/// fail on both devices, or on neither.
+/// event that reads the data. An event reads the data on both devices, or on neither. Allocations
+/// may fail on both devices, or on neither.
 #[inline(always)]
 pub fn secrecy_laws()
     ensures event { EventTellsNothing }

@@ -1,5 +1,5 @@
--- A password authorizes an object exactly if it is the authorization value, both without trailing
--- zeros.
+-- A password authorizes an object exactly when the password and the authorization value are equal,
+-- ignoring trailing zeros.
 use Rattle.std.proofs.Common.{◌≡◌, ℕ, zero, suc, ◌-◌, ◌<◌, Bool, true, false, List, [], ◌∷◌, ◌++◌, length, replicate, append-nil, append_assoc, refl, sym, ap, ◌∙◌, arith}
 use Rattle.std.specs.Prelude.{if◌then◌else◌, nat_lt}
 use Rattle.std.specs.Str.{bytes_eq}
@@ -11,31 +11,31 @@ use Rattle.tpm_types.specs.AuthValue.{trimmed}
 use Rattle.tpm_sequence.specs.Authorization.{padded}
 use Rattle.tpm_sequence.specs.Meaning.{AuthorizesByValue}
 
--- a zero at the end is trimmed
+-- a zero at the end does not change the trimmed bytes
 trimmed_zero : (bytes : List ℕ) → trimmed (bytes ++ 0 ∷ []) ≡ trimmed bytes
 unfolding trimmed
 trimmed_zero bytes = rw (reverse-append bytes (0 ∷ [])) refl
 
--- zeros at the end are trimmed
+-- zeros at the end do not change the trimmed bytes
 trimmed_zeros : (bytes : List ℕ) (n : ℕ) → trimmed (bytes ++ replicate n 0) ≡ trimmed bytes
 trimmed_zeros bytes zero = ap trimmed (append-nil bytes)
 trimmed_zeros bytes (suc n) =
     ap trimmed (sym (append_assoc bytes (0 ∷ []) (replicate n 0)))
     ∙ trimmed_zeros (bytes ++ 0 ∷ []) n ∙ trimmed_zero bytes
 
--- trimming undoes padding
+-- padding does not change the trimmed bytes
 pub trimmed_padded : (bytes : List ℕ) → trimmed (padded bytes) ≡ trimmed bytes
 unfolding padded
 trimmed_padded bytes = trimmed_zeros (trimmed bytes) _ ∙ trimmed_twice bytes
 
--- two tests that hold together are equal
+-- two tests that imply each other have the same result
 same_bool : (a b : Bool) → (a ≡ true → b ≡ true) → (b ≡ true → a ≡ true) → a ≡ b
 same_bool true true to from = refl
 same_bool true false to from = sym (to refl)
 same_bool false true to from = from refl
 same_bool false false to from = refl
 
--- padded values are equal exactly if the trimmed ones are
+-- padded values are equal exactly when the trimmed values are equal
 padded_eq : (a b : List ℕ) → bytes_eq (padded a) (padded b) ≡ bytes_eq (trimmed a) (trimmed b)
 unfolding padded
 padded_eq a b =

@@ -1,4 +1,4 @@
--- A beginning records whether the data begin with TPM_GENERATED_VALUE.
+-- A `Beginning` records whether the data begin with TPM_GENERATED_VALUE.
 use Rattle.std.proofs.Common.{◌≡◌, ℕ, ◌+◌, ◌<◌, Bool, true, false, List, [], ◌∷◌, ◌++◌, length, take, inl, inr, nat_eq, slice_index, refl, sym, ap, ◌∙◌}
 use Rattle.std.specs.Prelude.{◌&&◌, if◌then◌else◌}
 use Rattle.std.specs.List.{starts_with}
@@ -10,14 +10,14 @@ use Rattle.tpm_sequence.specs.Meaning.{RecordsGenerated}
 use Rattle.tpm_sequence.specs.declared.beginning.Beginning as declared
 use Rattle.tpm_sequence.specs.declared.beginning.Beginning.TheVariants.{Generated, One, Ordinary, Three, Two}
 
--- the beginning after two parts is the one after their concatenation
+-- adding two parts one after the other is the same as adding their concatenation
 pub beginning_in_parts : (beginning : declared.Beginning) (first second : List ℕ)
     → beginning_after (beginning_after beginning first) second ≡ beginning_after beginning (first ++ second)
 unfolding beginning_after
 beginning_in_parts beginning [] second = refl
 beginning_in_parts beginning (byte ∷ first) second = beginning_in_parts (byte_after beginning byte) first second
 
--- one more byte of a list
+-- adding one more byte of a list
 pub beginning_more : (beginning : declared.Beginning) (bytes : List ℕ) (i : ℕ) → i < length bytes
     → beginning_after beginning (take (i + 1) bytes)
     ≡ byte_after (beginning_after beginning (take i bytes)) (slice_index bytes i)
@@ -38,14 +38,15 @@ unfolding beginning_after
 ordinary_stays [] = refl
 ordinary_stays (byte ∷ bytes) = ordinary_stays bytes
 
--- the test of one byte, either way round
+-- the equality test is symmetric
 same_test : (a b : ℕ) → nat_eq a b ≡ nat_eq b a
 same_test a b = elim (eqb_tells a b) [
   | inl same ↦ same.0 ∙ sym (eq-eqb b a (sym same.1))
   | inr other ↦ other.0 ∙ sym (ne_eqb b a (λ e. other.1 (sym e)))
 ]
 
--- one byte of the value
+-- the data begin with the value exactly when the next byte matches (`test`) and the rest begins
+-- with the rest of the value (`whole`)
 chosen : (test : Bool) (next : declared.Beginning) (bytes : List ℕ) (whole : Bool)
     → is_generated (beginning_after next bytes) ≡ whole
     → is_generated (beginning_after (if test then next else Ordinary) bytes) ≡ test && whole

@@ -1,4 +1,4 @@
--- The digests of a sequence are those of all its data.
+-- The digests of a sequence are the digests of all its data.
 use Rattle.std.proofs.Common.{◌≡◌, ℕ, List, [], ◌∷◌, ◌++◌, refl, sym, ap, ap₂, ◌∙◌}
 use Rattle.tpm_hash_state.proofs.Absorbing.{absorbs_in_parts, digest_is_hash}
 use Rattle.tpm_hash_state.proofs.HmacLaws.{hmac_absorbs_in_parts, hmac_is_hmac}
@@ -11,14 +11,14 @@ use Rattle.tpm_sequence.specs.Sequence.{event_sequence, hash_sequence, hmac_sequ
 use Rattle.tpm_sequence.specs.declared.sequence.Sequence as declared
 use Rattle.tpm_sequence.specs.declared.sequence.Sequence.TheVariants.{Event, Hash, Hmac}
 
--- no data change nothing
+-- updating a sequence with no data changes nothing
 updated_none : (sequence : declared.Sequence) → sequence_updated sequence [] ≡ sequence
 unfolding absorbed beginning_after
 updated_none (Hash state beginning) = refl
 updated_none (Event sha1 sha256) = refl
 updated_none (Hmac state) = refl
 
--- updating a sequence with two parts is updating it with their concatenation
+-- updating a sequence with two parts is the same as updating it with their concatenation
 pub updated_in_parts : (sequence : declared.Sequence) (first second : List ℕ)
     → sequence_updated (sequence_updated sequence first) second ≡ sequence_updated sequence (first ++ second)
 updated_in_parts (Hash state beginning) first second =

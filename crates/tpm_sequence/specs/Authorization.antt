@@ -9,8 +9,8 @@ use Rattle.tpm_sequence.specs.declared.object.SequenceObject.{SequenceObject}
 unfoldable pub padded : List ℕ → List ℕ
 padded bytes = trimmed bytes ++ replicate (32 - length (trimmed bytes)) 0
 
--- whether the password is the authorization value of the object. A password with more than 32 bytes
--- before its trailing zeros is not
+-- whether the password is the authorization value of the object, ignoring trailing zeros. A
+-- password that is longer than 32 bytes without its trailing zeros never is
 abbrev pub is_authorized : SequenceObject → (password : List ℕ) → Bool
 is_authorized object password =
     if nat_lt 32 (length (trimmed password)) then false else bytes_eq (padded password) object.auth

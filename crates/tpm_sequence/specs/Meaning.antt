@@ -1,5 +1,5 @@
--- The digests of a sequence are those of all its data, in whatever parts, and a password authorizes
--- a sequence object exactly if it is the authorization value.
+-- The digests of a sequence are the digests of all its data, in whatever parts. A password
+-- authorizes a sequence object exactly when it is the authorization value.
 use Rattle.std.specs.Prelude.{◌≡◌, ◌≤◌, ℕ, Bool, List, [], ◌∷◌, length, nat_eq}
 use Rattle.std.specs.List.{flat_map, starts_with}
 use Rattle.std.specs.Str.{bytes_eq}
@@ -26,12 +26,12 @@ begins_generated message = starts_with nat_eq message (0xff ∷ 0x54 ∷ 0x43 �
 
 -- ---- the laws
 
--- The beginning of a message is `Generated` exactly if it begins with TPM_GENERATED_VALUE.
+-- A beginning is `Generated` exactly when the message begins with TPM_GENERATED_VALUE.
 abbrev pub RecordsGenerated : Type 0
 RecordsGenerated = (message : List ℕ)
     → is_generated (beginning_after Empty message) ≡ begins_generated message
 
--- Updating a sequence with several parts is updating it with their concatenation.
+-- Updating a sequence with several parts is the same as updating it with their concatenation.
 abbrev pub UpdatesInParts : Type 0
 UpdatesInParts = (sequence : declared.Sequence) (parts : List (List ℕ))
     → updates sequence parts ≡ sequence_updated sequence (joined parts)
@@ -59,8 +59,8 @@ HmacSequenceIsHmac = (hash : HashAlg) (key : List ℕ) (parts : List (List ℕ))
     → sequence_digests (updates (hmac_sequence hash key) parts)
     ≡ hmac_of hash key (joined parts) ∷ []
 
--- A password authorizes an object exactly if it is the authorization value, both without trailing
--- zeros.
+-- A password authorizes an object exactly when the password and the authorization value are equal,
+-- ignoring trailing zeros.
 abbrev pub AuthorizesByValue : Type 0
 AuthorizesByValue = (auth password : List ℕ) (sequence : declared.Sequence)
     → length (trimmed auth) ≤ 32

@@ -12,13 +12,15 @@ use Rattle.tpm_sequence.specs.declared.object.SequenceObject.{SequenceObject}
 use Rattle.tpm_sequence.specs.declared.sequence.Sequence as declared
 use Rattle.tpm_sequence.specs.declared.sequence.Sequence.TheVariants.{Event, Hash, Hmac}
 
--- a hash sequence, an event sequence and an HMAC sequence that have no data
+-- a hash sequence without data
 abbrev pub hash_sequence : HashAlg → declared.Sequence
 hash_sequence hash = Hash (empty_state hash) Empty
 
+-- an event sequence without data
 abbrev pub event_sequence : declared.Sequence
 event_sequence = Event (empty_state alg.Sha1) (empty_state alg.Sha256)
 
+-- an HMAC sequence without data
 abbrev pub hmac_sequence : HashAlg → (key : List ℕ) → declared.Sequence
 hmac_sequence hash key = Hmac (hmac_state hash key)
 

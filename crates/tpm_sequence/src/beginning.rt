@@ -16,7 +16,7 @@ pub enum Beginning {
     Three,
     /// The data begin with the value.
     Generated,
-    /// The data differ from the value.
+    /// The first bytes of the data differ from the value.
     Ordinary,
 }
 

@@ -2,7 +2,7 @@
 
 ghost use Rattle.tpm_sequence.specs.Meaning.{AuthorizesByValue, EventSequenceIsHashes, HashSequenceIsHash, HashSequenceRecordsBeginning, HmacSequenceIsHmac, RecordsGenerated, UpdatesInParts};
 
-/// A beginning records whether the data begin with TPM_GENERATED_VALUE. The function does nothing
+/// A `Beginning` records whether the data begin with TPM_GENERATED_VALUE. The function does nothing
 /// at run time.
 #[inline(always)]
 #[tactic(auto, using(crate::proofs::BeginningLaws::records_generated))]
@@ -22,8 +22,8 @@ pub fn sequence_laws()
     ensures hmac { HmacSequenceIsHmac }
 {}
 
-/// A password authorizes a sequence object if and only if it is the authorization value, without
-/// trailing zeros. The function does nothing at run time.
+/// A password authorizes a sequence object if and only if it equals the authorization value,
+/// ignoring trailing zeros. The function does nothing at run time.
 #[inline(always)]
 pub fn authorization_laws()
     ensures { AuthorizesByValue }

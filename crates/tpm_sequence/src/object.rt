@@ -35,7 +35,7 @@ impl SequenceObject {
         self.sequence.update(bytes);
     }
 
-    /// Whether the password is the authorization value. Trailing zeros do not count.
+    /// Whether the password is the authorization value, ignoring trailing zeros.
     #[tactic(auto, unfolding(crate::specs::Authorization::padded))]
     pub fn is_authorized(&self, password: &[u8]) -> bool
         ensures { result ≡ is_authorized self.now password.now }

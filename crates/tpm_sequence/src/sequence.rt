@@ -7,7 +7,7 @@ use crate::beginning::Beginning;
 use tpm_hash_state::{HashState, HmacState};
 use tpm_mac::HashAlg;
 
-/// A sequence: what is known of its data so far.
+/// A sequence, as the state of its digests after the data so far.
 #[derive(Clone, Copy, PartialEq, Eq)]
 pub enum Sequence {
     /// A hash sequence (TPM2_HashSequenceStart with a hash algorithm).

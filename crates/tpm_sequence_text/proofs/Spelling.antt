@@ -14,8 +14,8 @@ use Rattle.tpm_types.proofs.Spelled.{Spelled, all_read, first, respelled, then, 
 use Rattle.tpm_sequence_text.specs.HashState.{AreWords}
 use Rattle.tpm_sequence_text.specs.Slot.{both_in}
 
--- an exact decoder is still exact if it returns a value made from the decoded one, provided that
--- each valid value is made from one that the decoder returns
+-- an exact decoder is still exact if it converts the decoded value, provided that each valid result
+-- comes from a value that the decoder returns
 pub made_from : {A B E : Type 0} {text : A → List ℕ} {Is : A → Type 0} {at : List ℕ → Result (A × List ℕ) E} (made : A → B) (other : B → List ℕ) (Are : B → Type 0) → ((x : A) → Is x → Are (made x)) → ((x : A) → other (made x) ≡ text x) → ((y : B) → Are y → (x : A) × (made x ≡ y) × Is x) → Spelled text Is at → Spelled other Are (λ bytes. at bytes >>= λ x. Ok (made x.0, x.1))
 made_from {A} {B} {E} {text} {Is} {at} made other Are to same from law = record {
   taken = λ bytes y fits e.
@@ -42,7 +42,7 @@ both_spelled {X} {Y} {text} {other} law next =
 pub n64 : Spelled (to_be_bytes w64) (λ n. n < 2 ^ 64) (number_in w64)
 n64 = number_in_spelled w64 (2 ^ 64) wide64
 
--- the decoder of this many words is exact
+-- the decoder of `count` words is exact
 pub words_spelled : (count : ℕ) → Spelled (flat_map (to_be_bytes w32)) (AreWords count) (many_at (number_in w32) count)
 words_spelled count =
     respelled (many_spelled count (number_in_spelled w32 (2 ^ 32) wide32)) (λ xs. refl)

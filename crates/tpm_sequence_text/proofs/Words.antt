@@ -1,5 +1,5 @@
--- Reading words one after another: the words read so far, followed by those still to be read, are
--- the whole list.
+-- Reading words one after another: the words read so far, followed by the words still to be read,
+-- are the whole list.
 use Rattle.std.proofs.Common.{◌≡◌, ℕ, ◌+◌, ◌-◌, ◌<◌, List, length, take, slice_set, Result, Ok, Err, ap, ◌∙◌, arith}
 use Rattle.std.proofs.lemmas.List.{append-nil, take_all, take_more_set}
 use Rattle.tpm_bytes.proofs.Joining.{behind, none_more}

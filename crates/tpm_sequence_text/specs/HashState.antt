@@ -51,7 +51,7 @@ value_in text = do
 
 -- ---- the state
 
--- Every number of a state fits its integer type, and its block has the size of a block.
+-- Every number of a state fits its integer type, and the block has 64 bytes.
 pub record IsHashState (state : declared.HashState) : Type 0 where
   pub value : IsValue state.chaining
   pub block : length state.block ≡ 64

@@ -31,7 +31,7 @@ kind_number (Some kind.Hash) = 1
 kind_number (Some kind.Event) = 2
 kind_number (Some kind.Hmac) = 3
 
--- the kind with this byte, or None if there is no such kind
+-- the kind that this byte encodes, or None for any other byte
 abbrev pub kind_named : ℕ → Option (Option SequenceKind)
 kind_named number =
     if number == 0 then Some None
@@ -55,7 +55,7 @@ beginning_number begun.Three = 3
 beginning_number begun.Generated = 4
 beginning_number begun.Ordinary = 5
 
--- the beginning with this byte, or None if there is no such beginning
+-- the beginning that this byte encodes, or None for any other byte
 abbrev pub beginning_named : ℕ → Option Beginning
 beginning_named number =
     if number == 0 then Some begun.Empty

@@ -27,7 +27,7 @@ sequence_text (Hash state beginning) =
 sequence_text (Event sha1 sha256) = hash_state_text sha1 ++ hash_state_text sha256
 sequence_text (Hmac state) = hash_state_text state.inner ++ hash_state_text state.outer
 
--- decodes one value after another
+-- decodes two values, one after the other
 abbrev pub both_in : {X Y : Type 0}
     → (List ℕ → Result (X × List ℕ) Malformed)
     → (List ℕ → Result (Y × List ℕ) Malformed)
@@ -77,7 +77,7 @@ object_in kind text = do
   parts ← both_in (bytes_in 32) (sequence_in kind) text
   Ok (record { auth = parts.0.0; sequence = parts.0.1 }, parts.1)
 
--- the text of a slot after its kind
+-- the part of a slot's text after the kind
 abbrev pub contents_text : Option SequenceObject → List ℕ
 contents_text None = []
 contents_text (Some object) = object_text object
@@ -85,7 +85,7 @@ contents_text (Some object) = object_text object
 unfoldable pub slot_text : Option SequenceObject → List ℕ
 slot_text slot = to_be_bytes w8 (kind_number (slot_kind slot)) ++ contents_text slot
 
--- decodes a slot after its kind
+-- decodes the part of a slot's text after the kind
 abbrev pub contents_in : Option SequenceKind
     → List ℕ → Result (Option SequenceObject × List ℕ) Malformed
 contents_in None text = Ok (None, text)

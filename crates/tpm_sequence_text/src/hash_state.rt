@@ -6,16 +6,13 @@ ghost use Rattle.std.specs.List.{flat_map};
 ghost use Rattle.tpm_bytes.specs.Many.{many_at};
 ghost use Rattle.tpm_bytes.specs.Reading.{Reads};
 ghost use Rattle.tpm_image_text.specs.Fields.{in_body, number_in};
-ghost use Rattle.tpm_image_text.specs.Sizes.{text_size};
 ghost use Rattle.tpm_types.specs.Algorithm.{hash_at};
 ghost use Rattle.tpm_sequence_text.specs.HashState.{hash_state_in, hash_state_text, value_after, value_in, value_text};
 ghost use Rattle.tpm_sequence_text.specs.Sizes.{hash_state_size, value_size};
 
-use tpm_bytes::Cursor;
+use tpm_bytes::{Cursor, Sink};
 use tpm_hash_state::{ChainingValue, HashState};
-use tpm_image_text::{
-    Malformed, Text, read_array, read_u32, read_u64, write_array, write_u16, write_u32, write_u64,
-};
+use tpm_image_text::{Malformed, read_array, read_u32, read_u64};
 use tpm_mac::HashAlg;
 use tpm_types::{hash_number, read_hash};
 
@@ -28,7 +25,7 @@ fn read_algorithm(text: &mut Cursor) -> Result<HashAlg, Malformed>
     }
 }
 
-/// Reads this many words.
+/// Reads N words.
 #[tactic(auto, using(crate::proofs::Words::left_laws))]
 fn read_words<const N: usize>(text: &mut Cursor) -> Result<[u32; N], Malformed>
     ensures { Reads (λ words. words) (many_at (number_in w32) N text.old) text.old
@@ -81,30 +78,30 @@ pub(crate) fn read_hash_state(text: &mut Cursor) -> Result<HashState, Malformed>
     })
 }
 
-fn write_words<const N: usize>(words: &[u32; N], text: &mut Text)
-    requires few { N ≤ 8 }
-    requires room { length text.old + 4 * N ≤ text_size }
+fn write_words<const M: usize, const N: usize>(words: &[u32; M], text: &mut Sink<N>)
+    requires few { M ≤ 8 }
+    requires room { length text.old + 4 * M ≤ N }
     ensures written { text.new ≡ text.old ++ flat_map (to_be_bytes w32) words.now }
-    ensures small { length text.new ≡ length text.old + 4 * N }
+    ensures small { length text.new ≡ length text.old + 4 * M }
 {
     for word in words {
-        write_u32(*word, text);
+        text.append_u32(*word);
     }
 }
 
 #[tactic(auto, unfolding(crate::specs::HashState::value_text))]
-fn write_value(value: &ChainingValue, text: &mut Text)
-    requires { length text.old + value_size ≤ text_size }
+fn write_value<const N: usize>(value: &ChainingValue, text: &mut Sink<N>)
+    requires { length text.old + value_size ≤ N }
     ensures written { text.new ≡ text.old ++ value_text value.now }
     ensures small { length text.new ≤ length text.old + value_size }
 {
     match value {
         ChainingValue::Sha1(words) => {
-            write_u16(hash_number(HashAlg::Sha1), text);
+            text.append_u16(hash_number(HashAlg::Sha1));
             write_words(words, text);
         }
         ChainingValue::Sha256(words) => {
-            write_u16(hash_number(HashAlg::Sha256), text);
+            text.append_u16(hash_number(HashAlg::Sha256));
             write_words(words, text);
         }
     }
@@ -112,12 +109,12 @@ fn write_value(value: &ChainingValue, text: &mut Text)
 
 /// Writes a hash in progress.
 #[tactic(auto, unfolding(crate::specs::HashState::hash_state_text))]
-pub(crate) fn write_hash_state(state: &HashState, text: &mut Text)
-    requires { length text.old + hash_state_size ≤ text_size }
+pub(crate) fn write_hash_state<const N: usize>(state: &HashState, text: &mut Sink<N>)
+    requires { length text.old + hash_state_size ≤ N }
     ensures written { text.new ≡ text.old ++ hash_state_text state.now }
     ensures small { length text.new ≤ length text.old + hash_state_size }
 {
     write_value(&state.chaining, text);
-    write_array(&state.block, text);
-    write_u64(state.length, text);
+    text.append(&state.block);
+    text.append_u64(state.length);
 }

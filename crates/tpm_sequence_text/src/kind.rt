@@ -1,13 +1,11 @@
 //! The enumerated values of a slot, each encoded as one byte.
 
-ghost use Rattle.std.specs.Prelude.{◌≡◌, ◌+◌, ◌++◌, ◌≤◌, length};
-ghost use Rattle.std.specs.Int.{to_be_bytes, w8};
+ghost use Rattle.std.specs.Prelude.{◌≡◌};
 ghost use Rattle.tpm_bytes.specs.Reading.{Reads};
-ghost use Rattle.tpm_image_text.specs.Sizes.{text_size};
 ghost use Rattle.tpm_sequence_text.specs.Kind.{beginning_in, beginning_named, beginning_number, kind_in, kind_named, kind_number, sequence_kind};
 
 use tpm_bytes::Cursor;
-use tpm_image_text::{Malformed, Text, read_u8};
+use tpm_image_text::{Malformed, read_u8};
 use tpm_sequence::{Beginning, Sequence};
 
 /// The kind of a sequence.
@@ -33,7 +31,7 @@ pub(crate) fn kind_of(sequence: &Sequence) -> SequenceKind
 }
 
 /// The byte for the kind of the sequence in a slot, or for a free slot.
-fn kind_number(kind: Option<SequenceKind>) -> u8
+pub(crate) fn kind_number(kind: Option<SequenceKind>) -> u8
     ensures { result ≡ kind_number kind }
 {
     match kind {
@@ -70,17 +68,8 @@ pub(crate) fn read_kind(text: &mut Cursor) -> Result<Option<SequenceKind>, Malfo
     Ok(kind)
 }
 
-/// Writes the kind of the sequence in a slot, or None for a free slot.
-pub(crate) fn write_kind(kind: Option<SequenceKind>, text: &mut Text)
-    requires { length text.old + 1 ≤ text_size }
-    ensures written { text.new ≡ text.old ++ to_be_bytes w8 (kind_number kind) }
-    ensures small { length text.new ≡ length text.old + 1 }
-{
-    text.append_u8(kind_number(kind));
-}
-
 /// The byte for how the data of a hash sequence begin.
-fn beginning_number(beginning: Beginning) -> u8
+pub(crate) fn beginning_number(beginning: Beginning) -> u8
     ensures { result ≡ beginning_number beginning }
 {
     match beginning {
@@ -119,13 +108,4 @@ pub(crate) fn read_beginning(text: &mut Cursor) -> Result<Beginning, Malformed>
     };
     *text = ahead;
     Ok(beginning)
-}
-
-/// Writes how the data of a hash sequence begin.
-pub(crate) fn write_beginning(beginning: Beginning, text: &mut Text)
-    requires { length text.old + 1 ≤ text_size }
-    ensures written { text.new ≡ text.old ++ to_be_bytes w8 (beginning_number beginning) }
-    ensures small { length text.new ≡ length text.old + 1 }
-{
-    text.append_u8(beginning_number(beginning));
 }

@@ -1,10 +1,10 @@
 #![tactic(auto)]
 
-//! The text of a slot for a sequence object: encodes the slot's contents, and decodes them again.
+//! Encodes a slot for a sequence object, and decodes it again.
 //!
 //! A state text contains the sequence objects of the completing layer in this encoding
-//! (`specs/Slot`). The crate uses `tpm_sequence` for the objects, and `tpm_image_text` for the
-//! fields.
+//! (`specs/Slot`), and so does the context of a sequence object. The crate uses `tpm_sequence` for
+//! the objects, and `tpm_image_text` for the fields.
 //!
 //! Decoding returns a slot exactly when the bytes begin with its encoding. Therefore each slot has
 //! only one encoding ([`laws`]). No function allocates memory.

@@ -2,15 +2,16 @@
 
 ghost use Rattle.std.specs.Prelude.{◌≡◌, ◌+◌, ◌++◌, ◌≤◌, length, option_copied};
 ghost use Rattle.tpm_bytes.specs.Reading.{Reads};
-ghost use Rattle.tpm_image_text.specs.Sizes.{text_size};
 ghost use Rattle.tpm_sequence_text.specs.Sizes.{sequence_size, slot_size};
 ghost use Rattle.tpm_sequence_text.specs.Slot.{event_in, hash_in, hmac_in, object_in, sequence_in, sequence_text, slot_in, slot_text};
 
 use crate::hash_state::{read_hash_state, write_hash_state};
-use crate::kind::{SequenceKind, kind_of, read_beginning, read_kind, write_beginning, write_kind};
-use tpm_bytes::Cursor;
+use crate::kind::{
+    SequenceKind, beginning_number, kind_number, kind_of, read_beginning, read_kind,
+};
+use tpm_bytes::{Cursor, Sink};
 use tpm_hash_state::HmacState;
-use tpm_image_text::{Malformed, Text, read_array, write_array};
+use tpm_image_text::{Malformed, read_array};
 use tpm_sequence::{Sequence, SequenceObject};
 
 #[tactic(auto, unfolding(crate::specs::Slot::hash_in))]
@@ -84,15 +85,15 @@ pub fn read_slot(text: &mut Cursor) -> Result<Option<SequenceObject>, Malformed>
     Ok(slot)
 }
 
-fn write_sequence(sequence: &Sequence, text: &mut Text)
-    requires { length text.old + sequence_size ≤ text_size }
+fn write_sequence<const N: usize>(sequence: &Sequence, text: &mut Sink<N>)
+    requires { length text.old + sequence_size ≤ N }
     ensures written { text.new ≡ text.old ++ sequence_text sequence.now }
     ensures small { length text.new ≤ length text.old + sequence_size }
 {
     match sequence {
         Sequence::Hash { state, beginning } => {
             write_hash_state(state, text);
-            write_beginning(*beginning, text);
+            text.append_u8(beginning_number(*beginning));
         }
         Sequence::Event { sha1, sha256 } => {
             write_hash_state(sha1, text);
@@ -107,17 +108,17 @@ fn write_sequence(sequence: &Sequence, text: &mut Text)
 
 /// Writes the contents of a slot.
 #[tactic(auto, unfolding(crate::specs::Slot::slot_text))]
-pub fn write_slot(slot: Option<&SequenceObject>, text: &mut Text)
-    requires { length text.old + slot_size ≤ text_size }
+pub fn write_slot<const N: usize>(slot: Option<&SequenceObject>, text: &mut Sink<N>)
+    requires { length text.old + slot_size ≤ N }
     ensures written { text.new ≡ text.old ++ slot_text (option_copied slot.entry) }
     ensures small { length text.new ≤ length text.old + slot_size }
 {
     match slot {
         Some(object) => {
-            write_kind(Some(kind_of(&object.sequence)), text);
-            write_array(&object.auth, text);
+            text.append_u8(kind_number(Some(kind_of(&object.sequence))));
+            text.append(&object.auth);
             write_sequence(&object.sequence, text);
         }
-        None => write_kind(None, text),
+        None => text.append_u8(kind_number(None)),
     }
 }

@@ -186,8 +186,8 @@ impl<S: Slots<Session, SESSION_LIMIT>> Sessions<S> {
             None => false,
         }
     }
-    /// A proof only: states the number of slots, and the bounds that the types of each session's
-    /// fields guarantee. It has no effect at run time.
+    /// States the number of slots, and the bounds that the types of each session's fields
+    /// guarantee. This function is only a proof: it has no effect at run time.
     #[inline(always)]
     pub fn read_sizes(&self)
         ensures each { AreAll IsSession (places_of S.places self.now) }

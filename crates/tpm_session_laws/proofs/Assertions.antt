@@ -18,13 +18,13 @@ use Rattle.tpm_auth.specs.declared.session_grant.Grant.{Grant}
 use Rattle.tpm_record.specs.rows.Refusals.{handle_refusal}
 use Rattle.tpm_record.specs.rows.Request.{first_handle}
 use Rattle.tpm_actions_device.specs.StartAuthSession.{Parameters, parameters_in}
-use Rattle.tpm_step.specs.AssertedBy.{Stands, StandsThrough}
-use Rattle.tpm_step.specs.AuthValues.{auth_of}
-use Rattle.tpm_step.specs.HandleMap.{by_handle, with_at}
-use Rattle.tpm_step.specs.History.{AcceptedCommand, Done, History, ObjectPlaced, PastEvent, PowerCycled}
-use Rattle.tpm_step.specs.Sessions.{Bound, LiveSession, LiveSessions, bound_in, changed_session, entries_ended, entries_rolled, entry_ended, entry_rolled, nonce_size, restarted, rolled_by, sessions_by, sessions_of, started, started_by, used, used_by, with_nonce, with_started, without_session}
+use Rattle.tpm_step.specs.uses.AssertedBy.{Stands, StandsThrough}
+use Rattle.tpm_step.specs.history.AuthValues.{auth_of}
+use Rattle.tpm_step.specs.history.HandleMap.{by_handle, with_at}
+use Rattle.tpm_step.specs.history.History.{AcceptedCommand, Done, History, ObjectPlaced, PastEvent, PowerCycled}
+use Rattle.tpm_step.specs.history.Sessions.{Bound, LiveSession, LiveSessions, bound_in, changed_session, entries_ended, entries_rolled, entry_ended, entry_rolled, nonce_size, restarted, rolled_by, sessions_by, sessions_of, started, started_by, used, used_by, with_nonce, with_started, without_session}
 use Rattle.tpm_step.specs.rows.Draws.{draws_of}
-use Rattle.tpm_step.proofs.HandleMap.{at_other, at_same, same_handle}
+use Rattle.tpm_step.proofs.history.HandleMap.{at_other, at_same, same_handle}
 use Rattle.tpm_session_laws.specs.Assertions.{LeavesNoAssertion, NoneStandsThrough}
 
 -- If the session exists, it has no assertion.

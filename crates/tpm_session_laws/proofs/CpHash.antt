@@ -4,11 +4,11 @@ use Rattle.std.proofs.Common.{◌≡◌, ◌⊎◌, ℕ, List, refl, ap, sym, �
 use Rattle.tpm_mac.specs.declared.algorithm.HashAlg.{HashAlg}
 use Rattle.tpm_policy_meaning.specs.Expression.{PolicyExpression, Nothing, Then, PolicyCpHash}
 use Rattle.tpm_policy_meaning.specs.Meaning.{BreaksHash, IsMet}
-use Rattle.tpm_step.specs.EntryHmacs.{cp_hash_in}
-use Rattle.tpm_step.specs.History.{AcceptedCommand, History}
-use Rattle.tpm_step.specs.PolicyReviews.{IsUsedBySession, NeedsItsPolicy, OfEachAccepted}
-use Rattle.tpm_step.specs.PolicyUses.{IsMetBy, PolicyUse}
-use Rattle.tpm_step.proofs.PolicyReviews.{each_needs_its_policy}
+use Rattle.tpm_step.specs.uses.EntryHmacs.{cp_hash_in}
+use Rattle.tpm_step.specs.history.History.{AcceptedCommand, History}
+use Rattle.tpm_step.specs.uses.PolicyReviews.{IsUsedBySession, NeedsItsPolicy, OfEachAccepted}
+use Rattle.tpm_step.specs.uses.PolicyUses.{IsMetBy, PolicyUse}
+use Rattle.tpm_step.proofs.uses.PolicyReviews.{each_needs_its_policy}
 use Rattle.tpm_session_laws.specs.CpHash.{NeedsCpHash}
 
 module _ (history : History) (c : AcceptedCommand) (place : ℕ) (hash : HashAlg) (cp_hash : List ℕ) where

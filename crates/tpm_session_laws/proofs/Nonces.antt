@@ -8,10 +8,10 @@ use Rattle.tpm_types.specs.declared.session_type.SessionType.{SessionType}
 use Rattle.tpm_types.specs.declared.session_type.SessionType.TheVariants as type
 use Rattle.tpm_types_command.specs.AuthEntry.{Entry}
 use Rattle.tpm_auth.specs.declared.session_grant.Grant.{Grant}
-use Rattle.tpm_step.specs.History.{AcceptedCommand, Done, History}
-use Rattle.tpm_step.specs.Sessions.{LiveSession, LiveSessions, changed_session, entries_ended, entries_rolled, entry_ended, entry_rolled, nonce_size, rolled_by, sessions_by, sessions_of, used, used_by, with_nonce, without_session}
+use Rattle.tpm_step.specs.history.History.{AcceptedCommand, Done, History}
+use Rattle.tpm_step.specs.history.Sessions.{LiveSession, LiveSessions, changed_session, entries_ended, entries_rolled, entry_ended, entry_rolled, nonce_size, rolled_by, sessions_by, sessions_of, used, used_by, with_nonce, without_session}
 use Rattle.tpm_step.specs.rows.Draws.{draws_of}
-use Rattle.tpm_step.proofs.HandleMap.{at_same}
+use Rattle.tpm_step.proofs.history.HandleMap.{at_same}
 use Rattle.tpm_session_laws.specs.Nonces.{AddsItsNonce}
 
 -- If the session exists, these are its earlier nonces.

@@ -5,8 +5,8 @@ use Rattle.tpm_policy.specs.Assertion.{Assertion}
 use Rattle.tpm_types.specs.declared.handle.Handle.{Handle}
 use Rattle.tpm_commands.specs.declared.command_code.CommandCode.TheVariants as command
 use Rattle.tpm_record.specs.rows.Request.{first_handle}
-use Rattle.tpm_step.specs.AssertedBy.{StandsThrough}
-use Rattle.tpm_step.specs.History.{Done, History, ObjectPlaced, PastEvent, PowerCycled}
+use Rattle.tpm_step.specs.uses.AssertedBy.{StandsThrough}
+use Rattle.tpm_step.specs.history.History.{Done, History, ObjectPlaced, PastEvent, PowerCycled}
 
 -- An event leaves the session with this handle without assertions: TPM2_PolicyRestart of this
 -- session, TPM2_StartAuthSession that starts a session with this handle, or a power cycle.

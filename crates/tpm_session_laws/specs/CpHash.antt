@@ -4,9 +4,9 @@ use Rattle.std.specs.Prelude.{◌≡◌, ℕ, List}
 use Rattle.tpm_types_object.specs.declared.public.Public.{Public}
 use Rattle.tpm_policy_meaning.specs.Expression.{PolicyExpression, Nothing, Then, PolicyCpHash}
 use Rattle.tpm_policy_meaning.specs.Meaning.{IsPolicyExpression}
-use Rattle.tpm_step.specs.EntryHmacs.{cp_hash_in}
-use Rattle.tpm_step.specs.History.{AcceptedCommand, History}
-use Rattle.tpm_step.specs.PolicyReviews.{IsUsedBySession, UsesObject}
+use Rattle.tpm_step.specs.uses.EntryHmacs.{cp_hash_in}
+use Rattle.tpm_step.specs.history.History.{AcceptedCommand, History}
+use Rattle.tpm_step.specs.uses.PolicyReviews.{IsUsedBySession, UsesObject}
 
 -- Unless the hash is broken, an object without userWithAuth whose policy is a single
 -- TPM2_PolicyCpHash is used only by commands with that cpHash.

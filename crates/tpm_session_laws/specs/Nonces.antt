@@ -1,8 +1,8 @@
 -- The nonces that a session has had. TPM 2.0 Library, Part 1, section 19.6.3 (session nonces).
 use Rattle.std.specs.Prelude.{◌≡◌, [], ◌∷◌, Some}
 use Rattle.tpm_types_command.specs.AuthEntry.{Entry}
-use Rattle.tpm_step.specs.History.{AcceptedCommand, Done, History}
-use Rattle.tpm_step.specs.Sessions.{LiveSession, sessions_by, sessions_of}
+use Rattle.tpm_step.specs.history.History.{AcceptedCommand, Done, History}
+use Rattle.tpm_step.specs.history.Sessions.{LiveSession, sessions_by, sessions_of}
 
 -- If a command's only entry names a session, the command adds the session's old nonceTPM, not the
 -- new one, to the session's earlier nonces.

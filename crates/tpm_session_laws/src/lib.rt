@@ -9,7 +9,7 @@
 ghost use Rattle.tpm_session_laws.specs.Assertions.{NoneStandsThrough};
 ghost use Rattle.tpm_session_laws.specs.CpHash.{NeedsCpHash};
 ghost use Rattle.tpm_session_laws.specs.Nonces.{AddsItsNonce};
-ghost use Rattle.tpm_step.specs.PolicyReviews.{OfEachAccepted};
+ghost use Rattle.tpm_step.specs.uses.PolicyReviews.{OfEachAccepted};
 
 /// No assertion of a policy session survives a TPM2_PolicyRestart of the session, the start of
 /// another session with the same handle, or a power cycle.

@@ -10,8 +10,8 @@ use tpm_record::{Keep, PersistentObjects};
 use tpm_session::Session;
 use tpm_types::{OBJECT_LIMIT, SESSION_LIMIT};
 
-/// With the state in fixed slots, an allocation never fails, neither when the state is created nor
-/// when a value is added. The same holds for each of its containers. A proof only: it has no effect
+/// With the state in fixed slots, creating the state and adding a value never run out of memory.
+/// The same holds for each container of the state. This function is only a proof: it has no effect
 /// at run time.
 #[inline(always)]
 pub fn fixed_laws()

@@ -8,7 +8,7 @@ ghost use Rattle.tpm_sequence_text.specs.Slot.{IsSequence, IsSequenceObject, IsS
 use tpm_hash_state::{ChainingValue, HashState, HmacState};
 use tpm_sequence::{Sequence, SequenceObject};
 
-/// The contract says that each of the words fits in 32 bits. The function does nothing.
+/// Proves that each word fits in 32 bits. Does nothing at run time.
 fn words_fit(words: &[u32])
     ensures { All (λ word. word < 2 ^ 32) words.now }
 {}

@@ -26,7 +26,7 @@ const START_SESSION: &[u8] = b"\x80\x01\0\0\0\x2b\0\0\x01\x76\x40\0\0\x07\x40\0\
 /// digest.
 const END: &[u8] = &[0x3f, 0x11, 0xe6, 0xe7, 0x23, 0xa3, 0x73, 0x6d];
 
-/// Fails the test if the value found is not the expected one.
+/// Fails the test if the actual value is not the expected value.
 pub fn check<R: Abort, T: PartialEq + Drop>(rt: &R, found: T, wanted: T) {
     assert!(rt; found == wanted);
 }

@@ -1,4 +1,4 @@
--- The body of a state text: decoding returns a state exactly when the bytes are its body.
+-- Decoding returns a state exactly when the bytes are the body of its state text.
 use Rattle.std.proofs.Common.{◌≡◌, ℕ, ◌^◌, ◌<◌, Bool, List, [], ◌++◌, length, Option, Ok, refl, append_assoc, append-nil, arith}
 use Rattle.std.specs.Int.{w64, to_be_bytes}
 use Rattle.std.proofs.lemmas.Bool.{lt-ltb, ltb-true}

@@ -1,5 +1,5 @@
--- Version 1 of a state text: decoding returns a state exactly when the bytes are its body. Without
--- the flushed objects that stayed in their slots, the state is one that a device can have.
+-- In version 1 of a state text, decoding returns a state exactly when the bytes are its body. A
+-- device can have this state without the flushed objects that stayed in their slots.
 use Rattle.std.proofs.Common.{◌≡◌, ℕ, zero, suc, ◌+◌, ◌<◌, ◌≤◌, Bool, true, false, List, [], ◌∷◌, length, slice_set, Option, Some, None, IfSome, Ok, refl, sym, ap, ◌∙◌, arith, length-append}
 use Rattle.std.specs.Prelude.{◌==◌, cond, is_some, option_map}
 use Rattle.std.specs.Int.{w64, to_be_bytes}
@@ -99,8 +99,7 @@ body_small s is =
 
 -- ---- the objects that wait
 
--- if flushed objects were removed from the first `n` slots, removing the one from the next slot
--- removes them from the first `n + 1` slots
+-- removing the flushed objects from one slot after another
 pub without_more : (held : List Held) (objects so new : List (Option Object)) (n : ℕ) → so ≡ fold (without_one held) objects (numbers_below n) → new ≡ without_one held so n → new ≡ fold (without_one held) objects (numbers_below (n + 1))
 without_more held objects so new n is more =
     let next : n + 1 ≡ suc n = omega arith in
@@ -108,8 +107,8 @@ without_more held objects so new n is more =
     ∙ sym (fold-append (without_one held) objects (numbers_below n) (n ∷ []))
     ∙ sym (ap (λ m. fold (without_one held) objects (numbers_below m)) next)
 
--- The list has one element for each slot of the device, and each object in it is one that a device
--- can have.
+-- The list has one element for each slot of the device, and a device can have each object in the
+-- list.
 abbrev ArePlaces : List (Option Object) → Type 0
 ArePlaces objects = (length objects ≡ object_limit) × AreAll IsObject objects
 

@@ -1,4 +1,4 @@
--- The state of the completing layer: decoding returns it exactly when the bytes begin with its
+-- Decoding returns the state of the completing layer exactly when the bytes begin with its
 -- encoding.
 use Rattle.std.proofs.Common.{◌≡◌, ℕ, ◌^◌, ◌<◌, Bool, true, false, List, [], ◌∷◌, ◌++◌, length, replicate, Option, Some, None, IfSome, is_some, Result, refl, sym, ap, subst, ◌∙◌, arith}
 use Rattle.std.specs.Int.{w8, w64, to_be_bytes}
@@ -23,7 +23,7 @@ use Rattle.tpm_state_text.specs.declared.layer.LayerKind.{LayerKind}
 use Rattle.tpm_state_text.specs.declared.layer.LayerKind.TheVariants as kind
 use Rattle.tpm_state_text.proofs.PlaceLaws.{after, after_spelled}
 
--- if a decoder of one element is exact, so is the decoder of `count` elements one after another
+-- if a decoder of one element is exact, decoding `count` elements one after another is exact too
 pub all_spelled : {A : Type 0} {text : A → List ℕ} {Is : A → Type 0} {at : List ℕ → Result (A × List ℕ) Malformed} (count : ℕ) → Spelled text Is at → Spelled (flat_map text) (λ xs. (length xs ≡ count) × All Is xs) (many_at at count)
 all_spelled {A} {text} {Is} {at} count law =
     respelled (many_spelled count law) (λ xs. refl)
@@ -33,7 +33,7 @@ all_spelled {A} {text} {Is} {at} count law =
 pub n64 : Spelled (to_be_bytes w64) (λ n. n < 2 ^ 64) (number_in w64)
 n64 = number_in_spelled w64 (2 ^ 64) wide64
 
--- a decoder is still exact if another encoding is the same for all valid values
+-- a decoder is also exact for another encoding that agrees on all valid values
 respelled_valid : {A E : Type 0} {text other : A → List ℕ} {Is : A → Type 0} {at : List ℕ → Result (A × List ℕ) E} → Spelled text Is at → ((x : A) → Is x → other x ≡ text x) → Spelled other Is at
 respelled_valid {A} {E} {text} {other} {Is} {at} law same = record {
   taken = λ bytes x fits e. let t = law.taken bytes x fits e in (subst (λ (l : List ℕ). Takes bytes l x.1) (sym (same x.0 t.1)) t.0, t.1);
@@ -42,7 +42,7 @@ respelled_valid {A} {E} {text} {other} {Is} {at} law same = record {
 
 -- ---- sequence objects
 
--- There are three slots, and each is free or contains a sequence object that a layer can have.
+-- There are three slots. Each is free, or contains a sequence object that a layer can have.
 abbrev AreSlots : List (Option SequenceObject) → Type 0
 AreSlots slots = (length slots ≡ sequence_slots) × All IsSlot slots
 
@@ -113,7 +113,7 @@ used_same true false e = absurd cc
 used_same false true e = absurd cc
 used_same false false e = refl
 
--- The layer is one that a device can have, or there is none; and it has this kind.
+-- If there is a layer, a device can have it; and the layer, or its absence, has this kind.
 abbrev IsPart : LayerKind → Option Layer → Type 0
 IsPart one layer = IfSome layer IsLayer × (kind_of layer ≡ one)
 

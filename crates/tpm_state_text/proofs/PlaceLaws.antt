@@ -1,5 +1,4 @@
--- Optional values, and slots: decoding returns a value exactly when the bytes begin with its
--- encoding.
+-- Decoding returns optional values and slots exactly when the bytes begin with their encoding.
 use Rattle.std.proofs.Common.{◌≡◌, ℕ, zero, suc, Bool, true, false, List, [], ◌∷◌, ◌++◌, length, Option, Some, None, is_some, IfSome, Result, Ok, refl, subst}
 use Rattle.std.specs.List.{AllByRecursion}
 use Rattle.tpm_bytes.proofs.Fields.{AreBytes, Takes, bind_ok, ok_is}

@@ -1,5 +1,5 @@
--- The record of a restored device consists of the state that it keeps without power and the state
--- that a power cycle clears, as the state text encodes them.
+-- The record of a restored device consists of the state that a device keeps without power and the
+-- state that a power cycle clears, both as the state text encodes them.
 use Rattle.std.proofs.Common.{◌≡◌, ℕ, Bool, List, Option, Result, Ok, refl, subst}
 use Rattle.tpm_image_text.specs.Body.{kept_in}
 use Rattle.tpm_image_text.specs.Filling.{Fills}
@@ -20,7 +20,7 @@ use Rattle.tpm_state_text.specs.Sessions.{sessions_in}
 use Rattle.tpm_image_text.specs.Fields.{number_in, yes_no_in}
 use Rattle.std.specs.Int.{w64}
 
--- reading the fields that a power cycle clears, one after another, results in the device that the
+-- reading one field after another of the state that a power cycle clears yields the device that the
 -- bytes encode
 pub resumes : (r : Record) (old : Fixed) (lockout : LockoutState) (fields : LockoutFields) (started : Bool) (banks : BankValues) (time forgiving_time closed_time : ℕ) (sessions : List (Option Session)) (objects : List (Option Object)) (new : Record) (text behind_started behind_banks behind_time behind_forgiving behind_closed behind_sessions rest : List ℕ) → old ≡ r.fixed → fields ≡ old.lockout.fields → lockout ≡ record { fields = fields; forgiving_time = forgiving_time; closed_time = closed_time } → new ≡ record r { fixed = record old { started = started; banks = banks; time = time; lockout = lockout }; sessions = sessions; objects = objects } → yes_no_in text ≡ Ok (started, behind_started) → banks_in behind_started ≡ Ok (banks, behind_banks) → number_in w64 behind_banks ≡ Ok (time, behind_time) → lockout_time_in behind_time ≡ Ok (forgiving_time, behind_forgiving) → lockout_time_in behind_forgiving ≡ Ok (closed_time, behind_closed) → sessions_in behind_closed ≡ Ok (sessions, behind_sessions) → transients_in behind_sessions ≡ Ok (objects, rest) → resumed_in (kept_of r) text ≡ Ok (new, rest)
 unfolding resumed_in

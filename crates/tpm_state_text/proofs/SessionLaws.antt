@@ -1,4 +1,4 @@
--- Sessions: decoding returns a session exactly when the bytes begin with its encoding.
+-- Decoding returns a session exactly when the bytes begin with its encoding.
 use Rattle.std.proofs.Common.{◌≡◌, ℕ, ◌^◌, ◌<◌, ◌≤◌, Bool, List, length, Option, Some, None, IfSome, refl, arith}
 use Rattle.std.specs.Int.{w8, w16, w32, w64, to_be_bytes}
 use Rattle.std.proofs.lemmas.Bool.{leb-true, le-leb}

@@ -1,5 +1,5 @@
--- State texts: decoding returns a state exactly when the bytes are its state text. No proper prefix
--- of a state text is a state text.
+-- Decoding returns a state exactly when the bytes are its state text. No proper prefix of a state
+-- text is a state text.
 use Rattle.std.proofs.Common.{◌≡◌, ℕ, ◌+◌, ◌<◌, ◌≤◌, ◌^◌, Some, List, ◌++◌, length, take, Result, Ok, Err, inl, inr, refl, subst, sym, ap, ◌∙◌, append_assoc, arith}
 use Rattle.std.proofs.lemmas.List.{length-take, take_at}
 use Rattle.tpm_bytes.specs.Reading.{◌>>=◌, or_fault, refused_if}
@@ -83,8 +83,8 @@ pub earlier_refused : (state : EarlierState) → IsEarlierState state → curren
 earlier_refused state is =
     ap (λ (framed : Result (StateVersion × List ℕ) StateFault). framed >>= current_by) (earlier_framed state is)
 
--- a state that was decoded from a body of this version is one that a device can have, and the
--- framed body encodes it
+-- a device can have the state that was decoded from a body of this version, and the framed body
+-- encodes the state
 found_in : (version : StateVersion) (body : List ℕ) (state : WholeState) → AreBytes body → state_in_body version body ≡ Ok state → IsWholeState state × Encodes (framed_state version body) state
 unfolding state_in_body state_text earlier_text
 found_in One body state fits e =

@@ -33,10 +33,11 @@ volatile_size = 25 + banks_size + sessions_size + transients_size
 abbrev pub slots_size : ℕ
 slots_size = sequence_slots * slot_size
 
--- the largest size of an encoded layer; below, the size in version 1
+-- the largest size of an encoded layer
 abbrev pub layer_size : ℕ
 layer_size = 16 + session_limit * 8 + slots_size
 
+-- the largest size of an encoded layer in version 1
 abbrev pub earlier_layer_size : ℕ
 earlier_layer_size = 16 + session_limit * 8 + object_limit * 16
 

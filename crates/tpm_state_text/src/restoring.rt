@@ -96,7 +96,8 @@ pub fn restored<K: Keep>(alloc: Global, text: &[u8]) -> Result<(K, Option<Layer>
 }
 
 /// Replaces a device with the device that a state text encodes, and returns the completing layer.
-/// On error, the device is unchanged. The new device is created next to the old one and then moved.
+/// On error, the device is unchanged. The new device is created next to the old device and then
+/// moved.
 pub fn restore_into<K: Keep>(
     keep: &mut K,
     alloc: Global,

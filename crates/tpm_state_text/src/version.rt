@@ -9,7 +9,8 @@ pub enum StateVersion {
     /// Version 1 is read but no longer written. In it, a flushed object could stay in its slot
     /// until its context was loaded.
     One,
-    /// In version 2, the completing layer remembers only the contexts of sessions.
+    /// In version 2, no flushed object stays in a slot. The completing layer stores the contexts of
+    /// sessions, and the sequence objects.
     Two,
 }
 

@@ -1,4 +1,5 @@
 -- The laws about the rows of all commands.
+pub mod Binding
 pub mod Readings
 pub mod AllPlaces
 pub mod SizedParts

@@ -25,7 +25,7 @@ pub enum Event<'a> {
 }
 
 impl<'a> Event<'a> {
-    ghost use Rattle.tpm_step.specs.Events.{IsEvent, plain_event};
+    ghost use Rattle.tpm_step.specs.step.Events.{IsEvent, plain_event};
     ghost use Rattle.tpm_step.specs.declared.event.Event.TheVariants.{Command};
 
     /// Makes the event of a command.

@@ -21,41 +21,41 @@ ghost use Rattle.tpm_record.specs.Cycle.{cycled};
 ghost use Rattle.tpm_record.specs.Entity.{auth_value_of, is_present, names_kept};
 ghost use Rattle.tpm_record.specs.IsRecord.{IsRecord};
 ghost use Rattle.tpm_record.specs.Record.{Record, manufactured};
-ghost use Rattle.tpm_step.specs.Events.{Given, PlainEvent};
-ghost use Rattle.tpm_step.specs.Execution.{Executes};
-ghost use Rattle.tpm_step.specs.Run.{Runs};
-ghost use Rattle.tpm_step.specs.Step.{Stepped};
-ghost use Rattle.tpm_step.specs.Alike.{AuthorizeAlike};
-ghost use Rattle.tpm_step.specs.AuthValues.{auth_of};
-ghost use Rattle.tpm_step.specs.Counters.{CountLaws};
-ghost use Rattle.tpm_step.specs.DeviceAuthValues.{HasAuthValues};
-ghost use Rattle.tpm_step.specs.DeviceCounters.{BeginsAbove, ExceedsEarlier, HasCounters};
-ghost use Rattle.tpm_step.specs.DeviceCounters.{KeepsCounter};
-ghost use Rattle.tpm_step.specs.DeviceSessions.{HasSessions, IsLive};
-ghost use Rattle.tpm_step.specs.Executions.{Execution, Leads, history_after, placing};
-ghost use Rattle.tpm_step.specs.Executions.{power_cycle};
-ghost use Rattle.tpm_step.specs.FailedRun.{IsFailedRun};
-ghost use Rattle.tpm_step.specs.Follows.{After, Follows, RunFollows, StretchFollows, Tells};
-ghost use Rattle.tpm_step.specs.Grounds.{AllHaveGrounds};
-ghost use Rattle.tpm_step.specs.History.{AcceptedCommand, Done, History, PastEvent};
-ghost use Rattle.tpm_step.specs.History.{PowerCycled};
-ghost use Rattle.tpm_step.specs.History.{recorded};
-ghost use Rattle.tpm_step.specs.Pcrs.{before_shutdown, pcr_of, pcrs_after};
-ghost use Rattle.tpm_step.specs.Placing.{placed};
-ghost use Rattle.tpm_step.specs.PolicyLaws.{KeepsQuietValues, UsesItsCommand};
-ghost use Rattle.tpm_step.specs.PolicyLaws.{UsesAsWritten, UsesPcrsAsTheyAre};
-ghost use Rattle.tpm_step.specs.PolicyReviews.{IsWrittenOnce, NeedsCount, NeedsItsPolicy};
-ghost use Rattle.tpm_step.specs.PolicyReviews.{NeedsPcrs, NeedsPcrsAndPin, NeedsPinOrSecret};
-ghost use Rattle.tpm_step.specs.PolicyReviews.{OfEachAccepted};
-ghost use Rattle.tpm_step.specs.PolicyUses.{AllMeetPolicies};
-ghost use Rattle.tpm_step.specs.Potential.{IsForgiving};
-ghost use Rattle.tpm_step.specs.RunReplays.{IsRecorded, RunReplaysRepeat};
-ghost use Rattle.tpm_step.specs.Sessions.{IsNewSession, LiveSession, started};
-ghost use Rattle.tpm_step.specs.Tries.{FailsFew, FailsWithin, IsAnsweredTry, IsReset};
-ghost use Rattle.tpm_step.specs.Tries.{IsRefusedTry, fails_try, is_reset};
-ghost use Rattle.tpm_step.specs.Tries.{tries_at_most, tries_within};
-ghost use Rattle.tpm_step.specs.View.{view_of};
-ghost use Rattle.tpm_step.specs.Views.{TellsOf};
+ghost use Rattle.tpm_step.specs.step.Events.{Given, PlainEvent};
+ghost use Rattle.tpm_step.specs.step.Execution.{Executes};
+ghost use Rattle.tpm_step.specs.step.Run.{Runs};
+ghost use Rattle.tpm_step.specs.step.Step.{Stepped};
+ghost use Rattle.tpm_step.specs.uses.Alike.{AuthorizeAlike};
+ghost use Rattle.tpm_step.specs.history.AuthValues.{auth_of};
+ghost use Rattle.tpm_step.specs.history.Counters.{CountLaws};
+ghost use Rattle.tpm_step.specs.history.DeviceAuthValues.{HasAuthValues};
+ghost use Rattle.tpm_step.specs.history.DeviceCounters.{BeginsAbove, ExceedsEarlier, HasCounters};
+ghost use Rattle.tpm_step.specs.history.DeviceCounters.{KeepsCounter};
+ghost use Rattle.tpm_step.specs.history.DeviceSessions.{HasSessions, IsLive};
+ghost use Rattle.tpm_step.specs.history.Executions.{Execution, Leads, history_after, placing};
+ghost use Rattle.tpm_step.specs.history.Executions.{power_cycle};
+ghost use Rattle.tpm_step.specs.history.FailedRun.{IsFailedRun};
+ghost use Rattle.tpm_step.specs.history.Follows.{After, Follows, RunFollows, StretchFollows, Tells};
+ghost use Rattle.tpm_step.specs.uses.Grounds.{AllHaveGrounds};
+ghost use Rattle.tpm_step.specs.history.History.{AcceptedCommand, Done, History, PastEvent};
+ghost use Rattle.tpm_step.specs.history.History.{PowerCycled};
+ghost use Rattle.tpm_step.specs.history.History.{recorded};
+ghost use Rattle.tpm_step.specs.history.Pcrs.{before_shutdown, pcr_of, pcrs_after};
+ghost use Rattle.tpm_step.specs.step.Placing.{placed};
+ghost use Rattle.tpm_step.specs.uses.PolicyLaws.{KeepsQuietValues, UsesItsCommand};
+ghost use Rattle.tpm_step.specs.uses.PolicyLaws.{UsesAsWritten, UsesPcrsAsTheyAre};
+ghost use Rattle.tpm_step.specs.uses.PolicyReviews.{IsWrittenOnce, NeedsCount, NeedsItsPolicy};
+ghost use Rattle.tpm_step.specs.uses.PolicyReviews.{NeedsPcrs, NeedsPcrsAndPin, NeedsPinOrSecret};
+ghost use Rattle.tpm_step.specs.uses.PolicyReviews.{OfEachAccepted};
+ghost use Rattle.tpm_step.specs.uses.PolicyUses.{AllMeetPolicies};
+ghost use Rattle.tpm_step.specs.history.Potential.{IsForgiving};
+ghost use Rattle.tpm_step.specs.uses.RunReplays.{IsRecorded, RunReplaysRepeat};
+ghost use Rattle.tpm_step.specs.history.Sessions.{IsNewSession, LiveSession, started};
+ghost use Rattle.tpm_step.specs.history.Tries.{FailsFew, FailsWithin, IsAnsweredTry, IsReset};
+ghost use Rattle.tpm_step.specs.history.Tries.{IsRefusedTry, fails_try, is_reset};
+ghost use Rattle.tpm_step.specs.history.Tries.{tries_at_most, tries_within};
+ghost use Rattle.tpm_step.specs.history.View.{view_of};
+ghost use Rattle.tpm_step.specs.history.Views.{TellsOf};
 
 use crate::event::Outcome;
 
@@ -124,7 +124,7 @@ pub fn view_laws()
 /// The PCR values that a history records as saved are the values that the PCRs had at the last
 /// shutdown. A TPM Resume restores them for PCR 0 to 15.
 #[inline(always)]
-#[tactic(auto, using(crate::proofs::DevicePcrs::saved_are))]
+#[tactic(auto, using(crate::proofs::history::DevicePcrs::saved_are))]
 pub fn shutdown_laws()
     ensures { (history : History) (bank : HashAlg) (pcr : ℕ)
         → (pcrs_after history).saved bank pcr ≡ pcr_of (before_shutdown history) bank pcr }
@@ -133,7 +133,7 @@ pub fn shutdown_laws()
 /// A session of a device has the key, the nonceTPM and the policy that the history determines for
 /// its handle, and was started as the history says.
 #[inline(always)]
-#[tactic(auto, using(crate::proofs::DeviceSessions::live_sessions))]
+#[tactic(auto, using(crate::proofs::history::DeviceSessions::live_sessions))]
 pub fn live_session_laws()
     ensures { (r : Record) (history : History) (handle : Handle) (s : Session)
         → HasSessions r history → session_at r.sessions handle ≡ Some s
@@ -144,7 +144,7 @@ pub fn live_session_laws()
 /// The value is empty for PCRs, for TPM_RH_NULL, and for every other handle that is not of a
 /// hierarchy, lockout, an NV index or an object. No authorization value ends in a zero byte.
 #[inline(always)]
-#[tactic(auto, using(crate::proofs::DeviceAuthValues::present_auth_value, crate::proofs::TrimmedValues::told_values_are_trimmed))]
+#[tactic(auto, using(crate::proofs::history::DeviceAuthValues::present_auth_value, crate::proofs::history::TrimmedValues::told_values_are_trimmed))]
 pub fn auth_value_laws()
     ensures present { (r : Record) (history : History) (handle : Handle) → HasAuthValues r history
         → is_present r handle ≡ true → auth_value_of r handle ≡ auth_of history handle }
@@ -159,7 +159,7 @@ pub fn auth_value_laws()
 /// value of a counter exceeds every value that any counter had before. A counter does not go down
 /// until an index is defined again with its handle.
 #[inline(always)]
-#[tactic(auto, using(crate::proofs::CountLaws::count_laws))]
+#[tactic(auto, using(crate::proofs::history::CountLaws::count_laws))]
 pub fn count_laws()
     ensures { CountLaws }
 {}

@@ -11,6 +11,12 @@
 //! The crate uses the definitions of the rows, in tpm_record and the crates of the commands, and
 //! the definitions of tpm_auth. tpm_machine is proved to compute the step. The laws are about
 //! definitions only, and not about code.
+//!
+//! The definitions in `specs/` and the lemmas in `proofs/` are in folders:
+//! - `step`: what one event does to a device, and runs of events
+//! - `rows`: what holds for the rows of all commands
+//! - `history`: what a history determines about a device that follows it
+//! - `uses`: what authorizes the use of an entity, and what repeats in a replay
 
 pub mod direction;
 pub mod event;

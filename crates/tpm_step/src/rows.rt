@@ -29,15 +29,15 @@ ghost use Rattle.tpm_record.specs.rows.Request.{Request, first_handle, second_ha
 ghost use Rattle.tpm_row_secrecy.specs.Alike.{Same};
 ghost use Rattle.tpm_row_secrecy.specs.Reads.{reads_secret};
 ghost use Rattle.tpm_row_secrecy.specs.Secrecy.{CoversKeys, Secrecy, without_secrets};
-ghost use Rattle.tpm_step.specs.Answer.{Written, answer_to};
-ghost use Rattle.tpm_step.specs.Events.{PlainEvent, IsEvent};
-ghost use Rattle.tpm_step.specs.Execution.{Executes};
-ghost use Rattle.tpm_step.specs.General.{general, is_startup};
-ghost use Rattle.tpm_step.specs.Run.{Runs, after_all};
-ghost use Rattle.tpm_step.specs.Step.{Accepted, Stepped, acceptance, accepted};
-ghost use Rattle.tpm_step.specs.Step.{step, step_where, success_step};
+ghost use Rattle.tpm_step.specs.step.Answer.{Written, answer_to};
+ghost use Rattle.tpm_step.specs.step.Events.{PlainEvent, IsEvent};
+ghost use Rattle.tpm_step.specs.step.Execution.{Executes};
+ghost use Rattle.tpm_step.specs.step.General.{general, is_startup};
+ghost use Rattle.tpm_step.specs.step.Run.{Runs, after_all};
+ghost use Rattle.tpm_step.specs.step.Step.{Accepted, Stepped, acceptance, accepted};
+ghost use Rattle.tpm_step.specs.step.Step.{step, step_where, success_step};
 ghost use Rattle.tpm_step.specs.rows.Acceptance.{IsAcceptance, LeavesEffect, OnlySessions};
-ghost use Rattle.tpm_step.specs.Table.{row_of};
+ghost use Rattle.tpm_step.specs.step.Table.{row_of};
 ghost use Rattle.tpm_step.specs.rows.Draws.{draws_of};
 ghost use Rattle.tpm_step.specs.rows.Footprint.{Touches};
 ghost use Rattle.tpm_step.specs.rows.Grants.{GrantsFit};
@@ -88,8 +88,8 @@ pub fn growth_laws()
         → IfOk (row_of r c q) (λ s. GrowsAsShaped c r s.after) }
 {}
 
-/// If a row refuses no handle, it refuses parameters if and only if they are not of the kinds in
-/// its command's shape. The refusal is then the first fault.
+/// A row that refuses no handle refuses exactly the parameters that are not of the kinds in its
+/// command's shape. It reports their first fault.
 #[inline(always)]
 #[tactic(auto, using(crate::proofs::rows::Table::row_reads))]
 pub fn parameter_laws()
@@ -169,7 +169,7 @@ pub fn later_handle_laws()
 /// If a command passes the general checks, the whole buffer encodes it. Therefore a buffer decodes
 /// to only one command, whatever the record.
 #[inline(always)]
-#[tactic(auto, using(crate::proofs::Decoding::general_reads, crate::proofs::Decoding::one_command))]
+#[tactic(auto, using(crate::proofs::step::Decoding::general_reads, crate::proofs::step::Decoding::one_command))]
 pub fn decoding_laws()
     ensures read { (r : Record) (buffer : List ℕ)
         → IfOk (general r buffer) (λ c. command_at buffer ≡ Ok (c, [])) }

@@ -3,7 +3,7 @@
 
 use std::process::Abort;
 
-/// Aborts the test if the actual value is not the expected one.
+/// Aborts the test if the actual value is not the expected value.
 pub fn check<R: Abort, T: PartialEq + Drop>(rt: &R, found: T, wanted: T) {
     assert!(rt; found == wanted);
 }

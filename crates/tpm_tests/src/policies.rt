@@ -129,8 +129,8 @@ fn assert_all(state: &mut PolicyState, selection: &PcrSelection) -> Result<(), A
     state.locality(HashAlg::Sha256, 0x01)
 }
 
-/// A use of the policy of `assert_all`, in which the condition with this number and all later ones
-/// fail.
+/// A use of the policy of `assert_all`, in which the condition with this number and all later
+/// conditions fail.
 fn spoiled_from(condition: u8, digest: &[u8], locality: Locality) -> Use<'_> {
     let entity = EntityPolicy {
         hash: HashAlg::Sha256,
@@ -163,7 +163,7 @@ fn spoiled_from(condition: u8, digest: &[u8], locality: Locality) -> Use<'_> {
     }
 }
 
-/// For each condition by number: the refusal if this condition and all later ones fail.
+/// For each condition by number: the refusal if this condition and all later conditions fail.
 fn refusals() -> [(u8, Rc); 8] {
     let policy_fail = ResponseCode::PolicyFail.anywhere().at_session(1);
     [
@@ -198,7 +198,7 @@ fn locality_from<R: Abort>(rt: &R, condition: u8) -> Locality {
     Locality::new(number).expect(rt, "locality 0 or 1")
 }
 
-/// The result of a use in which the condition with this number and all later ones fail.
+/// The result of a use in which the condition with this number and all later conditions fail.
 fn answer_from<R: Abort>(rt: &R, state: &PolicyState, condition: u8) -> Result<Demand, Rc> {
     let locality = locality_from(rt, condition);
     state.check_use(&spoiled_from(condition, state.digest(), locality))

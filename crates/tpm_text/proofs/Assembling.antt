@@ -68,9 +68,8 @@ sessions_err (Err other) old new (Err found) fault left e h = ap Err (sym h ∙ 
 
 -- ---- the authorization area
 
--- Suppose that entries are written to a draft of their own (`area`), which is then added to another
--- draft as its authorization area. Then the other draft is extended by the size of the entries,
--- followed by the entries.
+-- Adding a draft of entries (`area`) to another draft as its authorization area extends the other
+-- draft by the size of the entries, followed by the entries.
 area_is : (old area : Option (List ℕ)) (text : List ℕ) → area ≡ grown (Some []) text → with_area old area ≡ grown old (to_be_bytes w32 (length text) ++ text)
 unfolding with_area
 area_is old area text e = by (nat_le (length text) buffer_limit) refl
@@ -107,7 +106,7 @@ not_fitting : (tag : Tag) (code : CommandCode) → finished tag code None ≡ Er
 unfolding finished
 not_fitting tag code = refl
 
--- If a draft has at least ten bytes, it has at least ten after more bytes are added.
+-- A draft with at least ten bytes still has at least ten after more bytes are added.
 pub still_ten : (draft : Option (List ℕ)) (bytes : List ℕ) → IfSome draft (λ text. 10 ≤ length text) → IfSome (grown draft bytes) (λ text. 10 ≤ length text)
 still_ten None bytes h = subst (λ (d : Option (List ℕ)). IfSome d (λ text. 10 ≤ length text)) (sym (none_grows bytes)) tt
 still_ten (Some text) bytes h = by (nat_le (length text + length bytes) buffer_limit) refl

@@ -61,8 +61,8 @@ pub no_session_text : (text : List ℕ) (fault : TokenFault) → session_pieces_
 unfolding session_entry
 no_session_text text fault e = rw e refl
 
--- If the four parts of a session's entry are written one after another, the draft is extended by
--- the entry's encoding.
+-- Writing the four parts of a session's entry one after another extends the draft by the entry's
+-- encoding.
 pub parts_drafted : (session octet : List ℕ) (nonce : List ℕ) (hmac : Result (List ℕ) TokenFault) (old one two three : Option (List ℕ)) (result : Result (Unit {0}) TokenFault) (new : Option (List ℕ))
     → one ≡ grown old session → two ≡ grown one nonce → three ≡ grown two octet → Drafts hmac three result new
     → Drafts (hmac >>= λ bytes. Ok (session ++ nonce ++ octet ++ bytes)) old result new

@@ -36,7 +36,7 @@ grown-grown (Some text) a b = by (nat_le (length text + length a) buffer_limit) 
         let long = leb-false _ _ e in
         ap (λ d. grown d b) (spills text a long) ∙ none_grows b ∙ sym (spills text (a ++ b) (omega (arith, long, length-append a b)))
 
--- If the first part of an encoding is written, and then the rest, the whole encoding is written.
+-- Writing the first part of an encoding, and then the rest, writes the whole encoding.
 pub drafted_behind : {E : Type 0} (front : List ℕ) (rest : Result (List ℕ) E) (old middle : Option (List ℕ)) (result : Result (Unit {0}) E) (new : Option (List ℕ))
     → middle ≡ grown old front → Drafts rest middle result new → Drafts (rest >>= λ bytes. Ok (front ++ bytes)) old result new
 drafted_behind front (Ok bytes) old middle (Ok done) new m h = h ∙ ap (λ d. grown d bytes) m ∙ grown-grown old front bytes
@@ -44,7 +44,7 @@ drafted_behind front (Ok bytes) old middle (Err fault) new m h = absurd h
 drafted_behind front (Err fault) old middle (Ok done) new m h = absurd h
 drafted_behind front (Err fault) old middle (Err found) new m h = h
 
--- If a size is written, followed by that many bytes, a sized buffer is written.
+-- Writing a size, and then that many bytes, writes a sized buffer.
 pub sized_behind : {E : Type 0} (count : ℕ) (rest : Result (List ℕ) E) (old middle : Option (List ℕ)) (result : Result (Unit {0}) E) (new : Option (List ℕ))
     → ((bytes : List ℕ) → rest ≡ Ok bytes → count ≡ length bytes) → middle ≡ grown old (to_be_bytes w16 count) → Drafts rest middle result new
     → Drafts (rest >>= λ bytes. Ok (sized_text bytes)) old result new
@@ -53,8 +53,7 @@ sized_behind count (Ok bytes) old middle (Err fault) new size m h = absurd h
 sized_behind count (Err fault) old middle (Ok done) new size m h = absurd h
 sized_behind count (Err fault) old middle (Err found) new size m h = h
 
--- If more bytes are added than a command may have, the draft becomes None, whatever was written
--- before.
+-- Adding more bytes than a command may have makes the draft None, whatever it contained.
 pub too_much : (draft : Option (List ℕ)) (bytes : List ℕ) → buffer_limit < length bytes → grown draft bytes ≡ None
 too_much None bytes long = none_grows bytes
 too_much (Some text) bytes long = spills text bytes (omega (arith, long))
@@ -67,7 +66,7 @@ sized_too_long (Ok bytes) old (Err fault) long h = absurd h
 sized_too_long (Err fault) old (Ok done) long h = absurd h
 sized_too_long (Err fault) old (Err found) long h = h
 
--- If a write succeeds, the draft is extended by the encoding that the definition returns.
+-- A successful write extends the draft by the encoding that the definition returns.
 pub drafts_ok : {E : Type 0} (read : Result (List ℕ) E) (old new : Option (List ℕ)) (result : Result (Unit {0}) E) → result ≡ Ok tt → Drafts read old result new → (text : List ℕ) × (read ≡ Ok text) × (new ≡ grown old text)
 drafts_ok (Ok text) old new (Ok done) e h = (text, refl, h)
 drafts_ok (Ok text) old new (Err found) e h = absurd h

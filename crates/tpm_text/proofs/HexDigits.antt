@@ -14,7 +14,7 @@ use Rattle.tpm_text.specs.Draft.{Drafts, grown}
 use Rattle.tpm_number.specs.declared.fault.TokenFault.{TokenFault}
 use Rattle.tpm_number.specs.declared.fault.TokenFault.TheVariants.{Bad}
 
--- Hex digits are refused if their number is odd.
+-- An odd number of hex digits is refused.
 pub odd_is_bad : (digits : List ℕ) → length digits % 2 ≡ 1 → IsChecked (hex_in digits) (Err Bad)
 odd_is_bad digits odd = rw (decode_of-odd digits odd) refl
 
@@ -37,11 +37,11 @@ pub none_is_good : hex_in [] ≡ Ok []
 unfolding decode_pairs
 none_is_good = refl
 
--- If hex digits encode bytes, there are twice as many digits as bytes.
+-- There are twice as many hex digits as bytes that they encode.
 pub half_of : (digits bytes : List ℕ) → hex_in digits ≡ Ok bytes → length digits ≡ 2 * length bytes
 half_of digits bytes e = (decode_of-ok digits bytes (or_fault_ok _ _ bytes e)).2
 
--- If hex digits encode more bytes than a command may have, the draft is None after they are added.
+-- Adding hex digits makes the draft None, if the command becomes too long.
 pub hex_too_long : (digits text : List ℕ) (result : Result (Unit {0}) TokenFault) → IsChecked (hex_in digits) result → buffer_limit < length text + length digits / 2
     → Drafts (hex_in digits) (Some text) result None
 unfolding grown

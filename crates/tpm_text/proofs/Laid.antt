@@ -32,8 +32,8 @@ same_size bytes (Some size) h = fits (take size bytes) [] (let small = h size re
 pub nothing_grows : (draft : Draft) → grown (drafted draft) [] ≡ drafted draft
 nothing_grows draft = same_size draft.bytes draft.used draft.within
 
--- Suppose that the encoding of the first value is written, and then the encodings of the other
--- values. Then the encoding of all values is written.
+-- Writing the encoding of the first value, and then the encodings of the other values, writes the
+-- encoding of all values.
 pub laid_behind : {A E : Type 0} (text : A → List ℕ) (front : List ℕ) (join : A → A) → ((x : A) → text (join x) ≡ front ++ text x)
     → (rest : Result (A × List Token) E) (old middle : Option (List ℕ)) (result : Result (Unit {0}) E) (new : Option (List ℕ)) (left : List Token)
     → middle ≡ grown old front → DraftsRead text rest middle result new left → DraftsRead text (rest >>= λ others. Ok (join others.0, others.1)) old result new left

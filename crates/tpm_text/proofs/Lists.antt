@@ -60,8 +60,7 @@ elements_last : (element : Element) (draft : Option (List ℕ)) (text piece : Li
 unfolding elements_left elements_text each_in
 elements_last element draft text piece e = ap (λ first. first >>= (λ first. Ok (first ∷ [])) >>= (λ texts. Ok (flat_map (λ text. text) texts)) >>= λ text. Ok (grown draft text)) e ∙ ap (λ l. Ok (grown draft l)) (append-nil text)
 
--- If the next element of a list is written, the result for the remaining elements is the result for
--- the elements after it.
+-- Writing the next element of a list does not change the result for the whole list.
 pub put_more : (element : Element) (old new : Option (List ℕ)) (piece : List ℕ) (pieces : List (List ℕ)) (result : Result (Unit {0}) TokenFault) → result ≡ Ok tt → Drafts (element_text element piece) old result new
     → elements_left element old (piece ∷ pieces) ≡ elements_left element new pieces
 put_more element old new piece pieces result e h = by (element_text element piece) refl result e h
@@ -72,7 +71,7 @@ put_more element old new piece pieces result e h = by (element_text element piec
     by (Err fault) is (Ok done) e h = absurd h
     by (Err fault) is (Err found) e h = absurd cc
 
--- If the last element of a list is written, the result is the new draft.
+-- After the last element of a list is written, the result is the new draft.
 pub put_last : (element : Element) (old new : Option (List ℕ)) (piece : List ℕ) (result : Result (Unit {0}) TokenFault) → result ≡ Ok tt → Drafts (element_text element piece) old result new
     → elements_left element old (piece ∷ []) ≡ Ok new
 put_last element old new piece result e h = by (element_text element piece) refl result e h

@@ -13,11 +13,11 @@ use Rattle.tpm_types_command.specs.declared.header.HeaderFault.{HeaderFault}
 use Rattle.tpm_commands.specs.declared.command_code.CommandCode.{CommandCode}
 use Rattle.tpm_record.specs.Record.{Record}
 use Rattle.tpm_record.specs.Tick.{ticked}
-use Rattle.tpm_step.specs.Answer.{answer_to, framed, refusal_tag, success_text}
-use Rattle.tpm_step.specs.Events.{PlainEvent, Given, Cycled, Placed}
-use Rattle.tpm_step.specs.Execution.{Executes}
-use Rattle.tpm_step.specs.General.{body_of, general, in_command, in_header}
-use Rattle.tpm_step.specs.Step.{Accepted, Stepped, acceptance, accepted, answer_where, refusal_step, refusal_without_memory, step_where, success_step}
+use Rattle.tpm_step.specs.step.Answer.{answer_to, framed, refusal_tag, success_text}
+use Rattle.tpm_step.specs.step.Events.{PlainEvent, Given, Cycled, Placed}
+use Rattle.tpm_step.specs.step.Execution.{Executes}
+use Rattle.tpm_step.specs.step.General.{body_of, general, in_command, in_header}
+use Rattle.tpm_step.specs.step.Step.{Accepted, Stepped, acceptance, accepted, answer_where, refusal_step, refusal_without_memory, step_where, success_step}
 use Rattle.tpm_step.specs.declared.refused_command.RefusedCommand.{RefusedCommand}
 use Rattle.tpm_text.specs.Trace.{IsRow, IsTraceable}
 

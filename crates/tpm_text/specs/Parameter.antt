@@ -113,8 +113,8 @@ unfoldable pub list_or_none_text : Element → List ℕ → Result (List ℕ) To
 list_or_none_text element token =
     if is_word (codes "-") token then Ok (to_be_bytes w32 0) else list_text element token
 
--- the encoding of a parameter of this kind; the device, not this definition, limits the size of a
--- buffer
+-- the encoding of a parameter of this kind; a buffer may have any size here, because the device
+-- limits the size
 unfoldable pub parameter_text : ParameterKind → List ℕ → Result (List ℕ) TokenFault
 parameter_text kind.StartupType token = number_text w16 0xffff token
 parameter_text kind.SessionType token = number_text w8 0xff token

@@ -10,8 +10,8 @@ use Rattle.tpm_text.specs.declared.fault.AsmFault.{AsmFault}
 use Rattle.tpm_text.specs.declared.fault.AsmFault.TheVariants.{Missing}
 
 -- The tokens were read as the definition says. If the definition returns a value, the encoding of
--- the value was written, and the remaining tokens are those that the definition returns. Otherwise
--- the definition's fault was returned.
+-- the value was written, and the same tokens remain as in the definition. Otherwise the
+-- definition's fault was returned.
 abbrev pub DraftsRead : {A E : Type 0} → (A → List ℕ) → Result (A × List Token) E
     → Option (List ℕ) → Result (Unit {0}) E → Option (List ℕ) → List Token → Type 0
 DraftsRead text (Ok read) old (Ok done) new left = (new ≡ grown old (text read.0)) × (left ≡ read.1)
@@ -36,8 +36,8 @@ TakesEntry view old (Some token) new =
 TakesEntry view old None new = (new ≡ old) × (first_is_entry old ≡ false)
 
 -- The tokens were read as the definition says. If the definition returns a value, the call returned
--- that value, and the remaining tokens are those that the definition returns. Otherwise the call
--- returned the definition's fault.
+-- that value, and the same tokens remain as in the definition. Otherwise the call returned the
+-- definition's fault.
 abbrev pub ReadsTokens : {X A E : Type 0} → (X → A) → Result (A × List Token) E
     → Result X E → List Token → Type 0
 ReadsTokens view (Ok read) (Ok x) left = (read.0 ≡ view x) × (left ≡ read.1)

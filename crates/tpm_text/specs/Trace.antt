@@ -9,8 +9,8 @@ use Rattle.tpm_types.specs.Check.{check_number}
 use Rattle.tpm_types.specs.declared.check.Check.{Check}
 use Rattle.tpm_commands.specs.CommandCode.{code_name, code_named, code_number}
 use Rattle.tpm_commands.specs.declared.command_code.CommandCode.{CommandCode}
-use Rattle.tpm_step.specs.Events.{PlainEvent, Given, Cycled, Placed}
-use Rattle.tpm_step.specs.Step.{Stepped}
+use Rattle.tpm_step.specs.step.Events.{PlainEvent, Given, Cycled, Placed}
+use Rattle.tpm_step.specs.step.Step.{Stepped}
 use Rattle.tpm_step.specs.declared.event.Row.{Row}
 
 -- A row of the table consists of the number of a supported command, or 0 for none, and the number

@@ -19,8 +19,8 @@ fn are_hex_digits(bytes: &[u8]) -> bool
     bytes.iter().all(|byte| is_hex_digit(*byte))
 }
 
-/// Checks, without decoding, that these are hex digits of either case, and an even number of them.
-/// The fault is Bad if they are not.
+/// Checks, without decoding, that there is an even number of hex digits of either case. The fault
+/// is Bad if this fails.
 #[tactic(auto, using(crate::proofs::HexDigits::hex_digits))]
 pub fn check_hex(digits: &[u8]) -> Result<(), TokenFault>
     ensures { IsChecked (hex_in digits.now) result }

@@ -14,8 +14,8 @@ use tpm_number::TokenFault;
 use tpm_types::BUFFER_LIMIT;
 use tpm_types_command::{HEADER_SIZE, Tag};
 
-/// The encoding of a command that is being written. If the command becomes too long, only that is
-/// recorded.
+/// The encoding of a command that is being written. If the command becomes too long, the draft
+/// records only this fact.
 #[derive(Drop)]
 pub struct Draft {
     bytes: [u8; BUFFER_LIMIT],

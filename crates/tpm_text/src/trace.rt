@@ -8,9 +8,9 @@ ghost use Rattle.arrayvec.specs.ArrayString.{array_string_len};
 ghost use Rattle.tpm_types.specs.Check.{check_number};
 ghost use Rattle.tpm_types.specs.declared.check.Check.{Check};
 ghost use Rattle.tpm_record.specs.Record.{Record};
-ghost use Rattle.tpm_step.specs.Events.{PlainEvent, plain_event};
-ghost use Rattle.tpm_step.specs.Execution.{Executes};
-ghost use Rattle.tpm_step.specs.Step.{Stepped};
+ghost use Rattle.tpm_step.specs.step.Events.{PlainEvent, plain_event};
+ghost use Rattle.tpm_step.specs.step.Execution.{Executes};
+ghost use Rattle.tpm_step.specs.step.Step.{Stepped};
 ghost use Rattle.tpm_text.specs.Trace.{IsAnswered, IsRow, IsTraceable, check_text, name_text};
 ghost use Rattle.tpm_text.specs.Trace.{response_code_text, trace_text};
 

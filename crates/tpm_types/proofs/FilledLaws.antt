@@ -23,7 +23,7 @@ none_left : (left : List ℕ) → length left ≡ 0 → left ≡ []
 none_left [] none = refl
 none_left (byte ∷ left) none = absurd (omega arith)
 
--- if each number in the input is below 256, so is each number in the sized buffer at its start
+-- If the input consists of bytes, so does the content of the sized buffer at its start.
 content_fits : (bytes content rest : List ℕ) → AreBytes bytes → Takes bytes (sized_text content) rest → AreBytes content
 content_fits bytes content rest fits t =
     let size = to_be_bytes w16 (length content) in

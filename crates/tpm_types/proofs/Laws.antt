@@ -13,8 +13,8 @@ read_found view read text_of HasText takes old (Err e) new fits reads = tt
 pub read_only : {X Y E : Type 0} (view : X → Y) (read : List ℕ → Result (Y × List ℕ) E) (old text : List ℕ) (y : Y) (rest : List ℕ) (result : Result X E) (new : List ℕ) → read text ≡ Ok (y, rest) → old ≡ text → Reads view (read old) old result new → Reads view (Ok (y, rest)) old result new
 read_only view read old text y rest result new again is reads = subst (λ (r : Result (_ × List ℕ) _). Reads view r old result new) (ap read is ∙ again) reads
 
--- if every value can be encoded, a read succeeds only if the input starts with the encoding of the
--- returned value
+-- for a type whose values can all be encoded: if a read succeeds, the input starts with the
+-- encoding of the returned value
 pub read_spelled : {Y E : Type 0} (read : List ℕ → Result (Y × List ℕ) E) (text_of : Y → List ℕ) → ((bytes : List ℕ) (x : Y × List ℕ) → AreBytes bytes → read bytes ≡ Ok x → bytes ≡ text_of x.0 ++ x.1) → (old : List ℕ) (result : Result Y E) (new : List ℕ) → AreBytes old → Reads (λ y. y) (read old) old result new → IfOk result (λ y. old ≡ text_of y ++ new)
 read_spelled read text_of takes old (Ok y) new fits reads = takes old (y, new) fits reads
 read_spelled read text_of takes old (Err e) new fits reads = tt

@@ -11,9 +11,9 @@ pub record Spelled {A E : Type 0} (text : A → List ℕ) (Is : A → Type 0) (a
   pub taken : IsTaken text Is at
   pub again : IsAgain text Is at
 
--- After the first fields were read, a read of the other fields returns a value exactly under two
--- conditions: the value contains the first fields, and the input starts with the encoding of the
--- other fields.
+-- After the first fields were read, a read of the other fields returns a value exactly when the
+-- value is valid and contains the first fields, and the input starts with the encoding of the other
+-- fields.
 pub record Behind {B C E : Type 0} (seen : B → C) (text : B → List ℕ) (Is : B → Type 0) (at : C → List ℕ → Result (B × List ℕ) E) : Type 0 where
   pub taken : (before : C) (bytes : List ℕ) (x : B × List ℕ) → AreBytes bytes → at before bytes ≡ Ok x → Takes bytes (text x.0) x.1 × Is x.0 × (seen x.0 ≡ before)
   pub again : (x : B) (rest : List ℕ) → Is x → at (seen x) (text x ++ rest) ≡ Ok (x, rest)
@@ -44,8 +44,8 @@ then {A} {B} {C} {E} {text} {Is} {at} {seen} {others} {Are} {behind} field next 
       ∙ next.again x rest are.1;
 }
 
--- Suppose that `Spelled` holds for the first field, and that `Behind` holds for the other fields,
--- which may depend on the first. Then `Spelled` holds for the whole structure.
+-- `Spelled` holds for a whole structure if it holds for the first field, and if `Behind` holds for
+-- the other fields, which may depend on the first.
 pub first : {A B E : Type 0} {text : A → List ℕ} {Is : A → Type 0} {at : List ℕ → Result (A × List ℕ) E} {seen : B → A} {others : B → List ℕ} {Are : B → Type 0} {behind : A → List ℕ → Result (B × List ℕ) E} → Spelled text Is at → Behind seen others Are behind → Spelled (λ x. text (seen x) ++ others x) (λ x. Is (seen x) × Are x) (λ bytes. at bytes >>= λ a. behind a.0 a.1)
 first {A} {B} {E} {text} {Is} {at} {seen} {others} {Are} {behind} field next = record {
   taken = λ bytes x fits e.
@@ -61,8 +61,8 @@ first {A} {B} {E} {text} {Is} {at} {seen} {others} {Are} {behind} field next = r
       ∙ next.again x rest are.1;
 }
 
--- If `Spelled` holds for the remaining fields, no matter what the fields before them contain, then
--- `Behind` holds for the remaining fields.
+-- `Behind` holds for the remaining fields if `Spelled` holds for them, no matter what the fields
+-- before them contain.
 pub for_each : {B C E : Type 0} (seen : B → C) (text : B → List ℕ) (Is : B → Type 0) (at : C → List ℕ → Result (B × List ℕ) E) → ((c : C) → Spelled text (λ x. Is x × (seen x ≡ c)) (at c)) → Behind seen text Is at
 for_each seen text Is at each = record {
   taken = λ before bytes x fits e. let t = (each before).taken bytes x fits e in (t.0, t.1.0, t.1.1);

@@ -1,4 +1,4 @@
--- Trimming removes trailing zeros. Removing one of them first does not change the result.
+-- Trimming removes trailing zeros. Removing one zero first does not change the result.
 use Rattle.std.proofs.Common.{◌≡◌, ◌≢◌, ℕ, zero, suc, ◌+◌, ◌-◌, ◌<◌, ◌≤◌, List, [], ◌∷◌, ◌++◌, length, take, reverse, get_or, refl, sym, ap, ◌∙◌, arith}
 use Rattle.std.proofs.lemmas.List.{reverse-append, reverse-reverse, take_more}
 use Rattle.tpm_types.specs.AuthValue.{trimmed, without_first_zeros}

@@ -40,8 +40,8 @@ xor_at text = do
   hash ← hash_at text
   Ok (Xor hash.0, hash.1)
 
--- the symmetric definition with this algorithm number, whose other fields are at the start of the
--- bytes, and the remaining bytes
+-- the symmetric definition and the remaining bytes, given the algorithm number and the bytes after
+-- this number
 abbrev pub behind_at : ℕ → List ℕ → Result (SymmetricDefinition × List ℕ) Rc
 behind_at number text =
     if number == 0x0010 then Ok (Null, text)

@@ -26,13 +26,15 @@ unfoldable pub header_text : Tag → ℕ → CommandCode → List ℕ
 header_text tag size code =
     to_be_bytes w16 (tag_number tag) ++ to_be_bytes w32 size ++ to_be_bytes w32 (code_number code)
 
--- the header fields of a buffer of ten bytes or more: tag, commandSize and commandCode
+-- the tag in a buffer of ten bytes or more
 abbrev pub tag_field : List ℕ → ℕ
 tag_field buffer = from_be_bytes w16 (take 2 buffer)
 
+-- the commandSize in a buffer of ten bytes or more
 abbrev pub size_field : List ℕ → ℕ
 size_field buffer = from_be_bytes w32 (take 4 (drop 2 buffer))
 
+-- the commandCode in a buffer of ten bytes or more
 abbrev pub code_field : List ℕ → ℕ
 code_field buffer = from_be_bytes w32 (take 4 (drop 6 buffer))
 

@@ -40,12 +40,12 @@ attribute_bit attribute.ReadStClear = 31
 abbrev pub has : NvAttributes → NvAttribute → Bool
 has attributes attribute = bit_at attributes.bits (attribute_bit attribute) == 1
 
--- the attributes with this attribute set (`with_attribute`) or cleared (`without_attribute`). All
--- other bits are unchanged
+-- the attributes with this attribute set; all other bits are unchanged
 abbrev pub with_attribute : NvAttributes → NvAttribute → NvAttributes
 with_attribute attributes attribute =
     record { bits = bit_or attributes.bits (2 ^ attribute_bit attribute) }
 
+-- the attributes with this attribute cleared; all other bits are unchanged
 abbrev pub without_attribute : NvAttributes → NvAttribute → NvAttributes
 without_attribute attributes attribute =
     record { bits = bit_and attributes.bits (bit_not w32 (2 ^ attribute_bit attribute)) }

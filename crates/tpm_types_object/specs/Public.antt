@@ -57,8 +57,8 @@ hmac_at text = do
   hash ← hash_at text
   Ok (Hmac hash.0, hash.1)
 
--- the scheme of a KEYEDHASH object with this scheme number, whose other fields are at the start of
--- the bytes, and the remaining bytes
+-- the scheme of a KEYEDHASH object and the remaining bytes, given the scheme's number and the bytes
+-- after this number
 abbrev pub behind_scheme_at : ℕ → List ℕ → Result (KeyedHashScheme × List ℕ) Rc
 behind_scheme_at number text =
     if number == 0x0010 then Ok (Null, text)

@@ -195,8 +195,8 @@ too_few n taken is = by (nat_le n (length taken)) refl is
     by true fits e = absurd cc
     by false fits e = leb-false n (length taken) fits
 
--- If the size of the next buffer is known but the buffer is not complete, fewer bytes than its size
--- were received.
+-- If the next buffer has a known size but is not complete, fewer bytes than this size were
+-- received.
 waits_for : (taken : List ℕ) → next_of (record { taken = taken; ended = false }) ≡ None → (n : ℕ) → buffer_size taken ≡ Some n → length taken < n
 waits_for taken none n size = too_few n taken (next_is taken (Some n) None size none)
 
@@ -272,8 +272,8 @@ cuts_one s t done u c to is same before =
 pub cuts_none : (s : Stream) → CutsTo s [] s
 cuts_none s before = ap (λ (l : List (List ℕ)). cut_with l s) (sym (append-nil before))
 
--- Suppose that bytes are read, buffers are executed, more bytes are read, and more buffers are
--- executed. Then all these buffers are the first buffers in the cut of all bytes.
+-- After more bytes are read and more buffers are executed, all executed buffers are the first
+-- buffers in the cut of all bytes.
 pub read_on : (read bytes : List ℕ) (done more : List (List ℕ)) (s t u : Stream) → cut_of read ≡ cut_with done s → t ≡ fed s bytes → CutsTo t more u → cut_of (read ++ bytes) ≡ cut_with (done ++ more) u
 read_on read bytes done more s t u is same to =
     read_more read bytes done s is ∙ ap (cut_with done) (sym same) ∙ to done

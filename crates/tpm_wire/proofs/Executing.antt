@@ -9,8 +9,8 @@ use Rattle.std.specs.Fn.{Called}
 use Rattle.std.specs.Io.KnownBytes.{Appends}
 use Rattle.tpm_bytes.specs.Tap.{AppendsFront, Marks}
 use Rattle.tpm_record.specs.Record.{Record}
-use Rattle.tpm_step.specs.Execution.{Executes}
-use Rattle.tpm_step.specs.Step.{outcome_step}
+use Rattle.tpm_step.specs.step.Execution.{Executes}
+use Rattle.tpm_step.specs.step.Step.{outcome_step}
 use Rattle.tpm_step.specs.declared.event.Outcome.{Outcome}
 use Rattle.tpm_machine.specs.Executions.{Execution, Leads}
 use Rattle.tpm_machine.proofs.Following.{leads_on}
@@ -38,8 +38,8 @@ written_more held mid holds first more written also =
 pub asks_more : {F : Type 0} (g : Asking F) (asked at asking : F) (first more : List Execution) → AsksForEach g asked first at → AsksForEach g at more asking → AsksForEach g asked (first ++ more) asking
 asks_more g asked at asking first more asks also = folds_on (Asks g) asked at asking first more asks also
 
--- If more bytes are read and more buffers are executed, all executed buffers are the first buffers
--- in the cut of all bytes.
+-- After more bytes are read and more buffers are executed, all executed buffers are the first
+-- buffers in the cut of all bytes.
 pub cut_more : (read bytes : List ℕ) (first more : List Execution) (s t u : Stream) → cut_of read ≡ cut_with (buffers_of first) s → t ≡ fed s bytes → CutsTo t (buffers_of more) u → cut_of (read ++ bytes) ≡ cut_with (buffers_of (first ++ more)) u
 cut_more read bytes first more s t u is same to =
     read_on read bytes (buffers_of first) (buffers_of more) s t u is same to
@@ -127,7 +127,7 @@ notes_one notes old mid new executions one told also = FoldsTo-push notes old ex
 pub notes_more : {S : Type 0} (notes : S → Execution → S → Type 0) (old mid new : S) (first more : List Execution) → NotesEach notes old first mid → NotesEach notes mid more new → NotesEach notes old (first ++ more) new
 notes_more notes old mid new first more told also = folds_on notes old mid new first more told also
 
--- If one more response cannot be delivered, serving ends with the fault of its delivery.
+-- Serving ends with the fault of the first response that cannot be delivered.
 pub unanswered : {F S : Type 0} (g : Asking F) (notes : S → Execution → S → Type 0) (failed : S → Bool) (held mid holds : Option (List ℕ)) (before at after : Marks) (asked asking : F) (witness told new : S) (executions : List Execution) (r left : Record) (buffer : List ℕ) (host : Host) (outcome : Outcome) (stream : Stream) (e : ServeFault) → AsksForEach g asked (executions ++ execution_of r buffer host left outcome ∷ []) asking → Appends held mid (responses_of executions) → NotesEach notes witness executions told → Delivers notes failed mid holds at after (execution_of r buffer host left outcome) told (Err e) new → Finishes g held holds before after asked (executions ++ execution_of r buffer host left outcome ∷ []) asking stream (Err e) × Notes notes failed witness (executions ++ execution_of r buffer host left outcome ∷ []) new (Err e)
 unanswered g notes failed held mid holds before at after asked asking witness told new executions r left buffer host outcome stream fault.Write asks written noted delivers =
     ((asks, delivers.2, lost_last held mid holds executions r left buffer host outcome written delivers.1), notes_one notes witness told new executions (execution_of r buffer host left outcome) noted delivers.0)

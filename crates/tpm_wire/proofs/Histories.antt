@@ -1,7 +1,7 @@
 -- Lemmas about the history of a machine after turns of connections.
 use Rattle.std.proofs.Common.{◌≡◌, ℕ, Bool, Option, Some, None, Result, Ok, Err, sym, subst}
 use Rattle.tpm_containers.specs.Slots.{at_place}
-use Rattle.tpm_step.specs.Step.{outcome_step}
+use Rattle.tpm_step.specs.step.Step.{outcome_step}
 use Rattle.tpm_machine.specs.Follows.{Follows}
 use Rattle.tpm_machine.specs.History.{History}
 use Rattle.tpm_machine.proofs.Following.{execution_follows}

@@ -11,9 +11,9 @@ use Rattle.tpm_containers.proofs.SlotLaws.{at_inside, at_set-here, at_set-other,
 use Rattle.tpm_record.specs.Cycle.{cycled}
 use Rattle.tpm_record.specs.IsRecord.{IsRecord}
 use Rattle.tpm_record.specs.Record.{Record}
-use Rattle.tpm_step.specs.Execution.{Executes}
-use Rattle.tpm_step.specs.Run.{after_all}
-use Rattle.tpm_step.specs.Step.{Stepped, outcome_step}
+use Rattle.tpm_step.specs.step.Execution.{Executes}
+use Rattle.tpm_step.specs.step.Run.{after_all}
+use Rattle.tpm_step.specs.step.Step.{Stepped, outcome_step}
 use Rattle.tpm_step.specs.declared.event.Outcome.{Outcome}
 use Rattle.tpm_machine.specs.Executions.{Execution, Leads, power_cycle}
 use Rattle.tpm_machine.proofs.Following.{power_cycle_executes, stretch_follows}

@@ -5,10 +5,10 @@ pub mod Serve
 pub mod Schedule
 pub use Rattle.tpm_bytes.specs.Tap
 pub use Rattle.tpm_machine.specs.State
-pub use Rattle.tpm_step.specs.Events
-pub use Rattle.tpm_step.specs.Execution
-pub use Rattle.tpm_step.specs.Run
-pub use Rattle.tpm_step.specs.Step
+pub use Rattle.tpm_step.specs.step.Events
+pub use Rattle.tpm_step.specs.step.Execution
+pub use Rattle.tpm_step.specs.step.Run
+pub use Rattle.tpm_step.specs.step.Step
 pub use Rattle.tpm_containers.specs.Slots
 pub use Rattle.tpm_record.specs.Cycle
 pub use Rattle.tpm_record.specs.Record

@@ -7,9 +7,9 @@ use Rattle.tpm_containers.specs.Slots.{at_place, free}
 use Rattle.tpm_record.specs.Cycle.{cycled}
 use Rattle.tpm_record.specs.IsRecord.{IsRecord}
 use Rattle.tpm_record.specs.Record.{Record}
-use Rattle.tpm_step.specs.Events.{PlainEvent, Cycled}
-use Rattle.tpm_step.specs.Run.{after_all}
-use Rattle.tpm_step.specs.Step.{outcome_step}
+use Rattle.tpm_step.specs.step.Events.{PlainEvent, Cycled}
+use Rattle.tpm_step.specs.step.Run.{after_all}
+use Rattle.tpm_step.specs.step.Step.{outcome_step}
 use Rattle.tpm_step.specs.declared.event.Outcome.{Outcome}
 use Rattle.tpm_machine.specs.Executions.{Execution, Leads}
 use Rattle.tpm_machine.specs.Follows.{Follows, StretchFollows}
@@ -42,7 +42,7 @@ Does can old (Turning connection host result) new =
 Does can old PowerCycling new = new ≡ record old { machine = cycled old.machine }
 Does can old (Closing connection result) new = Closes old (number_of connection) result new
 
--- The calls were made in this order.
+-- Making these calls in this order changed `old` to `new`.
 abbrev pub Schedules : Bool → Wire → List Call → Wire → Type 0
 Schedules can old calls new = FoldsTo (Does can) old calls new
 

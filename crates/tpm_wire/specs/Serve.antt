@@ -8,7 +8,7 @@ use Rattle.std.specs.List.{FoldsTo, flat_map}
 use Rattle.std.specs.Io.KnownBytes.{Appends, Consumes, Keeps}
 use Rattle.tpm_bytes.specs.Tap.{AppendsFront, Marks, after_read}
 use Rattle.tpm_record.specs.Record.{Record}
-use Rattle.tpm_step.specs.Events.{PlainEvent, Given, Cycled, Placed}
+use Rattle.tpm_step.specs.step.Events.{PlainEvent, Given, Cycled, Placed}
 use Rattle.tpm_machine.specs.Executions.{Execution, Leads}
 use Rattle.tpm_machine.specs.Follows.{Follows, StretchFollows}
 use Rattle.tpm_machine.specs.History.{History}
@@ -59,7 +59,7 @@ AsksInVain {F} g old executions new =
 
 -- ---- the steps of serving
 
--- One read into a stream was made. It requested as many bytes as still fit into the stream.
+-- One read into a stream requested as many bytes as still fit.
 abbrev pub Fills : Option (List ℕ) → Option (List ℕ) → Marks → Marks
     → Stream → Result ℕ Failed → Stream → Type 0
 Fills had has before after old (Err failed) new =

@@ -27,8 +27,8 @@ size_by size = if is_size size then size else 6
 abbrev pub buffer_size : List ℕ → Option ℕ
 buffer_size bytes = option_map size_by (command_size bytes)
 
--- whether the buffer that begins with these bytes is the last buffer of its stream; it is the last
--- buffer if no buffer can have its commandSize
+-- whether the buffer that begins with these bytes is the last buffer of its stream, because its
+-- commandSize is not the size of any buffer
 abbrev pub is_last : List ℕ → Bool
 is_last bytes = option_map_or (λ size. not (is_size size)) (command_size bytes) false
 
@@ -121,7 +121,8 @@ IsFront s (Some f) = (f.size ≤ length s.taken) × (next_of s ≡ Some (cut_at 
 
 -- ---- the cut, and what a connection stores
 
--- the cut of a whole stream of which the buffers `done` were executed and the stream `s` is left
+-- the cut of a whole stream: the executed buffers `done`, followed by the cut of the remaining
+-- stream `s`
 abbrev pub cut_with : List (List ℕ) → Stream → Cutting
 cut_with done s = fold with_byte (uncut done s.ended) s.taken
 

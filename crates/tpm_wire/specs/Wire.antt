@@ -4,9 +4,9 @@ use Rattle.std.specs.Prelude.{Option, Some, None, Result, Ok, Err}
 use Rattle.tpm_types.specs.Locality.{locality_number}
 use Rattle.tpm_containers.specs.Slots.{at_place, free, lowest_free}
 use Rattle.tpm_record.specs.Record.{Record}
-use Rattle.tpm_step.specs.Events.{PlainEvent, Given}
-use Rattle.tpm_step.specs.Execution.{Executes}
-use Rattle.tpm_step.specs.Step.{outcome_step}
+use Rattle.tpm_step.specs.step.Events.{PlainEvent, Given}
+use Rattle.tpm_step.specs.step.Execution.{Executes}
+use Rattle.tpm_step.specs.step.Step.{outcome_step}
 use Rattle.tpm_step.specs.declared.event.Outcome.{Outcome}
 use Rattle.tpm_machine.specs.Executions.{Execution}
 use Rattle.tpm_machine.specs.State.{state_of}
@@ -20,8 +20,8 @@ use Rattle.tpm_wire.specs.declared.number.ConnectionNumber.{ConnectionNumber}
 use Rattle.tpm_wire.specs.declared.turn.Turn.{Turn}
 use Rattle.tpm_wire.specs.declared.turn.Turn.TheVariants.{Wants, Answer, Ended}
 
--- a machine and its connections: the machine's record, and for each of eight numbers the stream
--- of the connection that is open with that number, if any
+-- a machine and its connections: the machine's record, and for each of eight numbers the stream of
+-- the open connection with that number, if any
 pub record Wire : Type 0 where
   pub machine : Record
   pub streams : List (Option Stream)
@@ -37,7 +37,7 @@ wire_of record_of mux = record {
 abbrev pub new_wire : Record → Wire
 new_wire r = record { machine = r; streams = free 8 }
 
--- a machine and its connections, after the stream with this number was replaced; None removes it
+-- a machine and its connections, with the stream of this number replaced; None removes the stream
 abbrev pub with_stream : Wire → ℕ → Option Stream → Wire
 with_stream w number stream = record w { streams = slice_set w.streams number stream }
 
@@ -53,7 +53,8 @@ abbrev pub Refuses : {X : Type 0} → Wire → Result X NoConnection → Wire �
 Refuses old (Ok x) new = ⊥
 Refuses old (Err e) new = new ≡ old
 
--- The stream received as many bytes of a piece as fit, and the call returned their number.
+-- The stream received as many bytes of a piece as fit, and the call returned their number; or no
+-- connection with this number is open.
 abbrev pub FeedsAt : Option Stream → Wire → ℕ → List ℕ → Result ℕ NoConnection → Wire → Type 0
 FeedsAt None old number piece result new = Refuses old result new
 FeedsAt (Some s) old number piece result new =
@@ -85,7 +86,7 @@ AnswersTurn can c old number host (Ok (Answer outcome)) new =
     × (new.streams ≡ slice_set old.streams number (Some c.after))
 AnswersTurn can c old number host result new = ⊥
 
--- If the connection's next buffer was complete, it was executed.
+-- The connection's next buffer was executed, if it was complete. Otherwise, nothing changed.
 abbrev pub TurnsBy : Bool → Option Cut → Stream
     → Wire → ℕ → Host → Result Turn NoConnection → Wire → Type 0
 TurnsBy can None s old number host result new = Waits s old result new

@@ -12,7 +12,7 @@ use std::marker::Model;
 use tpm_bytes::append;
 use tpm_types::BUFFER_LIMIT;
 
-/// The bytes that a connection has received and that are not yet executed, and whether it has
+/// The received bytes of a connection that are not yet executed, and whether the connection has
 /// ended: no more buffers follow.
 #[derive(Drop)]
 pub struct Connection {

@@ -2,8 +2,8 @@
 
 ghost use Rattle.std.specs.Prelude.{◌≡◌, ◌<◌, ◌≤◌, ◌∷◌, IfSome, None, OnErr, OnOk, if◌then◌else◌, length, take, true};
 ghost use Rattle.tpm_machine.specs.State.{state_of};
-ghost use Rattle.tpm_step.specs.Execution.{Executes};
-ghost use Rattle.tpm_step.specs.Step.{outcome_step};
+ghost use Rattle.tpm_step.specs.step.Execution.{Executes};
+ghost use Rattle.tpm_step.specs.step.Step.{outcome_step};
 ghost use Rattle.tpm_containers.specs.Slots.{lowest_free};
 ghost use Rattle.tpm_record.specs.Cycle.{cycled};
 ghost use Rattle.tpm_machine.specs.Follows.{Follows};

@@ -6,7 +6,7 @@ use std::{fs, io};
 use tpmsim_image::Subject;
 use tpmsim_script::report_of;
 
-/// Prints the faults of each bad line of a script, from a file or from standard input, and ends as
+/// Prints the fault of each bad line of a script, which is in a file or on standard input. Ends as
 /// a run of the script would.
 pub fn check_script(rt: &HostRuntime, script: &str) -> Result<(), Fault> {
     let text = Fault::file(Subject::Script).unless(read(rt, script))?;

@@ -14,8 +14,8 @@ use tpmsim_folder::{Place, Said};
 use tpmsim_image::{Entropy, Subject};
 use tpmsim_script::first_bytes;
 
-/// Power-cycles the device in a folder. With `cuts`, does so even if the journal is damaged. Keeps
-/// `past` finished journals in the folder.
+/// Power-cycles the device in a folder. If `cuts` is set and the journal is damaged, a new journal
+/// begins first. Keeps `past` finished journals in the folder.
 pub fn cycle_power(rt: &HostRuntime, folder: &str, cuts: bool, past: u32) -> Result<(), Fault> {
     let mut kept = open_there(rt, folder, past)?;
     if cuts {

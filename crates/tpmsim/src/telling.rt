@@ -31,8 +31,8 @@ fn buffer_of(rt: &HostRuntime, digits: &str) -> Result<Vec<u8>, Fault> {
     }
 }
 
-/// Prints the form of a command in words, and an example. Without a name, does so for each command.
-/// A name that is not the name of a command is a usage fault.
+/// Prints the form of a command in words, and an example; without a name, prints these for every
+/// command. A name that is not the name of a command is a usage fault.
 pub fn print_forms(rt: &HostRuntime, name: Option<&str>) -> Result<(), Fault> {
     match name {
         Some(name) => {

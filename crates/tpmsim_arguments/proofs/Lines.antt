@@ -1,5 +1,5 @@
--- Command lines that people write request what `AskFor` says, such as to assemble a line or to
--- serve a device.
+-- Lemmas about what usual command lines request (`AskFor`), such as to assemble a line or to serve
+-- a device.
 use Rattle.std.proofs.Common.{◌≡◌, Bool, List, ◌∙◌, ℕ, ◌≤◌, refl, inl, inr, true, false, [], ◌∷◌, Some, None, Option, ap, ap₂, codes, option_map, option_and_then}
 use Rattle.std.proofs.lemmas.Bool.{le-leb}
 use Rattle.std.specs.Str.{bytes_eq}
@@ -63,7 +63,7 @@ damage_is_cut name state e = rw (no_end state e, no_long state e, no_short state
 past_is : (keep : Text) (past : ℕ) → decimal_of keep ≡ Some past → past ≤ 99 → past_by (Some keep) ≡ Some past
 past_is keep past e small = rw (e, le-leb past 99 small) refl
 
--- what a command line `power` with this number of journals requests; None if the number is not
+-- the request of a command line `power` with this number of journals; None if the number is not
 -- valid
 abbrev with_past : (state : Text) → Option ℕ → Option Invocation
 with_past state past = option_and_then (λ count. Some (cycle_power state false count)) past
@@ -103,7 +103,7 @@ state_is_played name state = (refl, refl)
 locality_is : (number : ℕ) → number ≤ 4 → locality_of number ≡ Some number
 locality_is number small = rw (le-leb number 4 small) refl
 
--- what a command line `serve` with this locality and this number of connections requests; None if
+-- the request of a command line `serve` with this locality and this number of connections; None if
 -- one of the numbers is not valid
 abbrev pub with_numbers : (socket : Text) → Kept → (log : Option Text) → (entropy : Text) → Option ℕ → Option ℕ → Bool → Option Invocation
 with_numbers socket place log entropy locality connections saves = option_map serve (option_and_then (λ l. option_and_then (λ c.
@@ -173,13 +173,13 @@ state_is_served name socket state entropy locality connections =
     let read = state_is_read name socket state entropy locality connections in
     device_is_asked_for (state_line name socket state entropy locality connections) socket (in_state state 0) None entropy locality connections false read.0 read.1
 
--- ---- what is left out
+-- ---- omitted options
 
 pub folder_is_served : (name socket state : Text) → AskForFolder (short_line name socket state) socket state 0 false
 unfolding clap_on_literals
 folder_is_served name socket state = (refl, refl)
 
--- what a command line `serve --complete` with this number of journals requests; None if the number
+-- the request of a command line `serve --complete` with this number of journals; None if the number
 -- is not valid
 abbrev completed : (socket state : Text) → Option ℕ → Option Invocation
 completed socket state past = option_map serve (option_and_then (λ place. option_and_then (λ log. option_and_then (λ completes.

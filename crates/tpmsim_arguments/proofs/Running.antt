@@ -64,7 +64,7 @@ is_asked name rest end asked w r a =
           ∙ ap (λ (w : Walk). asked_of (codes "run") (finished run_shape.rules w.held)) w.0 ∙ a,
     )
 
--- ---- the script, after what is given before it
+-- ---- a script after options
 
 -- the state of the walk after a script
 abbrev with_script : Held → Text → Walk

@@ -154,8 +154,8 @@ abbrev pub storage_in : List Row → Option (Option Stored)
 storage_in rows = stored_by (first_of (codes "image") rows) (first_of (codes "state") rows)
     (first_of (codes "keep") rows) (first_of (codes "entropy") rows)
 
--- the given script; if no script is given, the script is standard input if the device's state is in
--- a folder
+-- the given script. If no script is given, the script of a device in a folder is standard input;
+-- otherwise there is none
 abbrev pub script_by : (script state : Option Text) → Option Text
 script_by (Some script) state = Some script
 script_by None (Some state) = Some (codes "-")

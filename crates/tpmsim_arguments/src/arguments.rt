@@ -28,8 +28,8 @@ use tpm_types::Locality;
 #[derive(Drop)]
 pub enum Arguments<'a> {
     /// Run the script in this file, or on standard input if the word is `-`. `trace` says whether
-    /// to print the trace of each event, and `storage` says in which files the device is kept, if
-    /// in any.
+    /// to print the trace of each event, and `storage` contains the files of the device, if it is
+    /// kept.
     Run {
         script: &'a str,
         trace: bool,
@@ -221,8 +221,8 @@ fn restore_of<'a>(options: &ArgMatches<'a>) -> Option<Arguments<'a>>
     })
 }
 
-/// Returns where the device of `run` is kept, from the matches; it may be kept nowhere. Without an
-/// image or a folder, a file of random bytes and a number of journals are refused.
+/// Returns where the device of `run` is kept, if it is kept, from the matches. Without an image or
+/// a folder, a file of random bytes and a number of journals are refused.
 fn storage_of<'a>(options: &ArgMatches<'a>) -> Option<Option<Storage<'a>>>
     ensures { option_map (option_map stored) result ≡ storage_in (rows_of (found_of options.now)) }
 {

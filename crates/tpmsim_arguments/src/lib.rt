@@ -6,8 +6,7 @@
 //! refused ([`fault`]).
 //!
 //! The crate uses `clap`, which matches the words, and opens no file. `specs/` defines what each
-//! command line requests; [`laws`] says that the command lines that people write request what they
-//! expect.
+//! command line requests; [`laws`] says that usual command lines request what users expect.
 
 pub mod arguments;
 mod command_line;

@@ -15,18 +15,18 @@ IsOfKind File t = IsFile t
 IsOfKind Folder t = IsDir t
 IsOfKind Other t = (IsSymlink t → ⊥) × (IsFile t → ⊥) × (IsDir t → ⊥)
 
--- the fault of a file whose owner is not the user
+-- the fault if another user owns the file
 abbrev pub owner_fault : (owner user : ℕ) → Option Said
 owner_fault owner user = if owner == user then None else Some IsOfAnother
 
--- the fault of a file that is not a regular file of the user
+-- the fault if the file is not a regular file of the user
 abbrev pub file_fault : Kind → (owner user : ℕ) → Option Said
 file_fault Link owner user = Some IsLink
 file_fault File owner user = owner_fault owner user
 file_fault Folder owner user = Some IsNoFile
 file_fault Other owner user = Some IsNoFile
 
--- the fault of a file that is not a folder of the user
+-- the fault if the file is not a folder of the user
 abbrev pub folder_fault : Kind → (owner user : ℕ) → Option Said
 folder_fault Link owner user = Some IsLink
 folder_fault Folder owner user = owner_fault owner user

@@ -15,7 +15,7 @@ use tpm_keeping::holder::Fault;
 pub enum Place {
     Folder,
     Journal,
-    /// The new journal, which is to replace the old one.
+    /// The new journal, which is to replace the old journal.
     NewJournal,
     /// The latest of the finished journals that stay in the folder.
     LastJournal,

@@ -138,7 +138,7 @@ impl Folder {
 
     /// Syncs the names of the folder's files to the disk, and the first time also the folder's own
     /// name. The process that created the folder or its files may have been killed before it synced
-    /// them. Returns whether this call left the folder's own name out, because the user may not
+    /// them. Returns whether this call did not sync the folder's own name, because the user may not
     /// read the parent.
     pub fn force(&mut self, rt: &HostRuntime) -> Result<bool, KeptFault> {
         match self.force_names(rt) {

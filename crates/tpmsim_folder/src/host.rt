@@ -30,8 +30,8 @@ pub struct Host<'a> {
 
 impl<'a> Host<'a> {
     /// Returns the host for the folder at a path. If the folder is missing and `makes` is true,
-    /// creates it. Opens no file in the folder yet. Whenever a new journal replaces the old one, at
-    /// most `past` finished journals stay.
+    /// creates it. Opens no file in the folder yet. Whenever a new journal replaces the old
+    /// journal, at most `past` finished journals stay.
     pub fn at(
         rt: &'a HostRuntime,
         path: &str,
@@ -220,7 +220,7 @@ impl<'a> Host<'a> {
         }
     }
 
-    /// Syncs the folder to the disk. Returns whether the folder's own name was left out.
+    /// Syncs the folder to the disk. Returns whether the folder's own name was not synced.
     pub fn settle(&mut self) -> Result<bool, KeptFault> {
         self.folder.force(self.rt)
     }

@@ -6,7 +6,7 @@ use std::io;
 use std::io::ErrorKind;
 
 /// A lock that nobody else holds while this value exists. It is a lock on an open file, so the
-/// system releases it when the process ends, in whatever way.
+/// system releases it when the process ends, however it ends.
 #[derive(Drop)]
 pub struct ImageLock {
     _file: File,

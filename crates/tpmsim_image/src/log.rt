@@ -9,7 +9,7 @@
 
 ghost use Rattle.std.specs.Prelude.{◌≡◌, ◌≤◌, ◌+◌, ◌++◌, [], IfOk, OnErr, OnOk, false, length, true};
 ghost use Rattle.tpm_bytes.specs.Tap.{marks_of};
-ghost use Rattle.tpm_step.specs.Events.{plain_event};
+ghost use Rattle.tpm_step.specs.step.Events.{plain_event};
 ghost use Rattle.tpm_image_text.specs.Image.{image_text};
 ghost use Rattle.tpm_image_text.specs.NonVolatile.{kept_of};
 ghost use Rattle.tpm_image_text.specs.declared.version.Version.TheVariants.{Two};

@@ -3,10 +3,10 @@ use Rattle.std.proofs.Common.{◌≡◌, Bool, List, [], ◌∷◌, subst}
 use Rattle.std.specs.List.{AllByRecursion, AllZip}
 use Rattle.tpm_containers.specs.Slots.{free}
 use Rattle.tpm_record.specs.Record.{Record}
-use Rattle.tpm_step.specs.Execution.{Executes}
-use Rattle.tpm_step.specs.Events.{PlainEvent}
-use Rattle.tpm_step.specs.Executions.{Execution, Leads}
-use Rattle.tpm_step.specs.Step.{Stepped, outcome_step}
+use Rattle.tpm_step.specs.step.Execution.{Executes}
+use Rattle.tpm_step.specs.step.Events.{PlainEvent}
+use Rattle.tpm_step.specs.history.Executions.{Execution, Leads}
+use Rattle.tpm_step.specs.step.Step.{Stepped, outcome_step}
 use Rattle.tpm_wire.specs.Schedule.{Event, Executed, IsOf, PowerCycled, events_in}
 use Rattle.tpm_wire.proofs.Living.{schedules_lead}
 use Rattle.tpmsim_image_laws.specs.Answers.{AnswersAreOutcomes, IsExecuted}

@@ -1,6 +1,6 @@
--- Lemmas about the box of a value, the pointer to the box, and the calls that convert the one to
--- the other. `Words` defines the machine words of both, `Calls` says what each call requires and
--- returns, and `Held` says what an owner and a holder own.
+-- Lemmas about the box of a value, the pointer to the box, and the calls that convert between them.
+-- `Words` defines the machine words of both, `Calls` says what each call requires and returns, and
+-- `Held` says what an owner and a holder own.
 use mathlib.Core.Path.{refl}
 use mir.Raw.{raw as bare}
 use denote.Exit.{no}

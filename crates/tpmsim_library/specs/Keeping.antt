@@ -102,7 +102,7 @@ text_by (ask.Put cut at) out = out
 text_by (ask.Make whole) out = out
 text_by asked out = []
 
--- the response that may be sent; empty unless the call ended well
+-- the response that may be sent; empty unless the call succeeded
 abbrev pub response_by : Ask → (response : List ℕ) → List ℕ
 response_by (ask.Nothing ending.Done) response = response
 response_by asked response = []
@@ -178,7 +178,7 @@ abbrev pub request_of : Holder → Request
 request_of k =
     request_by (ask_of k) (drops_damage k.job) (length (text_of k)) (length (response_of k))
 
--- the request for the case that there is no keeper: it has no task, and a fault that reports this
+-- the request if there is no keeper: no task, and the fault that reports the missing keeper
 abbrev pub no_request : Request
 no_request = record (task_of 0) { fault = 15 }
 

@@ -3,7 +3,7 @@
 ghost use Rattle.std.specs.Prelude.{◌≡◌, ◌≢◌, ◌<◌, drop, false, true};
 ghost use Rattle.std.specs.declared.option.Option.TheVariants.{None, Some};
 ghost use Rattle.tpm_completion.specs.Execution.{CompletesIf};
-ghost use Rattle.tpm_step.specs.Events.{Given};
+ghost use Rattle.tpm_step.specs.step.Events.{Given};
 ghost use Rattle.tpmsim_library.specs.Journal.{journal_with, seen_in};
 ghost use Rattle.tpmsim_library.specs.State.{record_of};
 ghost use Rattle.tpmsim_library.specs.Told.{done, no_device, no_locality};

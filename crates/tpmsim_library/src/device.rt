@@ -14,8 +14,8 @@ ghost use Rattle.tpm_image_text.specs.declared.version.Version.TheVariants.{Two}
 ghost use Rattle.tpm_machine.specs.Drawn.{drawn_by};
 ghost use Rattle.tpm_record.specs.IsRecord.{IsRecord};
 ghost use Rattle.tpm_record.specs.Record.{Record, manufactured};
-ghost use Rattle.tpm_step.specs.Events.{Cycled, plain_event};
-ghost use Rattle.tpm_step.specs.Execution.{Executes};
+ghost use Rattle.tpm_step.specs.step.Events.{Cycled, plain_event};
+ghost use Rattle.tpm_step.specs.step.Execution.{Executes};
 ghost use Rattle.tpm_completion.specs.Completion.{forgotten};
 ghost use Rattle.tpm_completion.specs.Execution.{CompletesIf};
 ghost use Rattle.tpm_journal.specs.Replay.{Replays};

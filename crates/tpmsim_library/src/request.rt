@@ -116,8 +116,8 @@ impl Request {
         }
     }
 
-    /// Returns the request for the case that there is no keeper: it has no task, and a fault that
-    /// reports this.
+    /// Returns the request if there is no keeper: no task, and the fault that reports the missing
+    /// keeper.
     pub fn none() -> Request
         ensures { result ≡ no_request }
     {

@@ -58,9 +58,8 @@ line_checked p line = reading_checked p (nat_le (length line) 65536) (line_readi
 some_is : (x y : ℕ) → Some x ≡ Some y → x ≡ y
 some_is x y e = cc
 
--- Suppose that checking a line agrees with performing it, and that checking and playing the later
--- lines find the same first bad line. Then checking and playing all these lines find the same first
--- bad line.
+-- Checking and playing find the same first bad line, if they agree on the first line and on the
+-- lines after it.
 first_by : (p : Playing) (number : ℕ) (line : List ℕ) (lines : List (List ℕ)) (checked : Result ℕ BadLine) (effect : Option Effect) → result_ok checked ≡ option_map waited_after effect
     → ((q : Playing) → first_number (faults_of q.waited (number + 1) lines) ≡ (play q (number + 1) lines).bad)
     → first_number (fault_at checked number line ++ faults_of (waited_behind checked p.waited) (number + 1) lines) ≡ (output_with effect number (λ next. play next (number + 1) lines)).bad

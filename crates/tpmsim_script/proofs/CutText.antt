@@ -24,8 +24,7 @@ cut_then_kept (Some a) None c h k = absurd h
 cut_then_kept (Some a) (Some b) None h k = absurd k
 cut_then_kept (Some a) (Some b) (Some c) h k = (h.0, h.1 ∙ ap (λ (l : List ℕ). l ++ h.0) (sym k))
 
--- If one output is a prefix of a second one, and the second one of a third, the first is a prefix
--- of the third.
+-- A prefix of a prefix of an output is a prefix of the output.
 pub cut_twice : (a b c : Option (List ℕ)) → CutOff a b → CutOff b c → CutOff a c
 cut_twice None b c h k = tt
 cut_twice (Some a) None c h k = absurd h
@@ -47,8 +46,8 @@ cut_behind (Some a) None c text h k = absurd h
 cut_behind (Some a) (Some b) None text h k = absurd k
 cut_behind (Some a) (Some b) (Some c) text h k = (k.0, sym h ∙ k.1)
 
--- Suppose that a first text was printed completely, and then only a prefix of a second text. Then
--- the result is a prefix of the old output followed by both texts.
+-- If one text is printed completely, and a second text only in part, the result is a prefix of the
+-- old output followed by both texts.
 pub cut_within : (a b c d : Option (List ℕ)) (text more : List ℕ) → Appends a b text → Keeps b c → CutOff (append_known c more) d → CutOff (append_known a (text ++ more)) d
 cut_within None b c d text more h k cut = tt
 cut_within (Some a) None c d text more h k cut = absurd h
@@ -57,8 +56,8 @@ cut_within (Some a) (Some b) (Some c) None text more h k cut = absurd cut
 cut_within (Some a) (Some b) (Some c) (Some d) text more h k cut =
     (cut.0, sym (append_assoc a text more) ∙ ap (λ (l : List ℕ). l ++ more) (sym (k ∙ h)) ∙ cut.1)
 
--- Suppose that a text was printed, and that a second text printed directly after it was truncated.
--- Then the result is a prefix of the old output followed by both texts.
+-- If a text is printed, and a second text directly after it is truncated, the result is a prefix of
+-- the old output followed by both texts.
 pub cut_after : (a b d : Option (List ℕ)) (text more : List ℕ) → Appends a b text → CutOff (append_known b more) d → CutOff (append_known a (text ++ more)) d
 cut_after None b d text more h cut = tt
 cut_after (Some a) None d text more h cut = absurd h

@@ -4,8 +4,8 @@ use Rattle.std.specs.Prelude.{nat_le, option_and_then}
 use Rattle.std.proofs.lemmas.Bool.{false≢true, le-leb, lt-leb}
 use Rattle.std.specs.Io.KnownBytes.{Appends}
 use Rattle.std.specs.Prelude.{OnOk, OnErr}
-use Rattle.tpm_step.specs.Events.{Cycled}
-use Rattle.tpm_step.specs.Step.{Stepped, step}
+use Rattle.tpm_step.specs.step.Events.{Cycled}
+use Rattle.tpm_step.specs.step.Step.{Stepped, step}
 use Rattle.tpmsim_script.specs.Line.{Meaning, line_meaning}
 use Rattle.tpmsim_script.specs.Answers.{CutOff}
 use Rattle.tpmsim_script.specs.Player.{Did, Told}
@@ -67,8 +67,8 @@ appended_twice (Some old) None new first more h k = absurd h
 appended_twice (Some old) (Some mid) None first more h k = absurd k
 appended_twice (Some old) (Some mid) (Some new) first more h k = k ∙ ap (λ (l : List ℕ). l ++ more) h ∙ append_assoc old first more
 
--- If a command was executed, and first its trace (if requested) and then its response were printed,
--- the line had its effect.
+-- The line of a command had its effect if the command was executed, and first its trace (if
+-- requested) and then its response were printed.
 pub executed : (p : Playing) (buffer : List ℕ) (s : Stepped) (old mid : Option (List ℕ)) (result : Result (Unit {0}) LineFault) (new : Option (List ℕ)) (after : Playing)
     → s ≡ step p.device (command_of p buffer) → Appends old mid (printed_trace p.traced (command_of p buffer) s) → OnOk result (Appends mid new (printed_response s.response)) → OnErr result (CutOff mid new)
     → after ≡ (answer p (command_of p buffer) s).next → OnErr result (result ≡ Err Write) → Did (Some (execute p buffer)) old p result new after
@@ -89,7 +89,8 @@ untraced p buffer s old (Err Write) new after is cut next e =
     (answer p (command_of p buffer) s, ap (λ s. Some (answer p (command_of p buffer) s)) (sym is), cut_longer old new _ cut, next)
 untraced p buffer s old (Err Save) new after is cut next e = absurd (save_is_no_write e)
 
--- If the device was power-cycled and the trace (if requested) was printed, the line had its effect.
+-- The line of a power cycle had its effect if the device was power-cycled, and the trace (if
+-- requested) was printed.
 pub cycled : (p : Playing) (s : Stepped) (old : Option (List ℕ)) (result : Result (Unit {0}) LineFault) (new : Option (List ℕ)) (after : Playing)
     → s ≡ step p.device Cycled → OnOk result (Appends old new (printed_trace p.traced Cycled s)) → OnErr result (CutOff old new) → after ≡ (cycle_to p s).next → OnErr result (result ≡ Err Write)
     → Did (Some (cycle p)) old p result new after
@@ -100,8 +101,7 @@ cycled p s old (Err Save) new after is printed cut next err = absurd (save_is_no
 
 -- ---- the saver's notifications
 
--- If the saver was notified, and only the writer can have failed, then `Told` holds, whatever the
--- result is.
+-- `Told` holds for every result if the saver was notified and only the writer can have failed.
 pub told_then : {S : Type 0} (tells : S → Type 0) (old : S) (result : Result (Unit {0}) LineFault) (new : S) → OnErr result (result ≡ Err Write) → tells new → Told tells old result new
 told_then tells old (Ok done) new err told = told
 told_then tells old (Err Bad) new err told = absurd (bad_is_no_write err)

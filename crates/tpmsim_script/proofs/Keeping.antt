@@ -317,8 +317,8 @@ others_yet : (text : Option (List ℕ)) (lines : List (List ℕ)) (P Q : List (L
 others_yet None lines P Q q h = tt
 others_yet (Some text) lines P Q q h = (h.0, h.1, q h.0)
 
--- Suppose that `Played` holds for a run with one result. If another result allows the same lines
--- and their output, `Played` also holds with that result.
+-- If `Played` holds for a run with one result, it holds with any other result that allows the same
+-- lines and output.
 recast : {S : Type 0} (saves saves_change : S → Record → S → Type 0) (text left old mid new : Option (List ℕ)) (start : Kept S) (result other : Result (Unit {0}) ScriptFault) (Last Next : Kept S → Type 0)
     → (h : Played saves saves_change text left old mid start result Last) → Counts other (length h.lines) → ((rest : List (List ℕ)) → Leaves other left h.end.playing rest) → Writes other old new h.print → Next h.end
     → Played saves saves_change text left old new start other Next

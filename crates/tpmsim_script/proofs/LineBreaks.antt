@@ -127,8 +127,8 @@ stopped_finds old new true (byte ∷ line) e l whole behind h none short = λ mo
     found_last (line_of old) (rest_of old) more h none (follows e) some
     ∙ ap (λ (x : List ℕ). x ∷ lines_of ([] ++ more)) (sym whole) ∙ ap (λ (rest : List ℕ). line_of new ∷ lines_of (rest ++ more)) (sym behind)
 
--- If the bytes that were read begin with a line that is too long, so does the whole text that is
--- left to play: these bytes and what follows them.
+-- If the bytes that were read begin with a line that is too long, the whole remaining text begins
+-- with such a line.
 pub too_long_left : (left remaining : Option (List ℕ)) (line rest : List ℕ) → Keeps left (prepend_known (line ++ rest) remaining) → ((more : List ℕ) → BeginsTooLong (line ++ (rest ++ more)))
     → IfSome left BeginsTooLong
 too_long_left None remaining line rest h long = tt

@@ -109,8 +109,8 @@ pub reached_on : (left rest old held mid new : Option (List ℕ)) (p q : Playing
 reached_on left rest old held mid new p q number line done next behind t k did h =
     reached_next left rest old held mid new p number line did.0 next behind t k did.1 did.2 (subst (λ x. PlaysUpTo rest mid new x (number + 1) next behind) did.3 h)
 
--- Suppose that the lines from `here` up to some later line were played. Then all lines from `start`
--- up to that later line were played.
+-- If the lines from `here` up to some later line were played, all lines from `start` up to that
+-- line were played.
 abbrev pub Leads : Option (List ℕ) → Option (List ℕ) → Playing → ℕ → Option (List ℕ) → Option (List ℕ) → Playing → Option (List ℕ) → Type 0
 Leads here old p number start first q new = (next : ℕ) (behind : List (List ℕ)) → PlaysUpTo here old new p number next behind → PlaysUpTo start first new q 1 next behind
 
@@ -234,8 +234,8 @@ start_lost (Some text) (Some more) None line rest start h k e unbroken = absurd 
 start_lost (Some text) (Some more) (Some last) line rest start h k e unbroken =
     (start, unbroken, sym h ∙ ap (λ (l : List ℕ). l ++ more) (sym e) ∙ ap (λ (l : List ℕ). start ++ l) (sym k))
 
--- Each read either returns some bytes or is the last read. Therefore each read decreases the
--- measure of the loop.
+-- Each read returns some bytes or is the last read, and therefore decreases the measure of the
+-- loop.
 pub reads_on : (was now : Bool) (line rest longer more : ℕ) → was ≡ false → longer ≡ line + rest → longer ≤ 65536 → now ≡ (more == 0) → cond now 0 (1 + (2 * (65536 - longer) + (1 - more))) < cond was 0 (1 + (2 * (65536 - line) + (1 - rest)))
 reads_on true now line rest longer more w e limit n = absurd (false≢true (sym w))
 reads_on false true line rest longer more w e limit n = omega arith

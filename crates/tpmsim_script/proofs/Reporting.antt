@@ -130,7 +130,7 @@ no_more text first waited number rest whole whole_first lines small none sofar =
     let gone = no_lines rest none in
     le-ltb 1048576 lines (omega (arith, small, gone, sofar.count_is)) ∙ sym (ap not (eq-eqb (length rest) 0 none))
 
--- After as many lines as a script may have, the script exceeds this limit if and only if some text
+-- After the largest allowed number of lines, the script exceeds this limit if and only if some text
 -- remains.
 more_by : (rest : List ℕ) (lines : ℕ) → length (lines_of rest) + 1048577 ≡ lines + 1 → nat_lt 1048576 lines ≡ not (length rest == 0)
 more_by [] lines count = le-ltb 1048576 lines (omega (arith, count))

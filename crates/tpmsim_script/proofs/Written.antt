@@ -15,8 +15,8 @@ pub held : (known : Option (List ℕ)) (old more : List ℕ) → Appends (append
 held None old more = tt
 held (Some known) old more = sym (append_assoc known old more)
 
--- If a line is copied to the offset directly after the buffered output, the buffered output is
--- extended by the line.
+-- Copying a line to the offset directly after the buffered output extends the buffered output by
+-- the line.
 pub put_behind : (items held line printed rest tail : List ℕ) (used end size : ℕ) → held ≡ items → line ≡ printed → used ≤ length items → end ≡ used + length printed → end ≤ size
     → take end (take size (take used held ++ (line ++ rest) ++ tail)) ≡ take used items ++ printed
 put_behind items held line printed rest tail used end size a b inside e fits =

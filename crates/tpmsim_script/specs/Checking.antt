@@ -10,14 +10,14 @@ use Rattle.tpmsim_script.specs.Line.{SetsEntropy, CyclesPower, DoesNothing, byte
 use Rattle.tpmsim_script.specs.declared.bad_line.BadLine.{BadLine}
 use Rattle.tpmsim_script.specs.declared.bad_line.Wanted.TheVariants as wanted
 
--- checks a line with a command in words. The result is the milliseconds waited since this command,
--- which are 0, or the reason why the line is bad
+-- checks a line with a command in words. The result is 0, the number of milliseconds since this
+-- command, or the reason why the line is bad
 abbrev pub assembly_check : Result (List ℕ) AsmFault → Result ℕ BadLine
 assembly_check (Ok buffer) = Ok 0
 assembly_check (Err fault) = Err (record { fault = fault; wanted = wanted.Command })
 
--- checks a line that waits. The result is the new number of milliseconds waited since the last
--- command, which must be below 2^32
+-- checks a line that requests to wait. The result is the new number of milliseconds waited since
+-- the last command, which must be below 2^32
 abbrev pub wait_check : (waited milliseconds : ℕ) → Result ℕ BadLine
 wait_check waited milliseconds =
     if nat_lt (waited + milliseconds) (2 ^ 32) then Ok (waited + milliseconds)

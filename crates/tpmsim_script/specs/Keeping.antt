@@ -48,13 +48,13 @@ PlaysLines {S = S} saves saves_change old (line ∷ lines) text new =
     × PlaysLines saves saves_change mid lines more new
 
 -- `count` lines were played. If a line is bad, these are all lines before the bad line. If the
--- script has too many lines, as many lines were played as a script may have.
+-- script has too many lines, they are the largest allowed number of lines.
 abbrev pub Counts : Result (Unit {0}) ScriptFault → ℕ → Type 0
 Counts (Err (fault.Line number)) count = number ≡ count + 1
 Counts (Err fault.TooManyLines) count = count ≡ 1048576
 Counts other count = Unit {0}
 
--- The lines `rest` were not played. If the run ended well, there are none. If it stopped at a bad
+-- The lines `rest` were not played. If the run succeeded, there are none. If it stopped at a bad
 -- line, they begin with the bad line. If the reader failed, they begin with the line that the
 -- reader had begun to return; `left` is the text that the reader has not returned. If there were
 -- too many lines, there is at least one.

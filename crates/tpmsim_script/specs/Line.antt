@@ -88,7 +88,7 @@ line_reading (first ∷ text) =
 abbrev pub line_meaning : List ℕ → Option Meaning
 line_meaning line = result_ok (line_reading line)
 
--- the meaning of a line that the code has parsed
+-- the meaning of a parsed line
 abbrev pub meaning_of : declared.Line → Meaning
 meaning_of (code.Command digits) = Executes digits.now
 meaning_of (code.Words words) = ExecutesWords words.now

@@ -49,7 +49,7 @@ Finds old Incomplete new =
     × IsUnbroken (line_of new) × (old.ended ≡ false) × (length (line_of new) ≤ 65536)
 Finds old End new = (line_of old ++ rest_of old ≡ []) × (rest_of new ≡ []) × (old.ended ≡ true)
 
--- If the flag of the line buffer says that the reader has ended, the reader has ended.
+-- The line buffer's flag says that the reader has ended only if the reader has ended.
 abbrev pub Agrees : Option (List ℕ) → Lines → Type 0
 Agrees remaining lines = lines.ended ≡ true → IsAtEnd remaining
 

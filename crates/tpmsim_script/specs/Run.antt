@@ -8,8 +8,8 @@ use Rattle.tpmsim_script.specs.Script.{IsOutput, Playing, play}
 use Rattle.tpmsim_script.specs.declared.fault.ScriptFault.{ScriptFault}
 use Rattle.tpmsim_script.specs.declared.fault.ScriptFault.TheVariants as fault
 
--- If a run ended well, P holds for None. If it stopped at a bad line, P holds for the number of
--- that line. After any other fault, nothing is claimed.
+-- If a run succeeded, P holds for None. If it stopped at a bad line, P holds for the number of that
+-- line. After any other fault, nothing is claimed.
 abbrev pub Ran : (Option ℕ → Type 0) → Result (Unit {0}) ScriptFault → Type 0
 Ran P (Ok done) = P None
 Ran P (Err (fault.Line number)) = P (Some number)
@@ -60,7 +60,7 @@ PlaysUpTo (Some text) old new p number next rest =
     × (next ≡ number + length played) × IsOutput old new None (play p number played)
 
 -- The reader failed before it returned the text `left`. It had returned the lines that were played,
--- none of which is bad, and the start of one more line.
+-- none of which is bad, and the start of the next line.
 abbrev pub PlaysToFailure : Option (List ℕ) → Option (List ℕ)
     → Option (List ℕ) → Option (List ℕ) → Playing → Type 0
 PlaysToFailure None left old new p = Unit {0}
@@ -70,7 +70,7 @@ PlaysToFailure (Some text) (Some left) old new p =
     × PlaysUpTo (Some text) old new p 1 next (lines_of (start ++ left))
 
 -- The largest allowed number of lines, 1,048,576, was played. None of them is bad, and there is
--- one more line.
+-- another line.
 abbrev pub PlaysAllAllowed : Option (List ℕ) → Option (List ℕ) → Option (List ℕ) → Playing → Type 0
 PlaysAllAllowed text old new p =
     (line : List ℕ) × (rest : List (List ℕ)) × PlaysUpTo text old new p 1 1048577 (line ∷ rest)
@@ -87,14 +87,14 @@ NextFound number old (Err fault.Read) line new = Unit {0}
 NextFound number old (Err fault.Write) line new = Unit {0}
 NextFound number old (Err other) line new = ⊥
 
--- `fact` holds if a run ended well, stopped at a bad line, or ended because the reader failed.
+-- `fact` holds if a run succeeded, stopped at a bad line, or ended because the reader failed.
 abbrev pub UnlessFailed : {X : Type 0} → Result X ScriptFault → Type 0 → Type 0
 UnlessFailed (Ok x) fact = fact
 UnlessFailed (Err (fault.Line number)) fact = fact
 UnlessFailed (Err fault.Read) fact = fact
 UnlessFailed (Err other) fact = Unit {0}
 
--- how a run ends after as many lines as a script may have: with TooManyLines if there is one more
+-- the result of a run after the largest allowed number of lines: TooManyLines if there is another
 -- line
 abbrev pub end_at_limit : Result Bool ScriptFault → Result (Unit {0}) ScriptFault
 end_at_limit (Ok true) = Err fault.TooManyLines

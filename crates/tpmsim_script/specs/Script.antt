@@ -9,8 +9,8 @@ use Rattle.std.specs.Result.{result_ok}
 use Rattle.hex.specs.Hex.{encode_lower}
 use Rattle.tpm_types.specs.Locality.{locality_number}
 use Rattle.tpm_record.specs.Record.{Record, manufactured}
-use Rattle.tpm_step.specs.Events.{PlainEvent, Given, Cycled}
-use Rattle.tpm_step.specs.Step.{Stepped, step}
+use Rattle.tpm_step.specs.step.Events.{PlainEvent, Given, Cycled}
+use Rattle.tpm_step.specs.step.Step.{Stepped, step}
 use Rattle.tpm_text.specs.Line.{assembled}
 use Rattle.tpm_text.specs.Trace.{trace_text}
 use Rattle.tpmsim_script.specs.Line.{Meaning, Executes, ExecutesWords, SetsLocality, Waits}

@@ -23,7 +23,7 @@ pub enum Next {
     Line,
     /// A line of more than [`LINE_LIMIT`] bytes, or the start of such a line.
     TooLong,
-    /// The start of a line, or nothing: more bytes have to be read.
+    /// The start of a line, or no bytes: more bytes have to be read.
     Incomplete,
     /// The end of the text: no line is left.
     End,

@@ -5,8 +5,8 @@ ghost use Rattle.std.specs.Prelude.{◌≡◌, ◌≤◌, [], false, true, lengt
 ghost use Rattle.std.specs.Io.KnownBytes.{Appends, Keeps};
 ghost use Rattle.tpm_bytes.specs.Tap.{device_of, marks_of};
 ghost use Rattle.tpm_machine.specs.State.{state_of};
-ghost use Rattle.tpm_step.specs.Events.{plain_event};
-ghost use Rattle.tpm_step.specs.Step.{outcome_step};
+ghost use Rattle.tpm_step.specs.step.Events.{plain_event};
+ghost use Rattle.tpm_step.specs.step.Step.{outcome_step};
 ghost use Rattle.tpm_text.specs.Trace.{IsTraceable};
 ghost use Rattle.tpmsim_script.specs.Answers.{CutOff, backlog, printout};
 ghost use Rattle.tpmsim_script.specs.Keeping.{Tells};

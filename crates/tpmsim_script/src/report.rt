@@ -13,8 +13,8 @@ use std::alloc::{AllocError, Global};
 pub struct Report {
     /// One line of text for each bad line.
     pub text: String,
-    /// How a run of the script would end: well, at its first bad line, or because it contains more
-    /// lines than the limit.
+    /// How a run of the script would end: with success, at its first bad line, or because the
+    /// script contains more lines than the limit.
     pub end: Result<(), ScriptFault>,
 }
 

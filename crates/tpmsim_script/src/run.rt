@@ -93,14 +93,14 @@ pub fn run_device<K: Keep, S: Saver, R: Read, W: Write>(
         (at_first trace (state_of K.record_of machine)) 1) result }
 
     // If the reader failed, the whole lines that it had returned were played and their output was
-    // written; only the start of one more line was not played.
+    // written; only the start of the next line was not played.
     ensures read { K.can_refuse ≡ false → OnUnread result (PlaysToFailure
         (R.remaining (device_of reader.old)) (R.remaining (device_of reader.new))
         (W.contents (device_of writer.old)) (W.contents (device_of writer.new))
         (at_first trace (state_of K.record_of machine))) }
 
     // The fault TooManyLines means that the largest allowed number of lines was played, that their
-    // output was written, and that there is one more line.
+    // output was written, and that there is another line.
     ensures too_many { K.can_refuse ≡ false → OnTooMany result (PlaysAllAllowed
         (R.remaining (device_of reader.old))
         (W.contents (device_of writer.old)) (W.contents (device_of writer.new))
@@ -263,8 +263,8 @@ impl<K: Keep> Run<K> {
     }
 }
 
-/// Returns how a run ends after as many lines as a script may have: with TooManyLines if there is
-/// one more line.
+/// Returns the result of a run after the largest allowed number of lines: TooManyLines if there is
+/// another line.
 fn end_at_limit(next: Result<bool, ScriptFault>) -> Result<(), ScriptFault>
     ensures { result ≡ end_at_limit next }
 {

@@ -1,5 +1,5 @@
--- Lemmas about the box of a device, the pointer to the box, and the calls that convert the one to
--- the other. `Words` defines the machine words of both, `Calls` says what each call requires and
+-- Lemmas about the box of a device, the pointer to the box, and the calls that convert between
+-- them. `Words` defines the machine words of both, `Calls` says what each call requires and
 -- returns, and `Held` says what a holder owns.
 use Rattle.std.proofs.BoxSteps.Form.{Bx}
 use Rattle.tpmsim_web.specs.contracts.lent.LentAllocator.TheImpl.{dict, ghosts}

@@ -18,8 +18,8 @@ use Rattle.tpm_journal_text.specs.Head.{head_text}
 use Rattle.tpm_journal_text.specs.declared.head.HeadKind.TheVariants.{State}
 use Rattle.tpm_record.specs.Cycle.{cycled}
 use Rattle.tpm_record.specs.Record.{Record}
-use Rattle.tpm_step.specs.Events.{Cycled}
-use Rattle.tpm_step.specs.Execution.{Executes}
+use Rattle.tpm_step.specs.step.Events.{Cycled}
+use Rattle.tpm_step.specs.step.Execution.{Executes}
 use Rattle.tpm_state_text.specs.State.{state_text}
 use Rattle.tpmsim_web.specs.State.{command_seen, cycle_seen, record_of}
 use Rattle.tpmsim_web.specs.declared.device.Answered.{Answered}
@@ -39,7 +39,7 @@ pub record BeginsJournal (before : Device) (now : ℕ) (after : Device) : Type 0
 abbrev pub IsAsBefore : (before after : Device) → Type 0
 IsAsBefore before after = (record_of after ≡ record_of before) × (after.journal ≡ before.journal)
 
--- If the head, of size `size`, fits in the buffer, of size `room`, the device starts its journal;
+-- The device starts its journal if the head (`size` bytes) fits in the buffer (`room` bytes);
 -- otherwise the device is unchanged.
 abbrev pub BeginsIfRoom : (before : Device) → (now room size : ℕ) → (after : Device) → Type 0
 BeginsIfRoom before now room size after =

@@ -4,7 +4,7 @@ use Rattle.tpm_record.specs.Record.{Record}
 use Rattle.tpm_slots.specs.SlotRecord.{slot_record}
 use Rattle.tpm_snapshot.specs.Layer.{layer_of}
 use Rattle.tpm_state_text.specs.Body.{WholeState}
-use Rattle.tpm_step.specs.Step.{Stepped}
+use Rattle.tpm_step.specs.step.Step.{Stepped}
 use Rattle.tpmsim_web.specs.declared.device.Answered.{Answered}
 use Rattle.tpmsim_web.specs.declared.device.Device.{Device}
 

@@ -31,11 +31,11 @@ type By struct {
 	Value      []byte
 }
 
-// Password returns the authorization by a password.
+// Password returns the authorization with a password.
 func Password(value string) *By { return &By{Session: 0x40000009, Value: []byte(value)} }
 
-// ByPolicy returns the authorization by a policy session. If the policy requires a password, value
-// is that password.
+// ByPolicy returns the authorization with a policy session. If the policy requires a password,
+// value is that password.
 func ByPolicy(session uint32, value string) *By {
 	return &By{session, make([]byte, 16), 1, []byte(value)}
 }
@@ -143,7 +143,8 @@ func Flush(tpm *tpmsim.TPM, handles ...uint32) {
 	}
 }
 
-// DigestOf returns the digest of a trial session with these assertions, and ends the session.
+// DigestOf returns the policy digest of the assertions that `tell` makes in a trial session. The
+// session is then flushed.
 func DigestOf(tpm *tpmsim.TPM, tell func(session uint32) error) []byte {
 	trial := StartSession(tpm, Trial)
 	if err := tell(trial); err != nil {

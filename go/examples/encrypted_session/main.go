@@ -33,7 +33,7 @@ func wasHeard(what string) string {
 	return "not heard"
 }
 
-// area returns the public area of the index, with more attributes.
+// area returns the public area of the index, with the additional attributes more.
 func area(more uint32) []byte {
 	return Join(Number(Index), []byte{0, 0x0b}, Number(byOwner|more), []byte{0, 0, 0, byte(len(secret))})
 }

@@ -56,7 +56,7 @@ def hash_of_zeros(algorithm: int, policy: Policy, told: Told) -> str | None:
 
 
 def branch_lists(algorithm: int, policy: Policy) -> Iterator[tuple[int, list[bytes]]]:
-    """Yields the digests of the branches of each PolicyOR, with the line of its `either` in the
+    """Yields the digests of the branches of each PolicyOR, with the line of the `either` in the
     policy.
     """
     if policy.branches:

@@ -30,7 +30,7 @@ BANKS = SHA1, SHA256
 class PcrLines:
     """The line that last wrote each PCR value, and the last line that wrote any PCR or was a
     TPM2_Clear. A value that no line wrote comes from the state at the start of the log, if the log
-    starts with one.
+    starts with a state.
     """
 
     def __init__(self, history: History, text: str) -> None:

@@ -12,7 +12,9 @@ class Disagreement(TpmsimError):
 
 
 def shown(text: str, first: int) -> str:
-    """Returns a text in quotation marks. If it is long, returns only the part around an offset."""
+    """Returns a text in quotation marks. If the text is long, returns only the part around the
+    offset `first`.
+    """
     plain = "".join(it if it.isprintable() else "?" for it in text)
     begin = max(0, first - BEFORE) if len(plain) > SHOWN else 0
     cut = plain[begin : begin + SHOWN]

@@ -94,8 +94,8 @@ def steps_of(algorithm: int, of: Policy, told: Told) -> list[Taken]:
 
 
 def is_before(algorithm: int, of: Policy, told: Told) -> bool:
-    """Whether a session already had the policy's digest before the log, and asserted nothing
-    since.
+    """Whether a session already had the policy's digest when the log began, and has asserted
+    nothing since.
     """
     return not told.asserted and bool(told.before) and policy_digest(algorithm, of) == told.before
 

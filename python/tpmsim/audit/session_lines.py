@@ -54,11 +54,12 @@ def asserted_by(seen: Seen, before: LiveSession, after: LiveSession, pcrs: Pcrs)
 
 @dataclass
 class Begun:
-    """A session: the line that started it, the protection of its bind entity, the line of its first
-    TPM2_PolicyPCR, its assertions since its policy began, its events as text, one per line, and the
-    commands that were accepted with an HMAC of this session. A session from a state text has no
-    line that started it; `before` is the digest that its policy had in the state text. `bound` is
-    the text for its bind entity.
+    """A session. `line` is the line that started it, `protection` is that of its bind entity, and
+    `first_pcr` is the line of its first TPM2_PolicyPCR. `asserted` contains its assertions since
+    its policy began, `told` its events as lines of text, and `accepted` the commands that were
+    accepted with an HMAC of this session. A session from a state text has no line that started it;
+    `before` is the digest that its policy had in the state text. `bound` is the text for its bind
+    entity.
     """
 
     line: int

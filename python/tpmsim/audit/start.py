@@ -96,8 +96,8 @@ def first_of(script: bytes) -> records.Begin | None:
 
 
 def has_answers(script: bytes) -> bool:
-    """Whether a log records the response to its first command, as a journal does. A log without
-    commands counts as one that does if it has a head.
+    """Whether a log records the response to its first command, as a journal does. This is also true
+    for a log that has a head but no commands.
     """
     commands = (it for it in records.steps_of(script) if isinstance(it, records.Command))
     first = next(commands, None)

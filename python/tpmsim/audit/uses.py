@@ -1,4 +1,4 @@
-"""Judges each use of an entity by the history before it; reports failed guesses and other
+"""Judges each use of an entity by the history before the use; reports failed guesses and other
 refusals.
 """
 
@@ -150,8 +150,8 @@ class Uses:
                 self.policies.note(use)
 
     def tell(self, use: Use, findings: list[Finding]) -> None:
-        """Reports a use and why it was accepted. For a policy session the reasons are its
-        conditions; for other entries, the value that the caller proved to know.
+        """Reports a use and why it was accepted. For a policy session the reasons are the
+        conditions that held; for any other entry, it is the value that the caller proved to know.
         """
         used, told = self.entities.of(use.authorized).used, self.words(use)
         if use.live and use.is_policy:
@@ -184,7 +184,7 @@ class Uses:
 
     def lacking(self, seen: Seen) -> tuple[Use, str] | None:
         """Returns the first entry that the history does not justify, and what it lacks; None if
-        there is none.
+        there is no such entry.
         """
         for use in self.grounds.uses(seen):
             if seen.outcome.refused == LOCKED and self.guesses.touched(use):

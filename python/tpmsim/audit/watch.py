@@ -17,8 +17,8 @@ from tpmsim.standard.objects import Attribute
 
 Public = nv.Public | objects.Public
 
-# The checks of entries also refuse, with this code, a first parameter that is cut off and cannot be
-# decrypted. No entry causes this refusal.
+# The response code with which the checks of entries also refuse a first parameter that is cut off
+# and cannot be decrypted. No entry causes this refusal.
 OF_PARAMETERS = "INSUFFICIENT/p1"
 
 
@@ -183,8 +183,8 @@ def means_words(public: Public) -> str:
 
 
 def is_again(public: Public, had: Public) -> bool:
-    """Whether two public areas have the same Name, ignoring that an index's Name changes at its
-    first write.
+    """Whether two public areas have the same Name. The change of an index's Name at the index's
+    first write is ignored.
     """
     if isinstance(public, nv.Public) and isinstance(had, nv.Public):
         had = had.but(cleared=nv.Attribute.WRITTEN)
@@ -194,7 +194,7 @@ def is_again(public: Public, had: Public) -> bool:
 
 @dataclass
 class Entity:
-    """An entity while one handle names it, with its uses, one per line."""
+    """An entity during the time in which one handle names it, with its uses as lines of text."""
 
     handle: int
     title: str

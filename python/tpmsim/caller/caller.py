@@ -103,7 +103,7 @@ class Caller(Calls, PreparedCommands):
         if step.branches:
             self.tell_branch(use, step)
         elif step.code in (CC.PolicySecret, CC.PolicyNV):
-            # A Name that this caller has not learned is a handle, which is its own Name.
+            # A Name that this caller has not learned belongs to an entity whose Name is its handle.
             known = [handle for handle, name in self.names.items() if name == step.name]
             those = [*(known or [int.from_bytes(step.name, "big")])[:1], session.handle]
             if step.code == CC.PolicyNV:

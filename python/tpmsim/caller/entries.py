@@ -42,8 +42,8 @@ class Session:
 
 @dataclass
 class Use:
-    """The use of a session in an entry. An hmac whose key is empty may be left out; it is sent if
-    `shows_empty_key` is set. `demand` is what the session's policy demands.
+    """The use of a session in an entry. An hmac whose key is empty may be left out; if
+    `shows_empty_key` is set, it is sent. `demand` is what the session's policy demands.
     """
 
     session: Session
@@ -117,7 +117,7 @@ class Response:
     """The successful response to a command. Its decrypted parameters are named as in Part 3, as in
     `response["randomBytes"]`; docs/table describes each one. A wrong name raises KeyError, which
     lists the right names. The response class of each command, such as GetRandomResponse, also has
-    them as attributes: `response.randomBytes`.
+    the parameters as attributes: `response.randomBytes`.
     """
 
     code: CC
@@ -136,10 +136,10 @@ class Response:
 
 
 class Refused(TpmsimError):
-    """A command that the device refuses. `number` is the response code; `name` its name, empty if
-    it is unknown here; `place` the parameter, handle or session that it names, such as p1, h2 or
-    s1, or empty; and `check` the check that refused the command, such as G9 or A1, if a trace
-    reports it.
+    """A command that the device refuses. `number` is the response code, and `name` the code's name,
+    which is empty if it is unknown here. `place` is the parameter, handle or session that the code
+    names, such as p1, h2 or s1, or empty. `check` is the check that refused the command, such as G9
+    or A1, if a trace reports it.
     """
 
     def __init__(self, prepared: Prepared, number: int, check: str | None = None) -> None:

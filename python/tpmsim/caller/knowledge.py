@@ -43,8 +43,8 @@ def expect(holds: bool, words: str) -> None:
 
 
 class Knowledge:
-    """The authorization values, the Names and the public areas of indices that a caller knows, by
-    handle. `nonce` returns the requested number of bytes, which are random by default.
+    """What a caller knows, by handle: authorization values, Names, and the public areas of indices.
+    `nonce` returns the requested number of bytes, which are random by default.
     """
 
     def __init__(self, nonce: Callable[[int], bytes] = secrets.token_bytes) -> None:
@@ -122,8 +122,8 @@ class Knowledge:
         return session.key + (auth_value if is_in_key else b"")
 
     def encrypted(self, use: Use, handle: int | None, parameters: bytes) -> bytes:
-        """Encrypts the first parameter of a command for a session with which the device decrypts
-        it.
+        """Encrypts the first parameter of a command, for the session with which the device decrypts
+        that parameter.
         """
         session, key = use.session, use.session.key + self.auth_value(handle)
         given = session.cipher, session.algorithm, key, use.nonce or b"", session.nonce_tpm
@@ -218,7 +218,7 @@ class Knowledge:
         return handle, parameters
 
     def plain_request(self, prepared: Prepared) -> bytes:
-        """Returns the parameters of a command, before they were encrypted."""
+        """Returns the parameters of a command as they were before encryption."""
         for place, use in enumerate(prepared.uses, 1):
             if isinstance(use, Use) and use.attributes & DECRYPT:
                 return self.decrypted(use, prepared.authorized(place), prepared.parameters)

@@ -95,7 +95,8 @@ class PreparedCommands(Commands):
         return self.asked(CC.PolicyNvWritten, [session.handle], uses, is_written)
 
     def branches(self, session: Session, *digests: bytes, count: int | None = None) -> Prepared:
-        """TPM2_PolicyOR. The count in its list is the number of digests, unless `count` is passed.
+        """TPM2_PolicyOR. The count in the list of digests is the number of digests, unless `count`
+        is passed.
         """
         return self.told(CC.PolicyOR, session, frames.sized_list(*digests, count=count))
 

@@ -28,7 +28,7 @@ HANDLES = {
 
 @dataclass(frozen=True)
 class Kept:
-    """A context of the other TPM, and what is known about its object or session."""
+    """A context of the other TPM, and what is known about its object, sequence or session."""
 
     text: bytes
     name: bytes | None
@@ -92,12 +92,12 @@ class Contexts:
             self.translation.lost[int.from_bytes(here[10:14], "big")] = line
 
     def power_cycle(self) -> None:
-        """Forgets the contexts of sessions. Contexts of objects may still be loaded."""
+        """Forgets the contexts of sessions. Other contexts may still be loaded."""
         self.kept = {text: it for text, it in self.kept.items() if not names_session(text)}
 
     def loaded(self, handle: int, there: bytes, kept: Kept | None) -> None:
-        """Notes the handle that a reloaded object or session has on the other TPM. It may be a new
-        handle.
+        """Notes the handle that a reloaded object, sequence or session has on the other TPM. It may
+        be a new handle.
         """
         other = int.from_bytes(there[10:14], "big")
         self.translation.handles[handle] = other

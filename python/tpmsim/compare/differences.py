@@ -1,5 +1,5 @@
-"""Finds the differences between two responses, with a list of the random fields and of the known
-causes.
+"""Finds the differences between two responses. Lists the random fields, and the known causes of
+differences.
 """
 
 import json

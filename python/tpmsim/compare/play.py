@@ -19,8 +19,8 @@ from tpmsim.standard import SHA256, TRANSIENT
 from tpmsim.standard.command_names import command_name
 from tpmsim.standard.values import read_all
 
-# For each command that changes something without a handle, what it changes. A later difference may
-# follow from it.
+# What a command changes, if it changes something that has no handle. A later difference may follow
+# from such a change.
 GUESSES = "guesses"
 ALL = "all"
 CHANGES = {
@@ -58,7 +58,9 @@ READS = [
 
 @dataclass
 class Report:
-    """The number of commands in a script, the differences, and what cannot be compared, by line."""
+    """The number of commands in a script, the differences, and what cannot be compared, with the
+    line of each.
+    """
 
     commands: int = 0
     differences: list[Difference] = field(default_factory=list)
@@ -109,8 +111,8 @@ class Comparison:
             raise ValueError(f"line {self.line} begins with a device that no other TPM can be made")
 
     def send(self, buffer: bytes) -> bytes:
-        """Sends a command, after the script's waits. If the other TPM runs on the host's time, only
-        this device forgives failed tries.
+        """Sends a command after the waiting time in the script. If the other TPM runs on the host's
+        time, only this device forgives failed tries.
         """
         waited, self.waited = min(self.waited, MOST_MILLISECONDS), 0
         try:

@@ -53,7 +53,7 @@ class Shown:
 
 @dataclass
 class Received:
-    """A TPM's response to a decrypted request, and what is wrong with its hmacs."""
+    """A TPM's response to a decrypted request, and what is wrong with the response's hmacs."""
 
     request: bytes = b""
     handle: int | None = None
@@ -104,8 +104,8 @@ class Reference:
         return True
 
     def open_empty(self, step: records.Begin) -> bool:
-        """Continues with the device of a head, if that device was just powered on and contains
-        nothing that a new device lacks. Returns False for any other device, which is not opened.
+        """Continues with the device of a head, if that device was just powered on and contains only
+        what a new device contains. Returns False for any other device, which is not opened.
         """
         begun = opened(step.content, step.start)
         found = begun.device
@@ -144,8 +144,8 @@ class Reference:
         return Shown()
 
     def plain(self, command: Command) -> bytes:
-        """Returns the parameters, decrypted if a session of the command encrypts them and can
-        decrypt them.
+        """Returns the parameters of a command. They are decrypted if a session of the command is
+        meant to decrypt them, and can.
         """
         found = command.with_attribute(DECRYPT)
         session = self.model.sessions.get(found[1].handle) if found else None

@@ -77,7 +77,7 @@ class ChildDevice(InStep, Device):
         return os.path.join(self.folder, name)
 
     def begin(self, image: bytes) -> None:
-        """Starts the device of an image. If the bytes are no image, the first command raises
+        """Starts the device of an image. If the bytes are not an image, the first command raises
         DeviceEnded.
         """
         self.image = pathlib.Path(self.within("image"))

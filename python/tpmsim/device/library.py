@@ -80,7 +80,9 @@ class ImageFile:
             self.write(image)
 
     def write(self, image: bytes) -> None:
-        """Writes a file next to the image, syncs it to the disk, and replaces the image by it."""
+        """Writes a file next to the image, syncs it to the disk, and replaces the image with that
+        file.
+        """
         beside = pathlib.Path(f"{self.path}.new")
         beside.unlink(missing_ok=True)
         flags = os.O_WRONLY | os.O_CREAT | os.O_EXCL | os.O_CLOEXEC
@@ -123,9 +125,9 @@ HELD: weakref.WeakSet[ImageFile] = weakref.WeakSet()
 
 def give_up_all() -> None:
     """Leaves all files and locks to the parent of a forked child, which shares the locks and would
-    hold them after its parent ends. Python calls this in the child when it forks itself. After a
-    fork by a library in C, only a different process number identifies the child, and in another
-    namespace the number may be the same.
+    hold them even after the parent has ended. Python calls this in the child when it forks itself.
+    After a fork by a library in C, only a different process number identifies the child, and in
+    another namespace the number may be the same.
     """
     for file in list(HELD):
         file.give_up()
@@ -234,7 +236,8 @@ def written(call: Write, handle: int) -> bytes:
 class LibraryDevice(Device):
     """A device in this process, manufactured with 256 bytes, which are random unless they are
     passed. If it has an image, its state is kept in that file: the file is written before the
-    response to a change, and at the end. Raises FileExistsError if another device uses the image.
+    response to a command that changes the state is returned, and when the device is closed. Raises
+    FileExistsError if another device uses the image.
 
     >>> with LibraryDevice(manufactured=bytes(256)) as device:
     ...     len(device.save())

@@ -27,7 +27,7 @@ STARTUP, SHUTDOWN = (frames.command(it, number(0, 2)) for it in (CC.Startup, CC.
 
 class SwtpmDevice(InStep, LocatedDevice):
     """A device that speaks swtpm's protocol, at the addresses of its two channels. Connecting does
-    not switch its power. An answer that takes longer than `seconds` raises TimeoutError.
+    not switch the device on or off. An answer that takes longer than `seconds` raises TimeoutError.
 
     >>> SwtpmDevice("/nowhere", "/nowhere.ctrl")
     Traceback (most recent call last):

@@ -29,9 +29,10 @@ class NothingReplaced(TpmsimError, MemoryError):
 
 
 class Device(Transport):
-    """A fresh device that was just powered on, or the device of an image, which is kept in its
-    file. It is in this process if the library is found, and otherwise in a child process. Its seeds
-    and its random bytes are fresh; if you pass a seed, they are the same in each run.
+    """A fresh device that was just powered on, or the device of an image, which writes its changes
+    to the image's file. It is in this process if the library is found, and otherwise in a child
+    process. Its seeds and its random bytes are fresh; if you pass a seed, they are the same in each
+    run.
 
     >>> from tpmsim.caller import Caller
     >>> with Device(seed=b"mine") as device:
@@ -79,7 +80,8 @@ class Device(Transport):
     @property
     def trace(self) -> list[str]:
         """The events so far as lines of a script. Unless the device started as every script's
-        device does, the first line is a comment with its first image or state text.
+        device does, the first line is a comment with the image or the state text from which it
+        started.
         """
         word = "state" if self.begun.startswith(state_text.MAGIC) else "image"
         begun = [f"# {word} {self.begun.hex()}"] if self.begun else []
@@ -259,7 +261,7 @@ class ModelDevice(Device):
     def __init__(self, model: Model | None = None, seed: bytes | None = None) -> None:
         super().__init__(seed=seed)
         self.model = model or Model(MANUFACTURED, encrypt_block)
-        self.layer = Layer()  # this device's commands only end what the layer remembers
+        self.layer = Layer()  # this device can only remove what the layer remembers
         self.begun = b"" if model is None else self.save()
 
     def begin(self, image: bytes) -> None:

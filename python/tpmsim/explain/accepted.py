@@ -18,8 +18,8 @@ def note(rule: str, slip: str, words: str) -> Reason:
 
 
 def before(scene: Scene) -> list[Reason]:
-    """Returns notes on a command whose authorization was accepted, in the state before the command
-    takes effect.
+    """Returns notes on a command whose authorization was accepted. The scene is the state before
+    the command takes effect.
     """
     return [
         *(*garbage(scene), *zeros(scene), *nonces(scene), *unwritten(scene)),

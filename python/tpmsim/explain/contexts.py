@@ -1,10 +1,12 @@
-"""The contexts of objects that a log saved, and why such a context can no longer be loaded."""
+"""Contexts of objects and sequence objects that were saved in a log, and why such a context can no
+longer be loaded.
+"""
 
 from dataclasses import dataclass
 
 from tpmsim.model.contexts import Binding, Fault, Head, HEAD_BYTES, read_head, ST_CLEAR
 from tpmsim.model.machine import Model
-from tpmsim.standard import Fields
+from tpmsim.standard import Fields, RH_NULL
 
 
 @dataclass(frozen=True)
@@ -24,7 +26,7 @@ class Contexts:
         self.saved: dict[bytes, Saved] = {}
 
     def note(self, line: int, context: bytes, model: Model, start: int) -> None:
-        """Notes a context that a line saved, if it is the context of an object."""
+        """Notes a context that a line saved, unless it is the context of a session."""
         try:
             head = read_head(Fields(context))
         except Fault:
@@ -40,7 +42,8 @@ class Contexts:
         now, then = Binding.of(model, start), saved.binding
         ended = "the device had a TPM Restart or a TPM Resume, and the object has stClear"
         if model.proofs[saved.head.hierarchy] != saved.proof:
-            ended = "TPM2_Clear changed the proof of its hierarchy"
+            by = "a TPM Reset" if saved.head.hierarchy == RH_NULL else "TPM2_Clear"
+            ended = f"{by} changed the proof of its hierarchy"
         elif now.start != then.start:
             ended = "the completing layer has started again"
         elif now.resets != then.resets:

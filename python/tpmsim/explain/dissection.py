@@ -72,8 +72,8 @@ class Walk:
         return self.take(2 + self.peek(), name, meaning or said_bytes, 2)
 
     def elements(self, name: str, word: str) -> Iterator[int]:
-        """Yields the numbers of a list's elements, starting with 1. The elements are inside the
-        list.
+        """Yields the numbers of a list's elements, starting with 1. Fields that are read for an
+        element are inside the list.
         """
         for at in range(self.number(4, name, lambda it: words.plural(it, word))):
             self.depth += 1
@@ -82,8 +82,8 @@ class Walk:
 
     @contextmanager
     def group(self, name: str, size: int | None = None, front: int = 0) -> Iterator[None]:
-        """Opens a structure, of a given size or as large as the fields read in it; raises Cut if
-        the bytes end within its size field.
+        """Opens a structure. It has the passed size, or else the size of the fields that are read
+        in it. Raises Cut if the bytes end within the structure's size field.
         """
         if self.end - self.at < front:
             self.take(front, name, lambda it: "")
@@ -124,7 +124,7 @@ def said_bytes(data: bytes) -> str:
 STARTS = {0: "CLEAR", 1: "STATE"}
 TICKETS = {frames.ST_CREATION: "of a creation", frames.ST_AUTH_SECRET: "of an assertion"}
 
-# A function that reads the next parameter, under the name that is passed.
+# A function that reads the next parameter. The name of the parameter is passed to the function.
 Reader = Callable[[Walk, str], object]
 
 

@@ -1,5 +1,6 @@
 """Other forms of a value that a caller may have used instead of the value, as a table: the name of
-each form, its description, and the conversion of a value to it. An empty value is not a form.
+each form, its description, and the conversion of a value to it. If a conversion returns an empty
+value, the form does not apply.
 """
 
 import base64
@@ -75,7 +76,7 @@ ALONE = (
 
 @dataclass(frozen=True)
 class Formed:
-    """A value in one form, or in one form applied to another."""
+    """A value in one form, or in a combination of two forms."""
 
     forms: tuple[Form, ...]
     value: bytes

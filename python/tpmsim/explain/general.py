@@ -65,7 +65,7 @@ def handles(scene: Scene) -> Reason:
     return with_others(scene, handle, Reason(rule, words, at=at))
 
 
-# The largest number of listed entities that have the same kind as a missing one.
+# If an entity is missing, at most this many existing entities of the same kind are listed.
 MOST_OTHERS = 8
 
 

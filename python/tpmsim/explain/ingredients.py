@@ -103,8 +103,8 @@ class Use:
 
     @property
     def was_bound(self) -> bool:
-        """Whether the session was started bound to the entity that the entry authorizes, even if it
-        is no longer bound.
+        """Whether the session was started with a binding to the entity that the entry authorizes,
+        even if this binding has ended.
         """
         if self.begun is None or self.is_policy or self.handle is None:
             return False
@@ -129,7 +129,7 @@ class Use:
     @property
     def has_unshown_value(self) -> bool:
         """Whether the authorized entity has a value that the caller did not have to know, since a
-        policy authorizes.
+        policy authorizes the use of the entity.
         """
         is_asked = self.takes_value or self.is_bound_now
         return self.handle is not None and bool(self.auth_value) and not is_asked
@@ -170,7 +170,7 @@ class Use:
 
 
 def use_of(scene: Scene, place: int) -> Use | None:
-    """Returns the session use in the entry at a position; None for a password."""
+    """Returns the use of a session in the entry at a position; None if the entry is a password."""
     for at, entry, handle in scene.command.places:
         if at == place and entry.handle in scene.model.sessions:
             session = scene.model.sessions[entry.handle]
@@ -207,7 +207,7 @@ def key_words(use: Use) -> str:
 
 @dataclass(frozen=True)
 class Otherwise:
-    """A mistake that a caller may have made in its encryption, and the parameters that the caller
+    """A mistake that a caller may have made when it encrypted, and the parameters that the caller
     then meant to send.
     """
 

@@ -6,7 +6,9 @@ from tpmsim.standard import sized
 
 
 class NameForm(NamedTuple):
-    """A form of the Names in cpHash. An empty Name is not a form."""
+    """A form of the Names in cpHash. If the form of a Name is empty, the form does not apply to
+    that Name.
+    """
 
     name: str
     words: str
@@ -14,8 +16,8 @@ class NameForm(NamedTuple):
 
 
 def of_digest(turn: Callable[[bytes], bytes]) -> Callable[[bytes], bytes]:
-    """Returns a form that applies only to Names with a digest, and not to a handle that is its own
-    Name.
+    """Returns a form that applies only to Names that contain a digest, and not to Names that are
+    handles.
     """
     return lambda name: turn(name) if len(name) > 4 else b""
 

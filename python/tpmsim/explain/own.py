@@ -122,7 +122,7 @@ def unwritten(look: Look) -> None:
     look.say(f"{look.public.index:08x} is not written: it has no WRITTEN, and no data{writes}.")
 
 
-# What is not in sentences.json.
+# The checks whose explanations are not in sentences.json.
 CHECKS: dict[str, Check] = {
     **dict.fromkeys(("PCR_Extend/A1", "PCR_Event/A1", "PCR_Reset/A1"), pcr_locality),
     "StartAuthSession/A4": no_session,

@@ -1,4 +1,4 @@
-"""Explains, with numbers, the refusals by the own checks of commands on objects."""
+"""Explains, with numbers, the refusals by the checks that commands on objects make themselves."""
 
 from tpmsim.explain import ingredients
 from tpmsim.explain.reason import Check, Look

@@ -1,7 +1,7 @@
 """Shows a log as a page: the page of the device (docs/WEB.md), with the log and the findings about
 it. The page itself plays the log, so it contains the log's text, but no state and no fields. A log
-is data in the page, which its script shows only as text. Therefore no log can close the element
-that contains it, or be parsed as markup.
+is data in the page, and the page's script shows it only as text. Therefore no log can close the
+element that contains it, or be parsed as markup.
 """
 
 import html
@@ -22,7 +22,7 @@ FILE = pathlib.Path(__file__).with_name("tpmsim.html")
 NO_LOG = '<script type="application/json" id="log">null</script>'
 TITLE = re.compile("<title>[^<]*</title>")
 
-# Characters that must not occur in the element with the log, with their escapes in JSON.
+# Characters that must not occur in the element that contains the log, and their escapes in JSON.
 ESCAPES = {"<": "\\u003c", ">": "\\u003e", "&": "\\u0026"}
 
 

@@ -46,7 +46,7 @@ def one_of_words(allowed: Sequence[int], size: int) -> str:
     return " or ".join(f"{it} ({name})" if is_named and name != it else it for it, name in spelled)
 
 
-# What a refusal says was expected, by its operand `expected`, and what was found, in words.
+# For each value of a refusal's operand `expected`: what was expected and what was found, in words.
 Operands = dict[str, Any]
 BOTH: dict[str, Callable[[Operands], tuple[str, str]]] = {
     "bytes": lambda it: (size_words(it["count"]), size_words(it["left"])),

@@ -34,13 +34,14 @@ class Difference:
 
 @dataclass
 class Event:
-    """An event of a log. At a power cycle its scene has no buffer. It contains why the command was
-    refused, what else is reported about it, and where the log's responses differ; `answers` is the
-    number of responses in the log. If it is examined as a whole, `entries` contains the ingredients
-    of the HMACs, by position, and `answered` the decrypted response parameters. `comments` contains
-    the paragraphs of comments before it. With `completes`, the completing layer was present:
-    `layer` says what it did, if anything, and `own` is the outcome that the device alone gave.
-    `sent` is the outcome of the command that the layer sent to the device, if it sent one.
+    """An event of a log. It contains why the command was refused, what else is reported about the
+    command, and where the log's responses differ. At a power cycle the scene has no buffer.
+    `answers` is the number of responses in the log. If the event is examined as a whole, `entries`
+    contains the ingredients of the HMACs, by position, and `answered` the decrypted response
+    parameters. `comments` contains the paragraphs of comments before the event. With `completes`,
+    the completing layer was present: `layer` says what it did, if anything, and `own` is the
+    outcome that the device alone gave. `sent` is the outcome of the command that the layer sent to
+    the device, if it sent one.
     """
 
     line: int
@@ -78,7 +79,7 @@ class Event:
         return asked, dissection.fields_of_response(number, self.response, self.answered)
 
     def compare(self, text: str) -> None:
-        """Compares a trace, a response code or a response in the log with the model's."""
+        """Compares a trace, a response code or a response in the log with that of the model."""
         assert self.outcome is not None
         self.answers += 1
         if re.fullmatch(TRACE, text):
@@ -379,7 +380,7 @@ class Play(Watched):
         return event
 
     def shown(self, event: Event, text: bytes) -> Event:
-        """Adds to an event its line and the comments before it."""
+        """Adds the text of the line, and the comments before the line, to an event."""
         event.text = text.decode("latin-1")
         event.comments = [it for it in self.comments if it]
         self.comments = []
@@ -396,9 +397,9 @@ class Play(Watched):
             self.comments.append("")
 
     def begin(self, step: records.Begin) -> Event | None:
-        """Continues with the device of a head. If it is the device that is already observed, that
-        device continues: it is power-cycled if the head contains an image, or a state text from
-        after a power cycle.
+        """Continues with the device of a head. If that device is already observed, it simply
+        continues; but it is power-cycled if the head contains an image, or a state text from after
+        a power cycle.
         """
         is_first = self.event is None
         if step.damage:

@@ -145,8 +145,8 @@ class Scene:
         return at + 4 + int.from_bytes(self.buffer[at : at + 4], "big")
 
     def entry_at(self, place: int) -> int:
-        """Returns the offset of an entry, counted from 1, if the command's entries could be
-        parsed.
+        """Returns the offset of the entry with this number, of which the first is 1, if the
+        command's entries could be parsed.
         """
         at = self.area_at + 4
         for _ in range(place - 1):
@@ -214,7 +214,9 @@ class Look:
 
     @property
     def recorded(self) -> str:
-        """Returns the line in which the session recorded what this command asserts too."""
+        """Returns the line of the log in which the session recorded a value of the kind that this
+        command asserts.
+        """
         of_cp_hash = CC.PolicyCpHash, CC.PolicySecret
         codes = of_cp_hash if self.code in of_cp_hash else [self.code]
         lines = self.past.lines_told(self.handles[-1], *codes)

@@ -53,8 +53,8 @@ def algorithm_words(number: int) -> str:
 
 
 def handle_words(handle: int) -> str:
-    """Returns a handle as it is written in a line; a PCR by its number, and the password's handle
-    by its meaning.
+    """Returns a handle as it is written in a line. But a PCR is named by its number, and the handle
+    of a password by its meaning.
     """
     if handle_kinds.is_pcr(handle):
         return f"PCR {handle}"

@@ -23,13 +23,13 @@ PERMANENT = (
     frames.RH_PLATFORM,
 )
 
-# The properties (section 6.13). The family is "2.0", followed by a zero byte.
+# Properties (Part 2, section 6.13). FAMILY_INDICATOR is "2.0", followed by a zero byte.
 FAMILY_INDICATOR, TOTAL_COMMANDS = 0x100, 0x129
 LOCKOUT_COUNTER, MAX_AUTH_FAIL, LOCKOUT_INTERVAL, LOCKOUT_RECOVERY = range(0x20E, 0x212)
 FAMILY = b"2.0\0"
 
-# The position of the number of handles in the attributes of a command (TPMA_CC), and the bit that
-# says that its response has a handle.
+# In a command's attributes (TPMA_CC): the position of the number of handles, and the bit for a
+# handle in the response.
 HANDLES_SHIFT, ANSWERED_HANDLE = 25, 1 << 28
 PLACE_BITS = 0xFF_FFFF
 
@@ -53,7 +53,7 @@ class Commands(Held):
         return Answer(more + number(capability, 4) + number(len(given), 4) + b"".join(given))
 
     def elements(self, capability: int, wanted: int) -> list[bytes]:
-        """Returns all elements of a capability from the requested one on, in order."""
+        """Returns the elements of a capability in order, beginning at the requested one."""
         if capability == HANDLES:
             return [number(it, 4) for it in self.handles_from(wanted)]
         if capability == COMMANDS:
@@ -80,7 +80,7 @@ class Commands(Held):
             # Sessions of all types, in the order of their slots.
             by_place = sorted((it & PLACE_BITS, it) for it in self.sessions)
             return [handle for at, handle in by_place if at >= wanted & PLACE_BITS]
-        # Handles of this kind are those of saved sessions. The device never saves a session.
+        # This is the kind of saved sessions. The device itself never saves a session.
         if kind == POLICY_SESSION:
             return []
         if kind not in held:

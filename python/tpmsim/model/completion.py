@@ -1,6 +1,7 @@
-"""The completing layer above the device, which answers commands that the device by design does not
-support (docs/USING.md). The context of an object contains the object; the context of a session is a
-token for the session, which stays in the device. Sequence objects are in the layer.
+"""The completing layer above the device. It answers commands that the device by design does not
+support (docs/USING.md). The context of an object or of a sequence object contains that object; the
+context of a session is only a token, and the session stays in the device. The layer itself keeps
+the sequence objects.
 """
 
 from __future__ import annotations
@@ -13,12 +14,12 @@ from tpmsim.model.completion_properties import Counts, properties
 from tpmsim.model.general import Refusal
 from tpmsim.model.machine import Model, Outcome, PLACE_BITS, SESSIONS
 from tpmsim.model.object_rules import Object
-from tpmsim.model.sequences import NO_SEQUENCES, Slots
+from tpmsim.model.sequences import NO_SEQUENCES, SequenceObject, Slots
 from tpmsim.model.state_text import Layer
 from tpmsim.standard import CC, Fields, frames, is_session, number, RH_NULL, Short, sized, TRANSIENT
 from tpmsim.standard.handle_kinds import first_byte
 
-# The commands that only the layer has, each with its attributes in TPM2_GetCapability.
+# The commands that only the layer supports, each with its attributes in TPM2_GetCapability.
 STIR_RANDOM, CONTEXT_LOAD, CONTEXT_SAVE = 0x146, 0x161, 0x162
 OWN_COMMANDS = {
     **{STIR_RANDOM: 0x146, CONTEXT_LOAD: 0x1000_0161, CONTEXT_SAVE: 0x0200_0162},
@@ -39,9 +40,9 @@ ALGORITHMS = {
 }
 OF_ALGORITHMS, OF_PCR_PROPERTIES = 0, 7
 
-# PCR properties, with a bit for each PCR: it is saved by TPM2_Shutdown(STATE) (0); it may be
-# extended from each locality (1, 3, ..) and reset from it (2, 4, ..); its changes are not counted
-# (11); it has a policy (13) or an authorization value (14).
+# For each PCR property, a bit for each PCR. A property says that TPM2_Shutdown(STATE) saves the PCR
+# (0); that a locality may extend it (1, 3, ..) or reset it (2, 4, ..); that its changes are not
+# counted (11); or that it has a policy (13) or an authorization value (14).
 PCR_PROPERTIES = {
     **{0x00: 0x00FFFF, 0x01: 0x81FFFF, 0x02: 0x810000, 0x03: 0x81FFFF, 0x04: 0x810000},
     **{0x05: 0xFFFFFF, 0x06: 0x810000, 0x07: 0xFFFFFF, 0x08: 0x810000, 0x09: 0xFFFFFF},
@@ -61,13 +62,14 @@ LISTS = {
     **{it: "an empty list" for it in EMPTY},
 }
 
-# The first bytes of a session's token, and the number of bytes of its context between the sequence
-# and the handle.
+# The first bytes of a session's token; and, in a session's context, the number of bytes between the
+# sequence number and the token's handle.
 TOKEN, BETWEEN = b"tpmsim 1", 26
 
 LAST_SEQUENCE = 2**64 - 1
 
-# The random bytes of a command that the layer sends to the device. It draws none of them.
+# The random bytes for a command that the layer sends to the device. Such a command draws none of
+# them.
 NOT_RANDOM = bytes(256)
 
 Execute = Callable[[bytes, int, bytes, int], Outcome]
@@ -124,8 +126,9 @@ def told(outcome: Outcome, parameters: bytes = b"") -> Outcome:
 
 
 def names_session(context: bytes) -> bool:
-    """Returns whether the savedHandle of a context, which follows the sequence, is a session's.
-    Every other context is parsed as an object's.
+    """Returns whether the savedHandle of a context is that of a session. The savedHandle follows
+    the sequence number. Any other context is parsed as the context of an object or a sequence
+    object.
     """
     fields = Fields(context)
     try:
@@ -136,9 +139,9 @@ def names_session(context: bytes) -> bool:
 
 
 class Completion:
-    """What the layer remembers about a device: a number that is new at each start of the layer, by
-    which the layer recognizes its own contexts; the sequence of the last context; for each saved
-    session the sequence of its context; and the sequence objects.
+    """What the layer remembers about a device: a number that is new at each start of the layer, so
+    that the layer recognizes its own contexts; the sequence number of the last context; for each
+    saved session the sequence number of its context; and the sequence objects.
     """
 
     def __init__(self, start: int = 0) -> None:
@@ -316,49 +319,70 @@ class Completion:
         return number(sequence, 8) + number(handle, 4) + number(RH_NULL, 4) + sized(token)
 
     def save(self, device: Model, handle: int, own: Outcome) -> Completed:
-        is_object = first_byte(handle) == TRANSIENT
-        if not is_object and not is_session(handle):
+        if first_byte(handle) != TRANSIENT and not is_session(handle):
             words = f"{handle:08x} is neither a transient object nor a session"
             return Completed(refused(own, "VALUE/h1"), own, words)
-        if is_object:
-            what, is_there, is_saved = "object", handle in device.objects, False
-        else:
-            what, is_there, is_saved = (
-                "session",
-                handle in device.sessions,
-                bool(self.saved(handle)),
-            )
-        if not is_there or is_saved:
-            why = "is saved already" if is_there else "is not there"
-            return Completed(refused(own, "REFERENCE_H0"), own, f"{what} {handle:08x} {why}")
+        why_not = self.why_not_saved(device, handle)
+        if why_not:
+            return Completed(refused(own, "REFERENCE_H0"), own, why_not)
         if self.count == LAST_SEQUENCE:
             return Completed(refused(own, "TOO_MANY_CONTEXTS"), own, "no sequence is left")
-        return self.saved_as(device, handle, own)
-
-    def saved_as(self, device: Model, handle: int, own: Outcome) -> Completed:
-        """Saves an object or a loaded session, with the next sequence."""
         self.count += 1
+        text, words = self.saved_as(device, handle)
+        return Completed(told(own, text), own, f"context {self.count} of {words}")
+
+    def why_not_saved(self, device: Model, handle: int) -> str:
+        """Returns why the entity with this handle cannot be saved; an empty string if it can."""
+        if not is_session(handle):
+            is_there = handle in device.objects or self.named(handle) is not None
+            return "" if is_there else f"object {handle:08x} is not there"
+        if handle not in device.sessions:
+            return f"session {handle:08x} is not there"
+        return f"session {handle:08x} is saved already" if self.saved(handle) else ""
+
+    def saved_as(self, device: Model, handle: int) -> tuple[bytes, str]:
+        """Returns the context of an object, a sequence object or a loaded session, with the latest
+        sequence number, and a text that says what was saved.
+        """
+        start, count, named = self.start, self.count, self.named(handle)
         if handle in device.objects:
-            text = contexts.sealed(device, self.start, self.count, device.objects[handle])
-            words = f"context {self.count} of object {handle:08x}, which stays loaded"
-        else:
-            self.sessions[handle & PLACE_BITS] = self.count
-            text = self.token(handle, self.count)
-            words = f"context {self.count} of session {handle:08x}, which stays in its slot"
-        return Completed(told(own, text), own, words)
+            text = contexts.sealed(device, start, count, device.objects[handle])
+            return text, f"object {handle:08x}, which stays loaded"
+        if named is not None:
+            text = contexts.sealed(device, start, count, named.held)
+            return text, f"{named.words}, which stays loaded"
+        self.sessions[handle & PLACE_BITS] = count
+        return self.token(handle, count), f"session {handle:08x}, which stays in its slot"
+
+    def named(self, handle: int) -> sequence_commands.Named | None:
+        """Returns the sequence object with this handle, if there is one."""
+        return sequence_commands.named(self.sequences, handle)
 
     def load(self, device: Model, context: bytes, own: Outcome, place: Place) -> Completed:
         if names_session(context):
             return self.load_session(device, context, own)
         try:
-            kept = contexts.opened(device, self.start, context)
+            content = contexts.opened(device, self.start, context)
         except contexts.Fault as fault:
             return Completed(refused(own, fault.name), own, fault.words)
-        handle = place(kept)
+        sequence = int.from_bytes(context[:8], "big")
+        if isinstance(content, SequenceObject):
+            return self.load_sequence(content, sequence, own)
+        handle = place(content)
         if handle is None:
             return Completed(refused(own, "OBJECT_MEMORY"), own, "no slot of an object is free")
-        sequence = int.from_bytes(context[:8], "big")
         words = f"the object of context {sequence} is loaded as {handle:08x}"
+        return Completed(told(own, number(handle, 4)), own, words)
+
+    def load_sequence(self, held: SequenceObject, sequence: int, own: Outcome) -> Completed:
+        """Puts the sequence object of a context into the lowest free slot of the layer."""
+        try:
+            slot = sequence_commands.free_slot(self.sequences)
+        except sequence_commands.Wrong as wrong:
+            return Completed(refused(own, wrong.name), own, wrong.words)
+        self.sequences = sequence_commands.with_slot(self.sequences, slot, held)
+        handle = sequence_commands.HANDLES[slot]
+        words = f"{held.words} of context {sequence} is loaded as {handle:08x}"
         return Completed(told(own, number(handle, 4)), own, words)
 
     def load_session(self, device: Model, context: bytes, own: Outcome) -> Completed:

@@ -42,7 +42,8 @@ TOTAL_COMMANDS, LIBRARY_COMMANDS = 0x129, 0x12A
 # NV_WRITE_RECOVERY, AUDIT_COUNTER_0 and 1.
 NOTHING = {0x20C: 0, 0x20D: 0, 0x212: 0, 0x213: 0, 0x214: 0}
 
-# Bits of TPMA_PERMANENT: those that say that an authorization value is set, and the others.
+# Bits of TPMA_PERMANENT: for each of these handles, the bit that says that its authorization value
+# is set; and other bits.
 VALUES_SET = {RH_OWNER: 1, RH_ENDORSEMENT: 2, RH_LOCKOUT: 4}
 DISABLE_CLEAR, IN_LOCKOUT, TPM_GENERATED_EPS = 0x100, 0x200, 0x400
 

@@ -1,5 +1,5 @@
 """The commands of the completing layer that need no context (TPM 2.0 Library, Part 3, sections
-10.3, 10.4, 15.4 and 30.3). Each function returns the bytes of its response after the header.
+10.3, 10.4, 15.4 and 30.3). Each function returns the bytes of the response after the header.
 """
 
 from typing import Callable
@@ -74,8 +74,8 @@ ROWS: dict[int, tuple[Row, str]] = {
 
 
 def answer(device: Model, code: int, parameters: bytes) -> tuple[bytes, str, str]:
-    """Returns the response after the header, the name of a refusal's response code, and what the
-    layer did.
+    """Returns the response after the header, the name of the response code if the command is
+    refused, and what the layer did.
     """
     row, words = ROWS[code]
     try:

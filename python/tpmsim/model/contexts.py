@@ -1,8 +1,9 @@
-"""The context of a transient object (TPM 2.0 Library, Part 1, section 30, and Part 2, section 14).
-TPM2_ContextSave returns it, and TPM2_ContextLoad loads the object from it.
+"""The context of a transient object or of a sequence object (TPM 2.0 Library, Part 1, section 30,
+and Part 2, section 14). TPM2_ContextSave returns it, and TPM2_ContextLoad loads the object from it.
 
-A context contains the whole object, encrypted. Its integrity value binds it to the proof of the
-object's hierarchy, to the start of the completing layer, and to the device's count of TPM Resets.
+A context contains the whole object, encrypted. Its integrity value binds it to the proof of a
+hierarchy, to the start of the completing layer, and to the device's count of TPM Resets. For a
+transient object the hierarchy is the object's; for a sequence object it is the null hierarchy.
 """
 
 from __future__ import annotations
@@ -11,19 +12,25 @@ from dataclasses import dataclass
 from typing import Self
 
 from tpmsim.faults import TpmsimError
-from tpmsim.model import image
+from tpmsim.model import image, sequence_text
 from tpmsim.model.general import Refusal
 from tpmsim.model.machine import Model
 from tpmsim.model.object_rules import Object
 from tpmsim.model.parameters import Parameters
-from tpmsim.standard import aes, digest_bytes, Fields, kdfa, mac, number, SHA256, Short, sized
+from tpmsim.model.sequences import SequenceObject
+from tpmsim.standard import aes, digest_bytes, Fields, kdfa, mac, number, RH_NULL, SHA256, Short
+from tpmsim.standard import sized
 from tpmsim.standard.objects import Attribute
 
-# The savedHandle of an object without stClear, and of one with it.
-ORDINARY, ST_CLEAR = 0x8000_0000, 0x8000_0002
+# What a context contains.
+Content = Object | SequenceObject
+
+# The savedHandle of a transient object without stClear, of a sequence object, and of a transient
+# object with stClear.
+ORDINARY, SEQUENCE, ST_CLEAR = SAVED_HANDLES = 0x8000_0000, 0x8000_0001, 0x8000_0002
 
 # The largest size of an object in a context: its hierarchy, its qualified Name, its public area and
-# its sensitive area.
+# its sensitive area. The text of a sequence object is shorter.
 OBJECT_BYTES = 4 + 36 + 84 + 202
 
 INTEGRITY_BYTES = digest_bytes(SHA256)
@@ -41,7 +48,7 @@ class Fault(TpmsimError):
 
 
 TRUNCATED = "INSUFFICIENT/p1", "the context is truncated"
-SAVED_HANDLE = "HANDLE/p1", "savedHandle is neither an object's nor a session's"
+SAVED_HANDLE = "HANDLE/p1", "savedHandle is not that of an object, a sequence or a session"
 HIERARCHY = "VALUE/p1", "the context's hierarchy is not a hierarchy"
 SIZE = "SIZE/p1", "a size in the context is wrong, or bytes follow the context"
 INTEGRITY = "INTEGRITY/p1", "the device did not make the context, or may no longer load it"
@@ -72,9 +79,11 @@ class Head:
     hierarchy: int
 
     @classmethod
-    def of(cls, sequence: int, kept: Object) -> Self:
-        is_cleared = kept.public.has(Attribute.ST_CLEAR)
-        return cls(sequence, ST_CLEAR if is_cleared else ORDINARY, kept.hierarchy)
+    def of(cls, sequence: int, content: Content) -> Self:
+        if isinstance(content, SequenceObject):
+            return cls(sequence, SEQUENCE, RH_NULL)
+        is_cleared = content.public.has(Attribute.ST_CLEAR)
+        return cls(sequence, ST_CLEAR if is_cleared else ORDINARY, content.hierarchy)
 
     @property
     def text(self) -> bytes:
@@ -102,11 +111,21 @@ def integrity(proof: bytes, binding: Binding, head: Head, cipher: bytes) -> byte
     return mac(SHA256, proof, bound + cipher)
 
 
-def sealed(device: Model, start: int, sequence: int, kept: Object) -> bytes:
-    """Returns the context of an object of this device."""
-    head, proof = Head.of(sequence, kept), device.proofs[kept.hierarchy]
+def content_text(content: Content) -> bytes:
+    """Returns the text that is encrypted in a context. For a sequence object it is the text of its
+    slot in a state text.
+    """
+    if isinstance(content, SequenceObject):
+        return sequence_text.object_text(content)
+    return image.object_text(content)
+
+
+def sealed(device: Model, start: int, sequence: int, content: Content) -> bytes:
+    """Returns the context of an object of this device, or of a sequence object of its layer."""
+    head = Head.of(sequence, content)
+    proof = device.proofs[head.hierarchy]
     keys = key_and_iv(proof, start, head)
-    cipher = aes.cfb_encrypt(*keys, image.object_text(kept), device.block_cipher)
+    cipher = aes.cfb_encrypt(*keys, content_text(content), device.block_cipher)
     right = integrity(proof, Binding.of(device, start), head, cipher)
     return head.text + sized(sized(right) + cipher)
 
@@ -114,8 +133,8 @@ def sealed(device: Model, start: int, sequence: int, kept: Object) -> bytes:
 # Reading a context. The faults are in the order in which they are found.
 
 
-def opened(device: Model, start: int, context: bytes) -> Object:
-    """Returns the object of a context; raises Fault if the bytes are not a context of this device.
+def opened(device: Model, start: int, context: bytes) -> Content:
+    """Returns what a context contains; raises Fault if the bytes are not a context of this device.
     """
     fields = Fields(context)
     head = read_head(fields)
@@ -124,7 +143,7 @@ def opened(device: Model, start: int, context: bytes) -> Object:
     if given != integrity(proof, Binding.of(device, start), head, cipher):
         raise Fault(*INTEGRITY)
     keys = key_and_iv(proof, start, head)
-    return read_object(head, aes.cfb_decrypt(*keys, cipher, device.block_cipher))
+    return read_content(head, aes.cfb_decrypt(*keys, cipher, device.block_cipher))
 
 
 def read_number(fields: Fields, size: int) -> int:
@@ -137,7 +156,7 @@ def read_number(fields: Fields, size: int) -> int:
 def read_head(fields: Fields) -> Head:
     sequence = read_number(fields, 8)
     saved_handle = read_number(fields, 4)
-    if saved_handle not in (ORDINARY, ST_CLEAR):
+    if saved_handle not in SAVED_HANDLES:
         raise Fault(*SAVED_HANDLE)
     hierarchy = read_number(fields, 4)
     if hierarchy not in image.HIERARCHIES:
@@ -170,16 +189,25 @@ def parts_of(blob: bytes) -> tuple[bytes, bytes]:
     return given, fields.data
 
 
-def read_object(head: Head, plain: bytes) -> Object:
-    """Returns the object that a decrypted text encodes. Its hierarchy and stClear must be those of
-    the head.
+def read_content(head: Head, plain: bytes) -> Content:
+    """Returns what a decrypted text encodes. The savedHandle and the hierarchy of the content must
+    be those of the head.
     """
     fields = Parameters(plain)
     try:
-        found = image.read_object(fields, image.HIERARCHIES)
+        found = read_kind(fields, head.saved_handle)
         fields.end()
     except (Refusal, image.Fault):
         raise Fault(*INTEGRITY) from None
-    if Head.of(head.sequence, found) != head:
+    if found is None or Head.of(head.sequence, found) != head:
         raise Fault(*INTEGRITY)
     return found
+
+
+def read_kind(fields: Parameters, saved_handle: int) -> Content | None:
+    """Reads what a context with this savedHandle contains; returns None for the text of a free
+    slot.
+    """
+    if saved_handle == SEQUENCE:
+        return sequence_text.read_slot(fields)
+    return image.read_object(fields, image.HIERARCHIES)

@@ -25,8 +25,8 @@ HEADER_CHECKS = "G1", "G2", "G3", "G4"
 
 class Refusal(TpmsimError):
     """A refusal of a command: a code such as HASH/p1, and a check such as G11 or A1. `touched` says
-    which dictionary attack protection counts it as a failed try, if any. `operands` are what the
-    check compared, under the names that tpmsim/explain/sentences.json uses.
+    which dictionary attack protection counts it as a failed try, if any. `operands` are the values
+    that the check compared, by their names in tpmsim/explain/sentences.json.
     """
 
     def __init__(self, name: str, check: str, touched: str | None = None, **operands: Any) -> None:
@@ -51,8 +51,8 @@ class Command:
         return [(at, *both) for at, both in enumerate(zip(entries, authorized), 1)]
 
     def others(self, place: int, handle: int | None) -> list[int]:
-        """Returns the sessions of other entries that decrypt or encrypt, if this is the first entry
-        and it authorizes a handle.
+        """If the entry at `place` is the first one and authorizes a handle, returns the sessions of
+        the other entries that decrypt or encrypt; otherwise none.
         """
         if place != 1 or handle is None:
             return []
@@ -61,7 +61,7 @@ class Command:
 
     def with_attribute(self, attribute: int) -> tuple[int, Entry, int | None] | None:
         """Returns the entry that decrypts or encrypts, its number, and the handle that it
-        authorizes; None if there is none.
+        authorizes; None if no entry does.
         """
         for place, entry, handle in self.places:
             if entry.attributes & attribute:

@@ -1,5 +1,5 @@
-"""Hashes and HMACs in progress (FIPS 180-4 and 198-1). Unlike that of hashlib, their whole state is
-visible, so that a state text can contain it.
+"""Hashes and HMACs in progress (FIPS 180-4 and 198-1). Unlike an object of hashlib, they show their
+whole state, so a state text can contain it.
 """
 
 from __future__ import annotations
@@ -15,7 +15,7 @@ MOST_LENGTH = 2**64
 
 Words = tuple[int, ...]
 
-# FIPS 180-4, 5.3.1 and 5.3.3: the words before the first block.
+# The initial hash values (FIPS 180-4, 5.3.1 and 5.3.3).
 INITIAL: dict[int, Words] = {
     SHA1: (0x67452301, 0xEFCDAB89, 0x98BADCFE, 0x10325476, 0xC3D2E1F0),
     SHA256: (
@@ -44,7 +44,8 @@ def cube_root(value: int) -> int:
     return low
 
 
-# FIPS 180-4, 4.2.2: the first 32 bits of the fractional parts of the cube roots of 64 primes.
+# FIPS 180-4, 4.2.2: the first 32 bits of the fractional parts of the cube roots of the first 64
+# primes.
 CONSTANTS = [cube_root(it << 96) & WORD for it in primes(64)]
 
 
@@ -58,7 +59,7 @@ def added(words: Words, others: Words) -> Words:
 
 
 def compress_sha1(words: Words, block: bytes) -> Words:
-    """FIPS 180-4, 6.1.2."""
+    """Returns the hash value after one more block (FIPS 180-4, 6.1.2)."""
     schedule = list(struct.unpack(">16I", block))
     for at in range(16, 80):
         mixed = schedule[at - 3] ^ schedule[at - 8] ^ schedule[at - 14] ^ schedule[at - 16]
@@ -81,7 +82,7 @@ def compress_sha1(words: Words, block: bytes) -> Words:
 
 
 def compress_sha256(words: Words, block: bytes) -> Words:
-    """FIPS 180-4, 6.2.2."""
+    """Returns the hash value after one more block (FIPS 180-4, 6.2.2)."""
     schedule = list(struct.unpack(">16I", block))
     for at in range(16, 64):
         early, late = schedule[at - 15], schedule[at - 2]
@@ -106,9 +107,9 @@ COMPRESS: dict[int, Callable[[Words, bytes], Words]] = {
 
 @dataclass(frozen=True)
 class HashState:
-    """A hash in progress: the words after the last whole block, the block, and the number of bytes
-    so far. The bytes of the block after the latest byte are those of the block before, initially
-    zeros.
+    """A hash in progress: the hash value after the last whole block, the current block, and the
+    number of bytes so far. In the current block, the bytes after the latest byte are still those of
+    the previous block, or zeros in the first block.
     """
 
     algorithm: int

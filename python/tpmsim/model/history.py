@@ -3,7 +3,7 @@ the values of its PCRs, its counters, its authorization values, and the start, k
 of each session.
 
 Each of these is a fold over the accepted events, starting with the earliest. The fold uses only
-what the events show of the device. The rules are those of docs/THEOREMS.md.
+facts about the device that the events contain. The rules are those of docs/THEOREMS.md.
 """
 
 from __future__ import annotations
@@ -25,8 +25,8 @@ if TYPE_CHECKING:
 
 @dataclass(frozen=True)
 class Use:
-    """An entry of a command: its session, whether the session continues, and whether it
-    authorizes.
+    """An entry of a command: its session, whether the session continues, and whether the entry
+    authorizes a handle.
     """
 
     handle: int
@@ -36,10 +36,10 @@ class Use:
 
 @dataclass(frozen=True)
 class Accepted:
-    """An accepted command: its handles, with their Names and protections before it; its entries;
-    its decrypted parameters; the event's random bytes, and the number of them that the command
-    itself drew; the returned handle, if any; and for TPM2_Load the sensitive area's authorization
-    value.
+    """An accepted command: its handles, with their Names and protections before the command; its
+    entries; its decrypted parameters; the event's random bytes, and the number of them that the
+    command itself drew; the returned handle, if any; and, for TPM2_Load, the authorization value in
+    the sensitive area.
     """
 
     code: int
@@ -84,8 +84,8 @@ PastEvent = Accepted | PowerCycle | ObjectPlaced
 
 @dataclass
 class Pcrs:
-    """PCR values. `updates` counts their changes and TPM2_Clear; `saved` contains those at the last
-    shutdown.
+    """PCR values. `updates` counts the changes of PCRs and each TPM2_Clear; `saved` contains the
+    values at the last shutdown.
     """
 
     values: dict[int, list[bytes]] = field(default_factory=pcrs.starting_banks)
@@ -130,8 +130,8 @@ class Pcrs:
         return digest(algorithm, b"".join(values))
 
 
-# Authorization values: the value that was last set for each handle. These handles always exist, and
-# their value is empty at first.
+# Authorization values: the value that was last set for each handle. The handles in ALWAYS_THERE
+# exist from the start, with an empty value.
 
 ALWAYS_THERE = frozenset((*HIERARCHIES, RH_NULL, *PCRS))
 
@@ -207,7 +207,9 @@ class LiveSession:
 
 @dataclass
 class Sessions:
-    """The live sessions. `values` and `auth_values` are those before the command."""
+    """The live sessions. `values` and `auth_values` are the PCR values and the authorization values
+    before the command.
+    """
 
     live: dict[int, LiveSession] = field(default_factory=dict)
 
@@ -242,7 +244,7 @@ class Sessions:
         return LiveSession(kind, algorithm, cipher, bound, key, nonce_tpm, starting)
 
     def roll(self, it: Accepted) -> None:
-        """Replaces the nonce of each entry's session, in order, by random bytes of the same size.
+        """Replaces the nonce of each entry's session, in order, with random bytes of the same size.
         """
         left = it.random[it.drawn :]
         for use in it.uses:

@@ -23,7 +23,8 @@ from tpmsim.standard.aes_tables import encrypt_block
 MAGIC = b"TPMI"
 HEAD_BYTES, DIGEST_AT_END = 10, 32
 
-# The hierarchies in their order, and the hash algorithms of the banks.
+# The hierarchies in the order of the body, those that may have persistent objects, and the hash
+# algorithms of the PCR banks.
 HIERARCHIES = RH_OWNER, RH_ENDORSEMENT, RH_PLATFORM, RH_NULL
 WITH_PERSISTENT = RH_OWNER, RH_ENDORSEMENT, RH_PLATFORM
 BANKS = SHA1, SHA256
@@ -178,8 +179,8 @@ def open_image(text: bytes, block_cipher: aes.BlockCipher = encrypt_block) -> Mo
 
 
 def goes_on(device: Model, text: bytes) -> bool:
-    """Whether an image is of this device. The image's clock may be later than the device's; the
-    device then continues from the image's clock.
+    """Whether an image belongs to this device. The image's clock may be later than the device's;
+    then the device continues from the image's clock.
     """
     found, clock = open_image(text), device.clock
     device.clock = found.clock
@@ -198,7 +199,7 @@ def fault_of(text: bytes) -> str | None:
 
 
 def read_kept(fields: Parameters, version: Version, device: Model) -> None:
-    """Reads what a device keeps without power, up to its indices."""
+    """Reads what a device keeps without power, including its indices."""
     check(fields.take(len(version.limits)) == version.limits)
     read_hierarchies(fields, device)
     device.disable_clear = bool(fields.one_of(1, (0, 1), "VALUE"))

@@ -36,7 +36,8 @@ LEAST_NONCE = 16
 WITH_SEEDS = RH_OWNER, RH_ENDORSEMENT, RH_PLATFORM, RH_NULL
 MANUFACTURED = bytes(range(256))
 
-# The first byte of a session's handle, by the session's type; the rest is the number of its slot.
+# The first byte of a session's handle, by the session's type. The other bytes are the number of the
+# session's slot.
 HANDLE_KINDS = {
     frames.SE_HMAC: frames.HMAC_SESSION,
     frames.SE_POLICY: frames.POLICY_SESSION,
@@ -254,14 +255,14 @@ class Model(
         return self.sessions[entry.handle].key + (self.auth_value(handle) if uses else b"")
 
     def encryption_key(self, session: Session, handle: int | None) -> bytes:
-        """Returns the key for parameters. It includes the authorization value even if the session
-        is bound.
+        """Returns the key that encrypts and decrypts parameters. It includes the authorization
+        value even if the session is bound.
         """
         return session.key + self.auth_value(handle)
 
     def touched(self, entry: Entry, handle: int | None) -> str | None:
         """Returns which protection counts a wrong entry: that of the value that the entry uses, or
-        of the value from which the session's key was made.
+        else that of the value from which the session's key was made.
         """
         if handle is not None and self.uses_auth_value(entry, handle) and self.protection(handle):
             return self.protection(handle)
@@ -339,8 +340,8 @@ class Model(
         return frames.success(parameters, entries, answer.handle)
 
     def end_use(self, entry: Entry, handle: int | None) -> None:
-        """Ends a session, or restarts its policy if it authorized, since a policy is valid for one
-        authorization.
+        """Ends the entry's session, or restarts its policy if the session authorized the handle,
+        since a policy is valid for one authorization.
         """
         if entry.handle == RS_PW:
             return

@@ -11,7 +11,8 @@ from tpmsim.standard import CC, digest, DIGEST_BYTES, digest_bytes, Fact, first_
 from tpmsim.standard import RH_OWNER, RH_PLATFORM, sized, trimmed
 from tpmsim.standard.nv import Attribute, NAMED, NUMBER_BYTES, Public, READS, Type, WRITES
 
-# The largest number of indices, the largest total size of their data, and the largest size of one.
+# The largest number of indices, the largest total size of their data, and the largest size of one
+# index's data.
 INDICES, ALL_BYTES, INDEX_BYTES = 64, 16_384, 2048
 
 # The largest size of a buffer in TPM2_NV_Write, TPM2_NV_Extend and TPM2_NV_Read.
@@ -172,7 +173,7 @@ def start_up(indices: dict[int, Index]) -> None:
             index.data = b""
             index.public = index.public.but(cleared=Attribute.WRITTEN)
         index.public = index.public.but(cleared=Attribute.READLOCKED)
-        # A write lock of an index with WRITEDEFINE remains, if the index is written.
+        # The write lock of a written index with WRITEDEFINE remains.
         if not (index.public.has(Attribute.WRITEDEFINE) and index.public.has(Attribute.WRITTEN)):
             index.public = index.public.but(cleared=Attribute.WRITELOCKED)
 

@@ -44,8 +44,8 @@ class Commands(Held):
         hierarchy: int,
         locality: int,
     ) -> bytes:
-        """Returns the response of TPM2_CreatePrimary and TPM2_Create: public area, creation data,
-        their hash and ticket.
+        """Returns what the responses to TPM2_CreatePrimary and TPM2_Create contain: the public
+        area, the creation data, the hash of the creation data, and the ticket.
         """
         values = self.values(template.pcrs)
         data = object_rules.creation_data(template, parent, hierarchy, values, locality)

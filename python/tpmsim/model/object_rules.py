@@ -56,8 +56,8 @@ class Object:
 def loaded(
     public: Public, sensitive: Sensitive, hierarchy: int, parent_qualified_name: bytes
 ) -> Object:
-    """Returns a loaded object. Its qualified Name covers all Names above it, and uses its own
-    nameAlg.
+    """Returns a loaded object. Its qualified Name depends on the Names of all its ancestors, and
+    uses the object's own nameAlg.
     """
     algorithm = public.name_algorithm
     qualified = digest(algorithm, parent_qualified_name + public.name)
@@ -115,7 +115,7 @@ def wrong_attributes(public: Public, parent: Object | None) -> list[str]:
     is_fixed, is_restricted = public.has(Attribute.FIXED_TPM), public.has(Attribute.RESTRICTED)
     signs, decrypts = public.has(Attribute.SIGN), public.has(Attribute.DECRYPT)
     is_cipher = public.kind != KEYEDHASH
-    # fixedTPM claims that no ancestor can be duplicated, so it requires a parent that has it.
+    # fixedTPM claims that no ancestor can be duplicated, so the parent must have fixedTPM too.
     may_be_fixed = parent is None or parent.public.has(Attribute.FIXED_TPM)
     rules = {
         "duplication": is_fixed and public.has(Attribute.ENCRYPTED_DUPLICATION),
@@ -178,7 +178,9 @@ def key_bytes(template: Template) -> int:
 
 
 def made(template: Template, key: bytes, seed_value: bytes) -> tuple[Public, Sensitive]:
-    """Returns the public area and the sensitive area; the field `unique` binds one to the other."""
+    """Returns the public area and the sensitive area; the field `unique` of the public area binds
+    it to the sensitive area.
+    """
     public = template.public
     data = template.data or key
     unique = digest(public.name_algorithm, seed_value + data)
@@ -187,7 +189,9 @@ def made(template: Template, key: bytes, seed_value: bytes) -> tuple[Public, Sen
 
 
 def primary(template: Template, hierarchy: int, seed: bytes) -> Object:
-    """Returns the primary object of a template and a hierarchy's seed. It is the same each time."""
+    """Returns the primary object of a template and a hierarchy's seed. The same template and seed
+    always give the same object.
+    """
     algorithm = template.public.name_algorithm
     size = digest_bytes(algorithm)
     texts = template.public.text, b"".join(map(sized, template.values))
@@ -209,7 +213,7 @@ def created(template: Template, random: bytes) -> tuple[Public, Sensitive, int]:
 def creation_data(
     template: Template, parent: Object | None, hierarchy: int, values: bytes, locality: int
 ) -> bytes:
-    """Returns TPMS_CREATION_DATA (Part 2, section 15.1), with the PCR values at that time."""
+    """Returns TPMS_CREATION_DATA (Part 2, section 15.1), for the current PCR values."""
     if parent is None:
         of_parent = number(ALG_NULL, 2) + 2 * sized(number(hierarchy, 4))
     else:

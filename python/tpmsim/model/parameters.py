@@ -27,10 +27,10 @@ MOST_BANKS = 16
 
 
 class Parameters:
-    """A command's parameters, or the fields of a structure, parsed in order; they start at the
-    offset `base`. A fault names the parameter that is being parsed, and has the code `short` if
-    there are too few bytes. The operands of its refusal are what was expected and the offset of the
-    fault; `last` are the offset and the size of the bytes that were read last.
+    """A command's parameters, or the fields of a structure, parsed in order. They start at the
+    offset `base`. A refusal names the parameter that is being parsed, and has the code `short` if
+    there are too few bytes. Its operands are what was expected and the offset of the fault. `last`
+    is the offset and the size of the bytes that were read last.
     """
 
     def __init__(

@@ -12,8 +12,8 @@ from tpmsim.standard import SHA256, sized
 DYNAMIC_PCRS = range(17, 23)
 LOCALITIES = range(5)
 
-# The largest number of values in a response of TPM2_PCR_Read and of digests in a list, and the
-# largest size of an event.
+# The largest number of values in a response of TPM2_PCR_Read, the largest number of digests in a
+# list, and the largest size of an event.
 VALUES_AT_ONCE, MOST_DIGESTS = 8, 2
 EVENT_BYTES = 1024
 

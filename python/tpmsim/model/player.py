@@ -47,8 +47,8 @@ class Words:
         self.locality, self.random, self.elapsed = 0, bytes(RANDOM_BYTES), 0
 
     def take(self, line: bytes) -> bytes | None:
-        """Returns the buffer of a command's line. Stores other settings, and returns None. Refuses
-        `power`.
+        """Returns the buffer of a command's line. For the line of a setting, stores the setting and
+        returns None. Refuses `power`.
         """
         word, space, argument = line.partition(b" ")
         if len(line) > LINE_BYTES:
@@ -108,8 +108,8 @@ class Player(Words):
 
 
 def played(text: bytes) -> tuple[list[tuple[int, str]], str]:
-    """Returns the output of a script, each line with the number of its line in the script, and the
-    message on standard error, which is empty if the script ends well.
+    """Returns the lines that a script prints, each with the number of the script line that caused
+    it, and the message on standard error, which is empty if the script ends well.
     """
     player, printed = Player(), []
     script = text.removesuffix(b"\n").split(b"\n") if text else []

@@ -13,8 +13,8 @@ from tpmsim.standard.policy import ALL_LOCALITIES
 
 @dataclass
 class State:
-    """The values that assertions recorded, to be compared at a use. None means that no value was
-    recorded.
+    """The values that assertions recorded, to be compared when the session is used. None means that
+    no value was recorded.
     """
 
     digest: bytes
@@ -33,8 +33,8 @@ def starting_state(algorithm: int) -> State:
 @dataclass
 class Session:
     """A session, with the Name, the authorization value and the protection that its bind entity had
-    at the start, or those of TPM_RH_NULL if it is not bound. `cipher` is AES, XOR or ALG_NULL. For
-    XOR the masks use the session's own hash algorithm, which is then also in `masks`.
+    when the session started, or those of TPM_RH_NULL if it is not bound. `cipher` is AES, XOR or
+    ALG_NULL. For XOR the masks use the session's own hash algorithm, which is then also in `masks`.
     """
 
     kind: int
@@ -71,8 +71,8 @@ class Use:
 def check_use(
     session: Session, entity: objects.Public | nv.Public | None, use: Use, place: int
 ) -> None:
-    """Refuses an entry before its hmac is checked. If `entity` is None, no policy can authorize. The
-    operand `condition` is the number of the condition in docs/table that does not hold.
+    """Refuses an entry before its hmac is checked. If `entity` is None, no policy can authorize the
+    handle. The operand `condition` is the number of the condition in docs/table that does not hold.
     """
     told = session.policy
     if session.is_trial:

@@ -16,8 +16,8 @@ MILLISECONDS = 1000
 @dataclass
 class Lockout:
     """`failed_tries` counts the failed tries that are not yet forgiven. `recovery_time` and
-    `lockout_recovery` are in seconds. `forgiving_time` and `closed_time` are the milliseconds since
-    a try was counted or forgiven, and since lockoutAuth was disabled.
+    `lockout_recovery` are in seconds. The other times are in milliseconds: `forgiving_time` since a
+    try was last counted or forgiven, and `closed_time` since lockoutAuth was disabled.
     """
 
     failed_tries: int = 0
@@ -29,7 +29,7 @@ class Lockout:
     closed_time: int = 0
 
     def power_cycle(self) -> None:
-        """Restarts only the two times."""
+        """Restarts the two times, and changes nothing else."""
         self.forgiving_time = self.closed_time = 0
 
     def tick(self, elapsed: int) -> None:

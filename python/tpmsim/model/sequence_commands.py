@@ -1,6 +1,6 @@
 """The commands on sequence objects, which the completing layer answers (TPM 2.0 Library, Part 3,
-sections 17 and 28.4). For two of them, the layer sends a command to the device: HMAC_Start sends
-TPM2_HMAC of no data, and EventSequenceComplete sends TPM2_PCR_Extend.
+sections 17 and 28.4). For two of these commands, the layer sends another command to the device:
+TPM2_HMAC with empty data for HMAC_Start, and TPM2_PCR_Extend for EventSequenceComplete.
 """
 
 from __future__ import annotations
@@ -38,7 +38,7 @@ HANDLES = [TRANSIENT << 24 | OBJECTS + slot for slot in range(SEQUENCES)]
 
 
 class Wrong(Refusal):
-    """A refusal of the layer, and what is wrong, in words."""
+    """A refusal by the layer, and what is wrong, in words."""
 
     def __init__(self, name: str, check: str, words: str) -> None:
         super().__init__(name, check)
@@ -47,7 +47,7 @@ class Wrong(Refusal):
 
 @dataclass(frozen=True)
 class Done:
-    """A command's response, the sequence objects after it, and what the layer did."""
+    """A command's response, the sequence objects after the command, and what the layer did."""
 
     response: bytes
     slots: Slots
@@ -77,7 +77,7 @@ class Named:
 
 
 def with_slot(slots: Slots, slot: int, held: SequenceObject | None) -> Slots:
-    """Returns the slots after one of them got a sequence object, or became free."""
+    """Returns the slots after the slot with this number got a sequence object, or became free."""
     return [held if at == slot else it for at, it in enumerate(slots)]
 
 
@@ -85,8 +85,22 @@ def handles_of(slots: Slots) -> list[int]:
     return [handle for handle, it in zip(HANDLES, slots) if it is not None]
 
 
+def named(slots: Slots, handle: int) -> Named | None:
+    """Returns the sequence object with this handle, if there is one."""
+    slot = HANDLES.index(handle) if handle in HANDLES else None
+    held = None if slot is None else slots[slot]
+    return None if slot is None or held is None else Named(slot, handle, held)
+
+
+def free_slot(slots: Slots) -> int:
+    free = [slot for slot, it in enumerate(slots) if it is None]
+    if not free:
+        raise Wrong("OBJECT_MEMORY", "A1", f"all {SEQUENCES} sequences are taken")
+    return free[0]
+
+
 class Asked:
-    """A command on sequence objects: its handles, its authorization area and its parameters are
+    """A command on sequence objects. Its handles, its authorization area and its parameters are
     parsed in this order. Each method raises Wrong at the first fault.
     """
 
@@ -105,14 +119,13 @@ class Asked:
         if first_byte(handle) != TRANSIENT:
             words = f"{handle:08x} is not the handle of a transient object"
             raise Wrong(f"VALUE/h{place}", "G6", words)
-        slot = HANDLES.index(handle) if handle in HANDLES else None
-        held = None if slot is None else self.slots[slot]
-        if slot is None or held is None:
+        found = named(self.slots, handle)
+        if found is None:
             raise Wrong(f"REFERENCE_H{place - 1}", "G6", f"there is no sequence {handle:08x}")
-        return Named(slot, handle, held)
+        return found
 
     def entries(self, count: int) -> list[Entry]:
-        """Returns the passwords for `count` handles, which must be all entries."""
+        """Returns the entries, which must be exactly one password for each of `count` handles."""
         try:
             entries = read_area(self.fields)
         except Refusal as refusal:
@@ -127,26 +140,22 @@ class Asked:
             raise Wrong(f"HANDLE/s{count + 1}", "G8", words)
         return entries
 
-    def authorize(self, named: Named, place: int, entry: Entry) -> None:
-        if not named.held.is_authorized(entry.hmac):
-            words = f"the password is not that of {named.words}"
+    def authorize(self, found: Named, place: int, entry: Entry) -> None:
+        if not found.held.is_authorized(entry.hmac):
+            words = f"the password is not that of {found.words}"
             raise Wrong(f"BAD_AUTH/s{place}", "G9", words)
 
     @property
     def parameters(self) -> Parameters:
         return Parameters(self.fields.data)
 
-    def free_slot(self) -> int:
-        free = [slot for slot, it in enumerate(self.slots) if it is None]
-        if not free:
-            raise Wrong("OBJECT_MEMORY", "A1", f"all {SEQUENCES} sequences are taken")
-        return free[0]
-
-    def without(self, named: Named) -> Slots:
-        return with_slot(self.slots, named.slot, None)
+    def without(self, found: Named) -> Slots:
+        return with_slot(self.slots, found.slot, None)
 
     def started(self, auth: bytes, sequence: Sequence, slot: int) -> tuple[Slots, bytes, str]:
-        """Returns the slots with a new sequence object, its handle, and words for it."""
+        """Returns the slots with a new sequence object, the object's handle, and a text that
+        describes it.
+        """
         held = SequenceObject.of(auth, sequence)
         words = f"{held.words} {HANDLES[slot]:08x} starts"
         return with_slot(self.slots, slot, held), number(HANDLES[slot], 4), words
@@ -183,7 +192,7 @@ def hash_sequence_start(asked: Asked) -> Done:
     algorithm = parameters.next().one_of(2, (ALG_NULL, *HASHES), "HASH")
     parameters.end()
     sequence: Sequence = HashSequence.of(algorithm) if algorithm != ALG_NULL else EventSequence()
-    slots, handle, words = asked.started(auth, sequence, asked.free_slot())
+    slots, handle, words = asked.started(auth, sequence, free_slot(asked.slots))
     return Done(frames.success(b"", handle=handle), slots, words)
 
 
@@ -195,14 +204,14 @@ def hmac_start(asked: Asked) -> Sent:
     algorithm = parameters.next().one_of(2, (ALG_NULL, *HASHES), "HASH")
     parameters.end()
     sequence = keyed(asked.device, handle, algorithm)
-    slots, answer, words = asked.started(auth, sequence, asked.free_slot())
+    slots, answer, words = asked.started(auth, sequence, free_slot(asked.slots))
     done = Done(done_with(b"", 1, answer), slots, words)
     return sent(CC.HMAC, handle, entry, sized(b"") + number(algorithm, 2), done)
 
 
 def keyed(device: Model, handle: int, algorithm: int) -> Sequence:
-    """Returns the sequence of a key. If the handle names no key with a hash, the device refuses
-    TPM2_HMAC, so that the sequence does not matter.
+    """Returns the sequence for an HMAC with a key. If the handle names no key with a hash, any
+    sequence will do, because the device refuses TPM2_HMAC.
     """
     key = device.objects.get(handle)
     if key is None or key.public.kind != KEYEDHASH:
@@ -214,49 +223,51 @@ def keyed(device: Model, handle: int, algorithm: int) -> Sequence:
 
 
 def sent(code: CC, handle: int, entry: Entry, parameters: bytes, done: Done) -> Sent:
-    """Returns a command with one handle and the entry of the client's command for it."""
+    """Returns a command with one handle. Its entry is the one that authorized the handle in the
+    client's command.
+    """
     return Sent(code, frames.buffer_of(code, [handle], [entry], parameters), done)
 
 
 def sequence_update(asked: Asked) -> Done:
-    named = asked.named(1)
-    asked.authorize(named, 1, *asked.entries(1))
+    found = asked.named(1)
+    asked.authorize(found, 1, *asked.entries(1))
     parameters = asked.parameters
     data = parameters.next().sized(BUFFER_BYTES)
     parameters.end()
-    slots = with_slot(asked.slots, named.slot, named.held.after(data))
-    return Done(done_with(b"", 1), slots, f"{len(data)} bytes are added to {named.words}")
+    slots = with_slot(asked.slots, found.slot, found.held.after(data))
+    return Done(done_with(b"", 1), slots, f"{len(data)} bytes are added to {found.words}")
 
 
 def sequence_complete(asked: Asked) -> Done:
-    named = asked.named(1)
-    asked.authorize(named, 1, *asked.entries(1))
+    found = asked.named(1)
+    asked.authorize(found, 1, *asked.entries(1))
     parameters = asked.parameters
     data = parameters.next().sized(BUFFER_BYTES)
     hierarchy = parameters.next().one_of(4, PRIMARY_HIERARCHIES, "VALUE")
     parameters.end()
-    sequence = named.held.after(data).sequence
+    sequence = found.held.after(data).sequence
     if isinstance(sequence, EventSequence):
-        raise Wrong("MODE/h1", "A1", f"{named.words} ends with TPM2_EventSequenceComplete")
+        raise Wrong("MODE/h1", "A1", f"{found.words} ends with TPM2_EventSequenceComplete")
     if isinstance(sequence, HmacSequence) or sequence.beginning == GENERATED:
         hierarchy = RH_NULL
     answer = ticketed(asked.device, hierarchy, sequence.state.digest)
-    return Done(done_with(answer, 1), asked.without(named), f"{named.words} ends")
+    return Done(done_with(answer, 1), asked.without(found), f"{found.words} ends")
 
 
 def event_sequence_complete(asked: Asked) -> Sent:
-    pcr, named = asked.handle(1), asked.named(2)
+    pcr, found = asked.handle(1), asked.named(2)
     own, entry = asked.entries(2)
-    asked.authorize(named, 2, entry)
+    asked.authorize(found, 2, entry)
     parameters = asked.parameters
     data = parameters.next().sized(BUFFER_BYTES)
     parameters.end()
-    sequence = named.held.after(data).sequence
+    sequence = found.held.after(data).sequence
     if not isinstance(sequence, EventSequence):
-        raise Wrong("MODE/h2", "A1", f"{named.words} ends with TPM2_SequenceComplete")
+        raise Wrong("MODE/h2", "A1", f"{found.words} ends with TPM2_SequenceComplete")
     values = (SHA1, sequence.sha1.digest), (SHA256, sequence.sha256.digest)
     digests = frames.digests(*values)
-    done = Done(done_with(digests, 2), asked.without(named), f"{named.words} ends")
+    done = Done(done_with(digests, 2), asked.without(found), f"{found.words} ends")
     return sent(CC.PCR_Extend, pcr, own, digests, done)
 
 
@@ -269,20 +280,17 @@ AUTHORIZED: dict[int, Callable[[Asked], Done | Sent]] = {
 
 
 def flush(slots: Slots, parameters: bytes) -> Done | None:
-    """Returns what TPM2_FlushContext of a sequence object does; None for any other handle."""
-    handle = int.from_bytes(parameters, "big")
-    if len(parameters) != 4 or handle not in handles_of(slots):
+    """Returns the effect of TPM2_FlushContext on a sequence object; None for any other handle."""
+    found = named(slots, int.from_bytes(parameters, "big")) if len(parameters) == 4 else None
+    if found is None:
         return None
-    slot = HANDLES.index(handle)
-    held = slots[slot]
-    assert held is not None
-    words = f"{held.words} {handle:08x} is flushed"
-    return Done(frames.success(b""), with_slot(slots, slot, None), words)
+    words = f"{found.words} is flushed"
+    return Done(frames.success(b""), with_slot(slots, found.slot, None), words)
 
 
 def served(device: Model, slots: Slots, buffer: bytes, refused: str | None) -> Done | Sent | None:
-    """Returns what the layer does with a command that a started device refused in this way; None if
-    it is not a command on sequence objects. Raises Refusal.
+    """Returns what the layer does with a command that a started device refused with the code
+    `refused`; None if the command does not use sequence objects. Raises Refusal.
     """
     fields = Fields(buffer)
     try:

@@ -9,7 +9,7 @@ from tpmsim.model.sequences import EventSequence, HashSequence, HmacSequence, OR
 from tpmsim.model.sequences import SequenceObject, SEQUENCES, Slots
 from tpmsim.standard import DIGEST_BYTES, number
 
-# The byte of a slot that says what is there.
+# The first byte of a slot, which says what the slot contains.
 NONE, HASH, EVENT, HMAC = KINDS = range(4)
 
 
@@ -39,7 +39,7 @@ def state_text(state: HashState) -> bytes:
 
 
 def read_slots(fields: Parameters) -> Slots:
-    """Reads the slots, of which at least one is taken."""
+    """Reads the slots. At least one of them must be taken."""
     slots = [read_slot(fields) for _ in range(SEQUENCES)]
     check(any(slots))
     return slots

@@ -16,13 +16,14 @@ SEQUENCES = 3
 # The first bytes of data that a TPM generates and signs.
 GENERATED_VALUE = bytes.fromhex("ff544347")
 
-# How data begin: with the first 0 to 3 bytes of GENERATED_VALUE, and no more so far; with all of
-# them; or with other bytes.
+# How the data of a hash sequence begin. A number from 0 to 3: so far the data are this number of
+# the first bytes of GENERATED_VALUE. GENERATED: they begin with all of its bytes. ORDINARY: they
+# begin with other bytes.
 GENERATED, ORDINARY = len(GENERATED_VALUE), len(GENERATED_VALUE) + 1
 
 
 def beginning_after(beginning: int, data: bytes) -> int:
-    """Returns how data begin after more bytes."""
+    """Returns how the data begin when these bytes are added to them."""
     for byte in data:
         if beginning in (GENERATED, ORDINARY):
             break

@@ -45,7 +45,7 @@ class Commands(Held):
         # The clock never goes back, so its value is always safe.
         return Answer(times + counts + b"\x01")
 
-    # A startup is a reset, or a restart or a resume from saved state.
+    # A startup is a TPM Reset; or, from saved state, a TPM Restart or a TPM Resume.
 
     @takes(choice(2, (CLEAR, STATE)))
     def startup(self, request: Request, kind: int) -> Answer:

@@ -1,10 +1,10 @@
 """The state text of a device: its whole state as bytes. A device that is restored from it continues
 where the original device stopped.
 
-It has the frame of an image, with another magic. Its body (docs/table/state_text.md) contains what
-the device keeps without power, encoded as in its image; what a power cycle would clear; and what
-the completing layer remembers, if there is one. State texts are written in version 2. Version 1, in
-which the layer remembers objects too, can also be read.
+It has the frame of an image, with a different magic. Its body (docs/table/state_text.md) contains
+what the device keeps without power, encoded as in its image; what a power cycle would clear; and
+what the completing layer remembers, if there is one. State texts are written in version 2. Version
+1, in which the layer remembers objects too, can also be read.
 """
 
 from __future__ import annotations
@@ -30,12 +30,12 @@ T = TypeVar("T")
 MAGIC, VERSION = b"TPMS", 2
 
 # In version 1, the layer has two numbers for each object: the number of its context, and the number
-# of its flush. When a text of version 1 is read, an object is left out if it was flushed, but its
-# context could still be loaded.
+# of its flush. A text of version 1 may contain an object that was flushed but whose context could
+# still be loaded. Such an object is left out when the text is read.
 VERSION_1 = 1
 VERSIONS = VERSION_1, VERSION
 
-# The protections and the demands, each at the index that encodes it.
+# The protections and the demands. The index of each one is its encoding.
 PROTECTIONS = None, TRIES, LOCKOUT_AUTH
 DEMANDS = None, policy.AUTH_VALUE, policy.PASSWORD
 
@@ -145,8 +145,8 @@ def layer_text(layer: Layer) -> bytes:
     return b"".join(number(it, 8) for it in (layer.start, layer.count, *layer.sessions))
 
 
-# Reading a state text. Bytes that are not a state text are refused with the same faults as bytes
-# that are not an image, found in the same order.
+# Reading a state text. Bytes that are not a state text have the same faults, found in the same
+# order, as bytes that are not an image.
 
 
 def open_state(

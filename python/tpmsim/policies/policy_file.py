@@ -30,7 +30,8 @@ class Fault(TpmsimError):
 
 @dataclass(frozen=True)
 class Row:
-    """A line that is not empty or a comment: its number, its indentation in steps, and its words.
+    """A line that is neither empty nor a comment: its number, its indentation in steps, and its
+    words.
     """
 
     number: int
@@ -187,7 +188,7 @@ class PolicyFile:
 @dataclass(frozen=True)
 class Step:
     """The step of an assertion. A PolicyOR contains the steps of each branch; a step about an
-    entity contains its Name.
+    entity contains the entity's Name.
     """
 
     code: CC

@@ -1,5 +1,6 @@
-"""The digest of a policy, as in an authPolicy. It is the end of a chain of texts, each of which
-begins with the hash of the previous one, as tpm_policy_meaning defines it (PolicyDigest).
+"""The digest of a policy, as in an authPolicy: the hash of the last text in a chain. Each text of
+the chain begins with the hash of the previous text, as tpm_policy_meaning defines it
+(PolicyDigest).
 """
 
 from __future__ import annotations

@@ -23,9 +23,9 @@ HASHED_NAMES = {number(it, 2): 2 + digest_bytes(it) for it in (SHA1, SHA256)}
 
 @dataclass(frozen=True)
 class Update:
-    """The bytes that an assertion adds to the digest: its code, the entity that it is about, its
-    policyRef, if any, and the text that is hashed separately, if any. It also says whether the
-    assertion discards the previous digest.
+    """The bytes that an assertion adds to the digest: the command code, the entity that the
+    assertion is about, the policyRef, if any, and the text that is hashed separately, if any. It
+    also says whether the assertion discards the previous digest.
     """
 
     code: CC
@@ -45,7 +45,7 @@ def shown(word: bytes) -> str:
     return f'"{plain}"'
 
 
-# Parsers of words; a word without a value raises Wrong.
+# Parsers of words. A word that has no value raises Wrong.
 
 
 def held_to(holds: bool) -> None:
@@ -145,7 +145,7 @@ OPERAND = Word("an operand of at most 32 bytes in hex", read_buffer)
 OFFSET = Word("an offset up to 65535", lambda word: number_up_to(2**16 - 1, word), str)
 OPERATION = Word("a comparison", read_operation, lambda it: str(OPERATIONS[it]))
 
-# The words after the name of each assertion, by its command.
+# The words after the name of each assertion, by the assertion's command.
 FORMS: dict[CC, tuple[Word, ...]] = {
     CC.PolicyPCR: (SELECTION, DIGEST),
     CC.PolicyAuthValue: (),

@@ -1,12 +1,12 @@
-"""Recovers random bytes that a log does not record from a command's response: the bytes that the
-command requested, and the nonces of its sessions. With these, the logs of other devices, which
+"""Recovers the random bytes of a command from its response, if a log does not record them: the
+bytes that the command requested, and the nonces of its sessions. So logs of other devices, which
 contain only commands and responses, can be replayed.
 """
 
 from tpmsim.model.state import SECRET_BYTES
 from tpmsim.standard import CC, Fields, frames, HEADER_BYTES, NUMBERED, Short
 
-# The number of bytes that are drawn before the nonces, and that no response shows.
+# The number of random bytes that a command draws before the nonces, and that no response shows.
 HIDDEN = {CC.Clear: 3 * SECRET_BYTES}
 
 

@@ -17,8 +17,8 @@ MARK = re.compile(rb"# ([0-9a-f]{52}) ([0-9a-f]{16})")
 STATE = b"2"
 MARK_LINE_BYTES = 72
 
-# The size of the lines of a journal's entry without its mark, and without the digits of its random
-# bytes and of its command.
+# The size of the lines of a journal's entry, not counting the entry's mark, and the digits of the
+# random bytes and of the command.
 LINES_BYTES = 36
 
 # The sizes of an entry's lines for the time, the locality and the random bytes (without the two
@@ -71,7 +71,7 @@ class HeadMark:
 
 @dataclass(frozen=True)
 class Mark:
-    """An entry's mark: what it says about its command, and the checksum of the response."""
+    """An entry's mark: facts about the entry's command, and the checksum of the response."""
 
     elapsed: int
     locality: int
@@ -103,7 +103,7 @@ class Mark:
 
     @property
     def line_ends(self) -> set[int]:
-        """The offsets at which the entry's lines end, except its last one."""
+        """The offsets of the ends of the entry's lines, except for the last line."""
         lines = (MARK_LINE_BYTES, WAIT_BYTES, LOC_BYTES, ENTROPY_BYTES + 2 * max(1, self.drawn))
         return {end - 1 for end in accumulate(lines)}
 

@@ -36,8 +36,8 @@ def opened(text: bytes, start: int = 0) -> Opened:
 
 
 def goes_on(device: Model, text: bytes) -> bool:
-    """Whether a text is of this device. The text's clock may be later than the device's; the device
-    then continues from the text's clock.
+    """Whether an image or a state text belongs to this device. The text's clock may be later than
+    the device's; then the device continues from the text's clock.
     """
     if not is_state_text(text):
         return image.goes_on(device, text)
@@ -50,7 +50,7 @@ def goes_on(device: Model, text: bytes) -> bool:
 
 
 def is_cycled(device: Model, text: bytes) -> bool:
-    """Whether a state text is of this device after a power cycle; a restarted journal begins with
-    such a text.
+    """Whether a state text is that of this device after a power cycle. A restarted journal begins
+    with such a text.
     """
     return is_state_text(text) and goes_on(image.open_image(image.image(device)), text)

@@ -23,7 +23,8 @@ GIVEN = re.compile(r"# (\d\d:\d\d:\d\d\.\d{3} )?" rf"({TRACE}|[0-9a-f]{{8}}|{RES
 # The word that `tpmsim script` prints instead of a trace for a command with the completing layer.
 COMPLETED = "completed"
 
-# If the first command comes before the first response, each response follows its command.
+# How the line of a command begins. If the first command comes before the first response, each
+# response follows its command.
 COMMANDS = b"cmd", b"do "
 
 DAMAGED_HEAD = "the head is damaged: its sums are others"
@@ -130,8 +131,8 @@ class Reading:
         self.is_before = answers_come_first(self.lines)
 
     def whole_steps(self) -> Iterator[Step]:
-        """Yields each step. A command is yielded after its responses have been read, and before the
-        comments between them.
+        """Yields each step. A command is yielded after its responses have been read, but before the
+        comments that are between these responses.
         """
         waiting = list[Step]()
         for step in self.steps():
@@ -185,7 +186,7 @@ class Reading:
             yield Begin(self.line - 1, content, self.sum, damage_of(mark, content))
 
     def step(self, text: bytes) -> Iterator[Step]:
-        """Yields the steps that one line of the log makes."""
+        """Yields the steps of one line of the log."""
         if len(text) > LINE_BYTES:
             raise BadLine
         if text == b"power":
@@ -215,7 +216,7 @@ class Reading:
             self.after.append(given[2])
 
     def command(self, text: bytes, buffer: bytes) -> Command:
-        """Returns a command with its settings, and with the damage of its mark."""
+        """Returns a command with its settings, and with what is wrong with its mark."""
         words, mark = self.words, self.mark
         given = buffer, words.locality, words.elapsed
         found = Command(self.line, text, *given, words.random, self.is_completed, self.said)
@@ -231,8 +232,8 @@ class Reading:
 
 
 def answers_come_first(lines: list[bytes]) -> bool:
-    """Whether responses come before their commands, as `tpmsim script` prints them: whether a
-    response comes before the first command.
+    """Whether responses come before their commands, as in the output of `tpmsim script`. They do if
+    a response comes before the first command.
     """
     for line in lines:
         if line.startswith(COMMANDS):

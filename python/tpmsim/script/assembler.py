@@ -154,8 +154,9 @@ class Assembler:
         return answer
 
     def learn_unchecked(self, prepared: Prepared, response: bytes) -> tuple[int | None, bytes]:
-        """Returns a successful response unchecked, and learns from it, because the script contains
-        an entry's HMAC. Parameters that such sessions encrypt stay encrypted.
+        """Returns a successful response and learns from it, but does not check it, because the
+        script itself contains an entry's HMAC. Parameters that the session of such an entry
+        encrypts stay encrypted.
         """
         fields = Fields(response[HEADER_BYTES:])
         handle = fields.number(4) if prepared.code.answers_handle else None

@@ -44,7 +44,7 @@ class Names:
         self.values: dict[str, str] = {}
 
     def value(self, name: str) -> str | None:
-        """Returns the value of a name, or None if it has none."""
+        """Returns the value of a name, or None if the name has no value."""
         return self.nonce(NONCE_BYTES).hex() if name == NONCE else self.values.get(name)
 
     def put(self, token: Token) -> Token:

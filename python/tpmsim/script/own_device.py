@@ -1,5 +1,6 @@
-"""The device of a script in this process, manufactured with the bytes 00 to ff. Before each command
-it gets new random bytes, which are the same in each run, unless an `entropy` line sets others.
+"""The script's own device, in this process, manufactured with the bytes 00 to ff. Before each
+command it gets new random bytes, which are the same in each run, unless an `entropy` line sets
+others.
 """
 
 from tpmsim.device import Device, LibraryDevice, ModelDevice

@@ -25,8 +25,8 @@ def times(a: int, b: int) -> int:
 
 
 def inverses() -> dict[int, int]:
-    """Returns the inverse of each byte except 0. Each such byte is a power of 3, and the 255th
-    power is 1.
+    """Returns the inverse of each byte except 0. Each such byte is a power of 3, and 3 to the power
+    of 255 is 1.
     """
     powers = [1]
     while len(powers) < 255:
@@ -95,7 +95,8 @@ def encrypt_block(key: bytes, block: bytes) -> bytes:
 def cfb_encrypt(
     key: bytes, iv: bytes, text: bytes, block_cipher: BlockCipher = encrypt_block
 ) -> bytes:
-    """Encrypts a text in CFB mode: XORs each block of the text with the encrypted previous result.
+    """Encrypts a text in CFB mode: XORs each block of the text with the encryption of the previous
+    result.
     """
     done, before = b"", iv
     for at in range(0, len(text), BLOCK):

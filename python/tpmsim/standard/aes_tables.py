@@ -14,13 +14,14 @@ def turned(word: int) -> int:
 
 
 def column_of(byte: int) -> int:
-    """Returns the bytes that a byte in row 0 contributes to its column in a round."""
+    """Returns the word of four bytes that a byte in row 0 contributes to its column in a round."""
     substituted = aes.S_BOX[byte]
     doubled, tripled = aes.times(substituted, 2), aes.times(substituted, 3)
     return int.from_bytes(bytes((doubled, substituted, substituted, tripled)), "big")
 
 
-# The bytes that a byte contributes to its column in a round, by its row.
+# What each byte value contributes to its column in one round: ROWS[r][b] is the word of four bytes
+# for the byte b in row r.
 ROWS = [[column_of(byte) for byte in range(256)]]
 for _ in range(3):
     ROWS.append([turned(it) for it in ROWS[-1]])

@@ -9,7 +9,7 @@ JOIN = "|"
 
 
 def plain(name: str) -> str:
-    """Returns the form of a word that is compared: in lower case, without `_`."""
+    """Returns a word in the form in which words are compared: in lower case, without `_`."""
     return name.lower().replace("_", "")
 
 

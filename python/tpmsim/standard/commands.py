@@ -56,10 +56,10 @@ class Kind(enum.Enum):
 
 
 class Fact(enum.Enum):
-    """Other facts about a command. NO_SESSIONS: it takes no entries. ADMIN: its handle is
-    authorized in the role ADMIN instead of USER. READS_NV: an NV index that authorizes it needs the
-    attributes for reading instead of writing. KEEPS_SAVED: its success does not discard what a
-    shutdown saved.
+    """Other facts about a command. NO_SESSIONS: the command takes no entries. ADMIN: the role of
+    its handle is ADMIN instead of USER. READS_NV: an NV index that authorizes the command needs the
+    attributes for reading instead of those for writing. KEEPS_SAVED: if the command succeeds, what
+    a shutdown saved is not discarded.
     """
 
     NO_SESSIONS = enum.auto()

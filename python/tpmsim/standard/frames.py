@@ -49,8 +49,8 @@ CODES = {
     )
 }
 
-# The number that is added to a code for each kind of place, in addition to 0x100 times the place's
-# index (section 6.6.2).
+# The number that is added to a response code if its place is a handle, a parameter or a session. In
+# addition, 0x100 times the place's index is added (section 6.6.2).
 PLACES = {"h": 0, "p": 0x040, "s": 0x800}
 
 

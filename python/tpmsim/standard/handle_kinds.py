@@ -57,7 +57,7 @@ def is_entity(handle: int) -> bool:
 
 @dataclass(frozen=True)
 class HandleForm:
-    """The condition that a handle of a kind satisfies, the kind's name in docs/LINES.md, and its
+    """A kind of handle: the condition that its handles satisfy, its name in docs/LINES.md, and its
     name in text.
     """
 

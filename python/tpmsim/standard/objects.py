@@ -52,7 +52,9 @@ class Sensitive:
 
 @dataclass(frozen=True)
 class Public:
-    """TPMT_PUBLIC; the scheme of a KEYEDHASH is a hash or NULL, and a cipher is AES-128 CFB."""
+    """TPMT_PUBLIC. The scheme of a KEYEDHASH is a hash algorithm or NULL; the cipher of a SYMCIPHER
+    is AES-128 CFB.
+    """
 
     kind: int
     name_algorithm: int

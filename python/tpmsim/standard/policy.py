@@ -20,8 +20,8 @@ def after_pcr(algorithm: int, old: bytes, selection: bytes, values_digest: bytes
 
 
 def after_or(algorithm: int, branches: list[bytes]) -> bytes:
-    """Returns the digest after PolicyOR. The previous digest is one of the branches, and has no
-    other influence.
+    """Returns the digest after PolicyOR. The previous digest must be one of the branches; the
+    result does not depend on which one.
     """
     zeros = bytes(digest_bytes(algorithm))
     return digest(algorithm, zeros + number(CC.PolicyOR, 4) + b"".join(branches))

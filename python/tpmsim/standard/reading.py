@@ -14,7 +14,7 @@ class Fields:
         self.data = data
 
     def take(self, count: int) -> bytes:
-        """Returns the next bytes; raises Short if there are fewer."""
+        """Returns the next bytes; raises Short if fewer are left."""
         if count > len(self.data):
             raise Short
         taken, self.data = self.data[:count], self.data[count:]

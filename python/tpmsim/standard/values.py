@@ -95,7 +95,7 @@ class Capability:
         return dict(self.read(6, lambda fields: (fields.number(4), fields.number(4))))
 
 
-# Types that a buffer accepts, in addition to a structure.
+# Types that may be passed for a buffer, in addition to a structure.
 BYTES = bytes, bytearray, memoryview
 Item = TypeVar("Item")
 

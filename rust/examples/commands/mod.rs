@@ -20,7 +20,7 @@ pub enum By<'a> {
     Password(&'a [u8]),
     /// A policy session, and the authorization value if the policy requires it as a password.
     Policy(u32, &'a [u8]),
-    /// A session. The entry contains its HMAC.
+    /// The complete entry of a session, with its HMAC.
     Entry(&'a [u8]),
 }
 
@@ -45,7 +45,7 @@ pub struct Answer {
 }
 
 impl Answer {
-    /// Returns the first sized buffers of the parameters; `count` is their number.
+    /// Returns the first `count` sized buffers of the parameters.
     pub fn buffers(&self, count: usize) -> Vec<Vec<u8>> {
         let mut rest = &self.parameters[..];
         (0..count)

@@ -73,7 +73,7 @@ pub fn kdfa(key: &[u8], label: &str, newer: &[u8], older: &[u8]) -> Digest {
     hmac(key, &[&one, label.as_bytes(), &[0], newer, older, &bits].concat())
 }
 
-/// Returns twice an element of AES's field.
+/// Doubles an element of the field that AES uses.
 fn doubled(byte: u8) -> u8 {
     byte << 1 ^ if byte & 0x80 == 0 { 0 } else { 0x1b }
 }

@@ -1,7 +1,7 @@
 -- Lemmas about results that are the same with other random bytes.
 use Rattle.std.proofs.Common.{◌≡◌, ◌∙◌, ℕ, List, take, Result, Ok, Err, ap, refl, sym}
 use Rattle.tpm_bytes.specs.Reading.{◌>>=◌}
-use Rattle.tpm_step.specs.General.{in_command}
+use Rattle.tpm_step.specs.step.General.{in_command}
 use Rattle.tpm_types.specs.declared.refused.Refused.{Refused}
 use Rattle.tpm_commands.specs.declared.command_code.CommandCode.{CommandCode}
 

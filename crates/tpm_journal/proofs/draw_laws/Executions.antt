@@ -1,4 +1,4 @@
--- A command is executed in the same way if the random bytes that it does not draw are replaced.
+-- Replacing the random bytes that a command does not draw does not change its execution.
 use Rattle.std.proofs.Common.{◌≡◌, ◌≤◌, ◌-◌, ◌∙◌, ℕ, Bool, false, List, length, take, Result, Ok, Err, refl, sym, ap, subst, arith}
 use Rattle.std.specs.Prelude.{replicate}
 use Rattle.std.proofs.lemmas.List.{length-append, length-replicate, length-take-le}
@@ -6,11 +6,11 @@ use Rattle.tpm_bytes.proofs.Fields.{ok_is}
 use Rattle.tpm_record.specs.Record.{Record}
 use Rattle.tpm_record.specs.Tick.{ticked}
 use Rattle.tpm_machine.specs.Drawn.{drawn_by, drawn_by_command}
-use Rattle.tpm_step.specs.Entries.{DrawsFew}
-use Rattle.tpm_step.specs.Events.{Cycled, Given, Placed, PlainEvent}
-use Rattle.tpm_step.specs.Execution.{Executes}
-use Rattle.tpm_step.specs.Safe.{IsModest}
-use Rattle.tpm_step.specs.Step.{Accepted, Stepped, accepted, step_where, stepped_of}
+use Rattle.tpm_step.specs.step.Entries.{DrawsFew}
+use Rattle.tpm_step.specs.step.Events.{Cycled, Given, Placed, PlainEvent}
+use Rattle.tpm_step.specs.step.Execution.{Executes}
+use Rattle.tpm_step.specs.step.Safe.{IsModest}
+use Rattle.tpm_step.specs.step.Step.{Accepted, Stepped, accepted, step_where, stepped_of}
 use Rattle.tpm_step.specs.declared.refused_command.RefusedCommand.{RefusedCommand}
 use Rattle.tpm_journal.specs.draw_laws.Bytes.{AgreeOnDrawn, replayed, zeros_behind}
 use Rattle.tpm_journal.proofs.draw_laws.Fronts.{front_kept}
@@ -57,8 +57,7 @@ module _ (r : Record) (buffer : List ℕ) (locality elapsed : ℕ) (random other
 
 -- ---- zeros after the drawn bytes
 
--- the check that the step reports determines the number of bytes drawn, since a refusal draws
--- none
+-- the reported check determines the number of bytes drawn, since a refusal draws none
 drawn_told : (r : Record) (random : List ℕ) (a : Result Accepted RefusedCommand)
     → drawn_by_command random a (stepped_of r random a).row.check ≡ drawn_by_command random a 0
 drawn_told r random (Ok a) = refl

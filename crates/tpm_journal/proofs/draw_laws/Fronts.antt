@@ -27,8 +27,7 @@ module _ {X : Type 0} (n : ℕ) (xs ys : List X) (same : take n ys ≡ take n xs
   part skipped count le =
       sym (drop-take skipped count ys) ∙ ap (λ l. drop skipped l) (shorter (skipped + count) le) ∙ drop-take skipped count xs
 
-  -- if both lists have the same length, and the common prefix is the whole of one list, the lists
-  -- are equal
+  -- two lists of the same length are equal if their common prefix is the whole of one list
   whole : length ys ≡ length xs → length xs ≤ n → ys ≡ xs
   whole as_long le = sym (take_whole n ys (omega (arith, as_long, le))) ∙ same ∙ take_whole n xs le
 

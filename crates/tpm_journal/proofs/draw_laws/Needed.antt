@@ -13,7 +13,7 @@ use Rattle.tpm_record.specs.rows.Answer.{Body, Plain, Sized, SizedFirst}
 use Rattle.tpm_record.specs.rows.Request.{Request}
 use Rattle.tpm_record.specs.rows.Rows.{Success, only, unchanged}
 use Rattle.tpm_actions_device.specs.GetRandom.{get_random_row, random_answer}
-use Rattle.tpm_step.specs.Table.{row_of}
+use Rattle.tpm_step.specs.step.Table.{row_of}
 use Rattle.tpm_journal.specs.draw_laws.Bytes.{with_random}
 
 -- the bytes of a sized buffer in an answer

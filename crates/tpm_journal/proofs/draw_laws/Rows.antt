@@ -1,5 +1,5 @@
--- Five rows read random bytes. Each of them reads only the first random bytes, and reports their
--- number as drawn. The other rows read none.
+-- Five rows read random bytes. Each reads the first random bytes, and only as many as it reports as
+-- drawn. The other rows read none.
 use Rattle.std.proofs.Common.{◌≡◌, ◌+◌, ℕ, List, None, Some, take, slice_set, Result, Ok, Err, refl, ap, arith}
 use Rattle.std.specs.Prelude.{min}
 use Rattle.std.specs.Int.{w16}
@@ -32,7 +32,7 @@ use Rattle.tpm_actions_device.specs.declared.startup.Start.TheVariants.{Reset, R
 use Rattle.tpm_actions_object.specs.Checks.{given_passes, public_passes}
 use Rattle.tpm_actions_object.specs.Creation.{parameters_in}
 use Rattle.tpm_actions_object.specs.Loaded.{is_fixed, loaded_at, parent_passes}
-use Rattle.tpm_step.specs.Table.{row_of}
+use Rattle.tpm_step.specs.step.Table.{row_of}
 use Rattle.tpm_journal.specs.draw_laws.Bytes.{ActsAlike, with_random}
 use Rattle.tpm_journal.proofs.draw_laws.Alike.{alike_after}
 use Rattle.tpm_journal.proofs.draw_laws.Fronts.{part, shorter}
@@ -102,8 +102,8 @@ module _ (r : Record) (q : Request) (other : List ℕ) where
       ap (λ nonce. let s = session_with p (binding_of r bind) nonce in
       Ok (record { answer = start_answer p s place; after = record r { sessions = slice_set r.sessions place (Some s) } })) same))))
 
-  -- a startup has the same result if the random bytes that it does not draw are replaced; a TPM
-  -- Reset draws a seed and a proof, of 32 bytes each
+  -- replacing undrawn random bytes does not change the result of a startup; a TPM Reset draws a
+  -- seed and a proof, of 32 bytes each
   started_alike : (start : Start) → ActsAlike q.random other
       (Ok (record { answer = record nothing { drawn = start_draws start }; after = started_record start r q.random }))
       (Ok (record { answer = record nothing { drawn = start_draws start }; after = started_record start r other }))
@@ -155,7 +155,7 @@ module _ (r : Record) (q : Request) (other : List ℕ) where
       let object = drawn_by p.template p.given in
       rw (created_alike p.template p.given (shorter (object + 16) q.random other same object (omega arith)), part (object + 16) q.random other same object 16 (omega arith)) refl))))))
 
--- the result of a row stays the same if the random bytes that it does not draw are replaced
+-- replacing undrawn random bytes does not change the result of a row
 pub row_alike : (r : Record) (c : CommandCode) (q : Request) (other : List ℕ) → ActsAlike q.random other (row_of r c q) (row_of r c (with_random q other))
 unfolding row_of assertion_row clear_control_row create_primary_row dictionary_attack_lock_reset_row dictionary_attack_parameters_row evict_control_row flush_context_row get_capability_row hierarchy_change_auth_row hmac_row load_row nv_change_auth_row nv_define_space_row nv_extend_row nv_increment_row nv_read_lock_row nv_read_public_row nv_read_row nv_set_bits_row nv_undefine_space_row nv_write_lock_row nv_write_row pcr_event_row pcr_extend_row pcr_read_row pcr_reset_row policy_get_digest_row policy_restart_row read_clock_row read_public_row self_test_row shutdown_row unseal_row
 row_alike r command.GetRandom q other = get_random_alike r q other

@@ -11,11 +11,11 @@ use Rattle.tpm_record.specs.Record.{Record}
 use Rattle.tpm_auth.specs.Grant.{authorize}
 use Rattle.tpm_auth.specs.declared.session_grant.Grant.{Grant}
 use Rattle.tpm_machine.specs.Drawn.{bytes_drawn, drawn_by_command}
-use Rattle.tpm_step.specs.Answer.{Written, answer_to, written_of}
-use Rattle.tpm_step.specs.Entries.{draw_of, entries_rolled, entry_rolled}
-use Rattle.tpm_step.specs.General.{general}
-use Rattle.tpm_step.specs.Step.{Accepted, acceptance, accepted, answer_where, refusal_without_memory, request_in, success_step}
-use Rattle.tpm_step.specs.Table.{row_of}
+use Rattle.tpm_step.specs.step.Answer.{Written, answer_to, written_of}
+use Rattle.tpm_step.specs.step.Entries.{draw_of, entries_rolled, entry_rolled}
+use Rattle.tpm_step.specs.step.General.{general}
+use Rattle.tpm_step.specs.step.Step.{Accepted, acceptance, accepted, answer_where, refusal_without_memory, request_in, success_step}
+use Rattle.tpm_step.specs.step.Table.{row_of}
 use Rattle.tpm_step.specs.declared.refused_command.RefusedCommand.{RefusedCommand}
 use Rattle.tpm_journal.proofs.draw_laws.Alike.{Alike, alike_after, alike_before, alike_in_command}
 use Rattle.tpm_journal.proofs.draw_laws.Fronts.{Behind, behind}
@@ -61,8 +61,8 @@ fewer_left r (e ∷ es) left =
     let later = fewer_left (entry_rolled r e left).after es (drop (draw_of r e) left) in
     omega (arith, later, length-drop (draw_of r e) left)
 
--- If the random bytes that the new nonces do not draw are replaced, the nonces stay the same, and
--- so does the number of bytes that are left.
+-- Replacing random bytes that the new nonces do not draw changes neither the nonces nor the number
+-- of bytes left.
 pub record RolledAlike (r : Record) (es : List Entry) (left other : List ℕ) : Type 0 where
   pub after : (entries_rolled r es other).after ≡ (entries_rolled r es left).after
   pub as_long : length (entries_rolled r es other).left ≡ length (entries_rolled r es left).left
@@ -111,8 +111,7 @@ module _ (a : Accepted) (random other : List ℕ) (as_long : length other ≡ le
       rw (answer_alike a.command a.grants (written_of a.success.answer) a.success.after random other (nonces_alike same).after) refl
 
 module _ (r : Record) (random other : List ℕ) (as_long : length other ≡ length random) where
-  -- a step stays the same if the random bytes that it does not draw are replaced, whether or not an
-  -- allocation fails
+  -- replacing undrawn random bytes does not change a step, whether or not an allocation fails
   pub where_alike : (refused : Bool) (a b : Result Accepted RefusedCommand) → AcceptedAlike random other a b
       → take (drawn_by_command random a 0) other ≡ take (drawn_by_command random a 0) random
       → answer_where refused r other b ≡ answer_where refused r random a
@@ -124,7 +123,7 @@ module _ (r : Record) (random other : List ℕ) (as_long : length other ≡ leng
   where_alike false (Err e) b alike same = ap (answer_where false r other) alike
   where_alike true (Err e) b alike same = ap (answer_where true r other) alike
 
-  -- a command draws the same number of bytes if the random bytes that it does not draw are replaced
+  -- replacing undrawn random bytes does not change the number of bytes that a command draws
   pub drawn_alike : (check : ℕ) (a b : Result Accepted RefusedCommand) → AcceptedAlike random other a b
       → take (drawn_by_command random a 0) other ≡ take (drawn_by_command random a 0) random
       → drawn_by_command other b check ≡ drawn_by_command random a check

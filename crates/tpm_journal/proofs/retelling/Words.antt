@@ -6,7 +6,7 @@ use Rattle.std.proofs.KnownBytes.{Appends-trans}
 use Rattle.tpm_completion.specs.Execution.{CompletesIf, Seen}
 use Rattle.tpm_completion.specs.declared.completion.Completion.{Completion}
 use Rattle.tpm_record.specs.Record.{Record}
-use Rattle.tpm_step.specs.Events.{PlainEvent}
+use Rattle.tpm_step.specs.step.Events.{PlainEvent}
 use Rattle.tpm_text.proofs.Traceable.{executed}
 use Rattle.tpm_journal.specs.Retelling.{CanBeTold}
 

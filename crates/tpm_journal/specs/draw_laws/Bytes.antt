@@ -5,7 +5,7 @@ use Rattle.tpm_record.specs.rows.Request.{Request}
 use Rattle.tpm_record.specs.rows.Rows.{Success}
 use Rattle.tpm_machine.specs.Drawn.{drawn_by}
 use Rattle.tpm_record.specs.Record.{Record}
-use Rattle.tpm_step.specs.Events.{Cycled, Given, Placed, PlainEvent}
+use Rattle.tpm_step.specs.step.Events.{Cycled, Given, Placed, PlainEvent}
 use Rattle.tpm_types.specs.declared.refused.Refused.{Refused}
 
 -- the request of a command with other random bytes
@@ -27,7 +27,7 @@ AgreeOnDrawn r buffer locality elapsed random other =
     let drawn = drawn_by r (Given buffer locality elapsed random) 0 in
     (length other ≡ length random) × (take drawn other ≡ take drawn random)
 
--- 256 random bytes: the first `drawn` of these, followed by zeros
+-- 256 random bytes: the first `drawn` bytes of `random`, followed by zeros
 abbrev pub zeros_behind : (drawn : ℕ) → (random : List ℕ) → List ℕ
 zeros_behind drawn random = take drawn random ++ replicate (256 - drawn) 0
 

@@ -11,7 +11,8 @@ use Rattle.tpm_journal_text.proofs.Pieces.{line_digits}
 use Rattle.tpm_journal_text.proofs.Standing.{line_stands, mark_bytes, mark_many, stands}
 use Rattle.tpm_kept_journal.specs.texts.EntryAt.{begins_with_entry, entry_at, entry_by, is_entry, mark_in}
 use Rattle.tpm_kept_journal.specs.texts.Parts.{begins_with, hex_at, where_so}
-use Rattle.tpm_kept_journal.proofs.texts.Parts.{Decides-leb, are_bytes-Decides, begins_with-Decides, hex_is_at, not_told, so_found, so_told}
+use Rattle.tpm_image_text.proofs.Bytes.{are_bytes-Decides}
+use Rattle.tpm_kept_journal.proofs.texts.Parts.{Decides-leb, begins_with-Decides, hex_is_at, not_told, so_found, so_told}
 
 -- ---- the test of an entry's fields
 

@@ -13,7 +13,8 @@ use Rattle.tpm_journal_text.proofs.HeadStanding.{head_line_stands, head_mark_byt
 use Rattle.tpm_journal_text.proofs.Pieces.{line_digits}
 use Rattle.tpm_kept_journal.specs.texts.HeadAt.{PlainHead, begins_with_head, head_at, head_by, head_mark_in, is_head, kind_in, text_of_head}
 use Rattle.tpm_kept_journal.specs.texts.Parts.{begins_with, hex_at, where_so}
-use Rattle.tpm_kept_journal.proofs.texts.Parts.{Decides-leb, are_bytes-Decides, begins, begins_with-Decides, hex_is_at, not_told, so_found, so_told}
+use Rattle.tpm_image_text.proofs.Bytes.{are_bytes-Decides}
+use Rattle.tpm_kept_journal.proofs.texts.Parts.{Decides-leb, begins, begins_with-Decides, hex_is_at, not_told, so_found, so_told}
 
 -- ---- the test of a head's fields
 

@@ -1,4 +1,4 @@
--- The remains of an incomplete entry are torn, and stay torn with zeros after them.
+-- The remains of an incomplete entry are torn, and stay torn if zeros follow them.
 use Rattle.std.proofs.Common.{◌≡◌, ℕ, ◌<◌, true, List, [], ◌++◌, length, take, refl, sym, subst}
 use Rattle.std.proofs.lemmas.List.{append-nil}
 use Rattle.tpm_journal_text.specs.Entry.{IsEntry, PlainEntry, entry_text}

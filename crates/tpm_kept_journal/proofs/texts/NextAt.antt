@@ -1,5 +1,4 @@
--- Every list of bytes begins with an entry, is torn, or is damaged; no two of these hold for the
--- same list.
+-- Every list of bytes begins with an entry, is torn, or is damaged, and only one of these is true.
 use Rattle.std.proofs.Common.{◌≡◌, ℕ, ◌≤◌, Bool, true, false, List, ◌++◌, length, take, drop, Option, Some, None, refl, ap, sym, ◌∙◌}
 use Rattle.std.proofs.lemmas.Bool.{false_from_ne_true}
 use Rattle.std.proofs.lemmas.List.{length-take-le, take-append-drop}

@@ -1,15 +1,15 @@
 -- Lemmas about reading and testing parts of a journal.
 use Rattle.std.proofs.Common.{◌≡◌, ℕ, zero, suc, ◌*◌, ◌<◌, ◌≤◌, Bool, true, false, List, [], ◌∷◌, ◌++◌, length, take, drop, Option, Some, None, Result, Ok, Err, refl, ap, sym, ◌∙◌, arith}
-use Rattle.std.specs.Prelude.{Decides, nat_le, nat_lt}
+use Rattle.std.specs.Prelude.{Decides, nat_le}
 use Rattle.std.proofs.lemmas.Bool.{leb-true, le-leb}
-use Rattle.std.proofs.lemmas.Bool.Decides.{Decides-and, Decides-ltb}
 use Rattle.std.proofs.lemmas.List.{take_at, take-append-drop}
 use Rattle.std.proofs.lemmas.Slice.Eq.{bytes_eq-Decides}
 use Rattle.hex.specs.Hex.{decode_of, encode_lower}
 use Rattle.hex.specs.declared.error.FromHexError.{FromHexError}
 use Rattle.hex.proofs.HexLemmas.{decode_of-encode_lower, decode_of-ok}
 use Rattle.tpm_bytes.specs.Reading.{AreBytes}
-use Rattle.tpm_kept_journal.specs.texts.Parts.{are_bytes, begins_with, hex_at, read_or_none, spelled, where_so}
+use Rattle.tpm_image_text.proofs.Bytes.{bytes_nil}
+use Rattle.tpm_kept_journal.specs.texts.Parts.{begins_with, hex_at, read_or_none, spelled, where_so}
 
 -- ---- optional values that depend on a test
 
@@ -34,26 +34,6 @@ module _ {A : Type 0} where
 pub Decides-leb : (a b : ℕ) → Decides (nat_le a b) (a ≤ b)
 Decides-leb a b = (leb-true a b, le-leb a b)
 
--- ---- bytes
-
-bytes_cons : (byte : ℕ) (bytes : List ℕ) → byte < 256 → AreBytes bytes → AreBytes (byte ∷ bytes)
-bytes_cons byte bytes small are zero = small
-bytes_cons byte bytes small are (suc i) = are i
-
-bytes_nil : AreBytes []
-bytes_nil i = omega arith
-
-pub are_bytes-Decides : (bytes : List ℕ) → Decides (are_bytes bytes) (AreBytes bytes)
-are_bytes-Decides [] = (λ all. bytes_nil, λ all. refl)
-are_bytes-Decides (byte ∷ bytes) =
-    let both = Decides-and (nat_lt byte 256) (are_bytes bytes) (Decides-ltb byte 256) (are_bytes-Decides bytes) in (
-      λ all. (
-          let parts = both.0 all in
-          bytes_cons byte bytes parts.0 parts.1
-          ),
-      λ are. both.1 (are 0, λ i. are (suc i)),
-    )
-
 -- ---- hex digits
 
 pub spelled_again : (bytes : List ℕ) → AreBytes bytes → spelled (encode_lower bytes) ≡ bytes
@@ -66,7 +46,7 @@ read_are_bytes digits (Err fault) is = bytes_nil
 pub spelled_are_bytes : (digits : List ℕ) → AreBytes (spelled digits)
 spelled_are_bytes digits = read_are_bytes digits (decode_of digits) refl
 
--- If an offset has the hex digits of these bytes, `hex_at` returns these bytes for that offset.
+-- If the hex digits of these bytes are at an offset, `hex_at` returns the bytes.
 pub hex_is_at : (place count : ℕ) (text bytes : List ℕ) → AreBytes bytes → count ≡ length bytes
     → take (2 * length bytes) (drop place text) ≡ encode_lower bytes → hex_at place count text ≡ bytes
 hex_is_at place count text bytes are many at =

@@ -1,4 +1,4 @@
--- `is_torn_text` is true exactly for the bytes that are torn.
+-- `is_torn_text` is true exactly for torn bytes.
 use Rattle.std.proofs.Common.{◌≡◌, ℕ, zero, suc, ◌+◌, ◌<◌, ◌≤◌, ◌==◌, ◌&&◌, ◌||◌, inl, inr, Bool, true, false, List, [], ◌∷◌, ◌++◌, length, get_or, not, take, drop, replicate, refl, ap, sym, subst, ◌∙◌, arith, length-append}
 use Rattle.std.specs.Prelude.{Decides, bytes_eq, nat_lt}
 use Rattle.std.proofs.lemmas.Bool.{and_parts, cond-false, cond-true, eqb-true, ltb-true, ltb-false, lt-ltb, or_left, or_right, and_from}
@@ -56,7 +56,7 @@ unfolding without_zeros
 zeros_left [] = (0, refl)
 zeros_left (byte ∷ text) = one_more_left byte text (are_zeros (byte ∷ text)) refl (zeros_left text)
 
--- If zeros follow some bytes, then all of it without the final zeros is a prefix of these bytes.
+-- If zeros follow some bytes, removing all zeros at the end leaves a prefix of these bytes.
 one_more_front : (byte : ℕ) (front text : List ℕ) (b : Bool) → are_zeros (byte ∷ text) ≡ b
     → (back : List ℕ) × (front ≡ without_zeros text ++ back)
     → (back : List ℕ) × (byte ∷ front ≡ without_zeros (byte ∷ text) ++ back)

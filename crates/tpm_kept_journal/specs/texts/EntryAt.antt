@@ -3,7 +3,8 @@ use Rattle.std.specs.Prelude.{ℕ, ◌+◌, ◌*◌, ◌^◌, ◌==◌, ◌&&◌
 use Rattle.std.specs.Prelude.{List, drop, length, max, slice_index, take, Option}
 use Rattle.std.specs.Int.{w32, w64, from_be_bytes}
 use Rattle.tpm_journal_text.specs.Entry.{PlainEntry, buffer_size, drawn_size, entry_limit, entry_text, mark_size}
-use Rattle.tpm_kept_journal.specs.texts.Parts.{are_bytes, begins_with, hex_at, where_so}
+use Rattle.tpm_image_text.specs.Fields.{are_bytes}
+use Rattle.tpm_kept_journal.specs.texts.Parts.{begins_with, hex_at, where_so}
 
 -- whether the fields of an entry have allowed values
 unfoldable pub is_entry : PlainEntry → Bool
@@ -12,7 +13,7 @@ is_entry e =
     && ((nat_le (length e.drawn) 256 && are_bytes e.drawn)
     && (nat_le (length e.buffer) entry_limit && are_bytes e.buffer))
 
--- the mark on the first line, if the bytes begin with an entry; it follows the line's first word
+-- the mark on the first line, after the line's first word, if the bytes begin with an entry
 unfoldable pub mark_in : List ℕ → List ℕ
 mark_in text = hex_at 2 mark_size text
 
@@ -27,7 +28,8 @@ entry_by mark text = record {
   answered = from_be_bytes w64 (take 8 (drop 18 mark));
 }
 
--- whether the bytes begin with exactly the encoding of this entry; `sum` is the checksum before it
+-- whether the bytes begin with exactly the encoding of this entry; `sum` is the checksum before the
+-- entry
 abbrev pub begins_with_entry : (sum : ℕ) → List ℕ → PlainEntry → Bool
 begins_with_entry sum text e = is_entry e && begins_with text (entry_text sum e)
 

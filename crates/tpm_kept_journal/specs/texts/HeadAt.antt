@@ -4,7 +4,8 @@ use Rattle.std.specs.Int.{w32, w64, from_be_bytes}
 use Rattle.tpm_journal_text.specs.Head.{content_limit, head_text, head_word}
 use Rattle.tpm_journal_text.specs.declared.head.HeadKind.{HeadKind}
 use Rattle.tpm_journal_text.specs.declared.head.HeadKind.TheVariants.{Image, State}
-use Rattle.tpm_kept_journal.specs.texts.Parts.{are_bytes, begins_with, hex_at, where_so}
+use Rattle.tpm_image_text.specs.Fields.{are_bytes}
+use Rattle.tpm_kept_journal.specs.texts.Parts.{begins_with, hex_at, where_so}
 
 -- a head: its kind, the host's clock in milliseconds, and its content
 pub record PlainHead : Type 0 where
@@ -26,7 +27,7 @@ is_head h =
 unfoldable pub kind_in : List ℕ → HeadKind
 kind_in text = cond (begins_with text (head_word State)) State Image
 
--- the mark on the first line, if the bytes begin with a head; it follows the line's first word
+-- the mark on the first line, after the line's first word, if the bytes begin with a head
 unfoldable pub head_mark_in : List ℕ → List ℕ
 head_mark_in text = hex_at 19 20 text
 

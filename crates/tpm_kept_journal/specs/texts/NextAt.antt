@@ -12,7 +12,7 @@ pub data PlainNext : Type 0 where
   Torn : PlainNext
   Damaged : PlainNext
 
--- what the code found, as a value of the definitions
+-- a `Next` as a plain value, without the entry's size and the checksum
 abbrev pub plain_next : Next → PlainNext
 plain_next (next.Whole entry size sum) = Whole (plain_entry entry)
 plain_next next.Torn = Torn

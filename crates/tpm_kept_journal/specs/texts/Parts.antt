@@ -1,7 +1,6 @@
 -- Reading parts of a journal at their offsets.
-use Rattle.std.specs.Prelude.{ℕ, ◌*◌, nat_lt, Bool, true, false, bytes_eq}
+use Rattle.std.specs.Prelude.{ℕ, ◌*◌, Bool, true, false, bytes_eq}
 use Rattle.std.specs.Prelude.{List, [], drop, length, take, Option, Some, None, Result, Ok, Err}
-use Rattle.std.specs.List.{list_all}
 use Rattle.hex.specs.Hex.{decode_of}
 
 -- a value if the test holds, and None otherwise
@@ -21,10 +20,6 @@ spelled digits = read_or_none (decode_of digits)
 -- the `count` bytes that are written in hex at an offset
 abbrev pub hex_at : (place count : ℕ) → (text : List ℕ) → List ℕ
 hex_at place count text = spelled (take (2 * count) (drop place text))
-
--- whether each number of a list is below 256
-abbrev pub are_bytes : List ℕ → Bool
-are_bytes bytes = list_all (λ byte. nat_lt byte 256) bytes
 
 -- whether the first list begins with the second
 abbrev pub begins_with : (text front : List ℕ) → Bool

@@ -30,7 +30,7 @@ lines_end test place (byte ∷ lines) =
     (not (byte == 10) || test place) && lines_end test (suc place) lines
 
 -- whether the bytes are an incomplete entry. Either the first line is incomplete; or the first line
--- contains the mark of an entry with more bytes than there are, and the later lines end only where
+-- contains the mark of an entry that is longer than these bytes, and the later lines end only where
 -- the lines of that entry end
 unfoldable pub is_cut_off : (sum : ℕ) → List ℕ → Bool
 is_cut_off sum text =

@@ -4,9 +4,9 @@
 ghost use Rattle.std.specs.Prelude.{◌≡◌};
 ghost use Rattle.tpm_machine.specs.Placing.{IfMemory, Places, placing_seen};
 ghost use Rattle.tpm_machine.specs.State.{state_of};
-ghost use Rattle.tpm_step.specs.Events.{Placed};
-ghost use Rattle.tpm_step.specs.Execution.{Executes};
-ghost use Rattle.tpm_step.specs.Follows.{FollowsOn};
+ghost use Rattle.tpm_step.specs.step.Events.{Placed};
+ghost use Rattle.tpm_step.specs.step.Execution.{Executes};
+ghost use Rattle.tpm_step.specs.history.Follows.{FollowsOn};
 
 use crate::machine::Machine;
 use tpm_containers::{Sizes, SlotFault};

@@ -96,7 +96,8 @@ impl Target {
 }
 
 /// Once a command has passed the checks of `check_reading`, reading its index fails only if the
-/// bytes extend past the end of the data. A proof only: it has no effect at run time.
+/// bytes extend past the end of the data. This function is only a proof: it has no effect at run
+/// time.
 #[inline(always)]
 #[tactic(auto, using(crate::proofs::rows::TargetLaws::reading_within))]
 pub fn reading_laws()

@@ -18,12 +18,12 @@ use Rattle.tpm_commands.specs.declared.command_code.CommandCode.{CommandCode}
 use Rattle.tpm_commands.specs.declared.command_code.CommandCode.TheVariants as command
 use Rattle.tpm_record.specs.Record.{Record}
 use Rattle.tpm_auth.specs.Grant.{authorize}
-use Rattle.tpm_step.specs.General.{body_of, both_or_neither, general, in_header, is_startup, present_handles_at, sessions_pass}
-use Rattle.tpm_step.specs.Step.{acceptance, accepted, request_in}
-use Rattle.tpm_step.specs.Table.{row_of}
+use Rattle.tpm_step.specs.step.General.{body_of, both_or_neither, general, in_header, is_startup, present_handles_at, sessions_pass}
+use Rattle.tpm_step.specs.step.Step.{acceptance, accepted, request_in}
+use Rattle.tpm_step.specs.step.Table.{row_of}
 use Rattle.tpm_step.specs.rows.Acceptance.{IsAcceptance, IsDue}
 use Rattle.tpm_step.specs.rows.Handles.{HandlesFit}
-use Rattle.tpm_step.proofs.Binding.{ok_at, ok_bind, ok_bind_is, ok_checked, ok_in_command, ok_then}
+use Rattle.tpm_step.proofs.rows.Binding.{ok_at, ok_bind, ok_bind_is, ok_checked, ok_in_command, ok_then}
 use Rattle.tpm_step.proofs.rows.Handles.{general_fits}
 
 due_of : (code : CommandCode) (r : Record) → both_or_neither r.fixed.started (is_startup code) ≡ false → IsDue code r

@@ -12,10 +12,10 @@ use Rattle.tpm_types.specs.declared.check.Check.{Check}
 use Rattle.tpm_types.specs.declared.check.Check.TheVariants as check
 use Rattle.tpm_types.specs.declared.refused.Refused.{Refused}
 use Rattle.tpm_record.specs.rows.Rows.{Success}
-use Rattle.tpm_step.specs.Step.{Accepted, acceptance, request_in}
-use Rattle.tpm_step.specs.Table.{row_of}
+use Rattle.tpm_step.specs.step.Step.{Accepted, acceptance, request_in}
+use Rattle.tpm_step.specs.step.Table.{row_of}
 use Rattle.tpm_step.specs.rows.Sessions.{HaveSessions, SessionsStay}
-use Rattle.tpm_step.proofs.Binding.{checked_ok, ok_at}
+use Rattle.tpm_step.proofs.rows.Binding.{checked_ok, ok_at}
 use Rattle.tpm_step.proofs.rows.Sessions.{entries_have, entries_keep}
 use Rattle.tpm_step.proofs.rows.Table.{row_stays}
 

@@ -11,7 +11,7 @@ use Rattle.tpm_actions_capability.specs.declared.get_capability.Capability.TheVa
 use Rattle.tpm_actions_capability.specs.declared.get_capability.CapabilityParameters.{CapabilityParameters}
 use Rattle.tpm_step.specs.rows.Order.{Late, Plain}
 use Rattle.tpm_step.specs.rows.RowLaws.{RowLaws}
-use Rattle.tpm_step.proofs.Binding.{err_bind}
+use Rattle.tpm_step.proofs.rows.Binding.{err_bind}
 use Rattle.tpm_step.proofs.rows.Order.{ordered_steps}
 use Rattle.tpm_step.proofs.rows.PlainSteps.{plain_steps}
 use Rattle.tpm_step.proofs.rows.Successes.{in_place_steps}

@@ -62,7 +62,7 @@ use Rattle.tpm_step.specs.rows.RowLaws.{RowLaws, SuccessLaws}
 use Rattle.tpm_step.specs.rows.Shapes.{Grows, taken_in}
 use Rattle.tpm_step.specs.rows.Sizes.{AreSized, IsSized}
 use Rattle.tpm_step.proofs.rows.AllPlaces.{all_set}
-use Rattle.tpm_step.proofs.Binding.{asked, ok_bind, ok_bind_is, ok_then, some_is}
+use Rattle.tpm_step.proofs.rows.Binding.{asked, ok_bind, ok_bind_is, ok_then, some_is}
 use Rattle.tpm_step.proofs.rows.Order.{ordered_steps}
 use Rattle.tpm_step.proofs.rows.PlainSteps.{plain_steps}
 use Rattle.tpm_step.proofs.rows.SessionPlaces.{flushed_all, stays_put}

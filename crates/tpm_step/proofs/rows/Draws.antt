@@ -20,10 +20,10 @@ use Rattle.tpm_types_command.specs.declared.tag.Tag.{Tag}
 use Rattle.tpm_types_command.specs.declared.tag.Tag.TheVariants.{NoSessions, Sessions}
 use Rattle.tpm_record.specs.Record.{Record}
 use Rattle.tpm_record.specs.rows.Request.{Request}
-use Rattle.tpm_step.specs.General.{body_of, both_or_neither, general, in_header, is_startup}
-use Rattle.tpm_step.specs.General.{present_handles_at, sessions_pass}
+use Rattle.tpm_step.specs.step.General.{body_of, both_or_neither, general, in_header, is_startup}
+use Rattle.tpm_step.specs.step.General.{present_handles_at, sessions_pass}
 use Rattle.tpm_step.specs.rows.Draws.{draws_of}
-use Rattle.tpm_step.proofs.Binding.{ok_bind, ok_checked, ok_in_command, ok_then}
+use Rattle.tpm_step.proofs.rows.Binding.{ok_bind, ok_checked, ok_in_command, ok_then}
 
 entries_few : (most : ℕ) (text : List ℕ) → IfOk (entries_in most text) (λ es. length es ≤ most)
 entries_few most [] = omega arith

@@ -28,7 +28,7 @@ use Rattle.tpm_auth.proofs.Granting.{granting}
 use Rattle.tpm_step.specs.rows.Grants.{GrantsFit, granted_handle, handle_in}
 use Rattle.tpm_step.specs.rows.Refusals.{RefusesAuthorization}
 use Rattle.tpm_step.specs.rows.Sessions.{HasSession, HaveSessions}
-use Rattle.tpm_step.proofs.Binding.{err_bind, err_checked, err_if, ok_at, ok_bind, ok_weaker}
+use Rattle.tpm_step.proofs.rows.Binding.{err_bind, err_checked, err_if, ok_at, ok_bind, ok_weaker}
 use Rattle.tpm_step.proofs.rows.Sessions.{entries_have}
 
 -- ---- the checks that refuse entries

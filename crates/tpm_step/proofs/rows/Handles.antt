@@ -20,12 +20,12 @@ use Rattle.tpm_record.specs.Entity.{is_present}
 use Rattle.tpm_record.specs.Record.{Record}
 use Rattle.tpm_auth.specs.Entries.{entries_pass}
 use Rattle.tpm_auth.specs.Grant.{authorize, grants_pass}
-use Rattle.tpm_step.specs.General.{body_of, general, both_or_neither, is_startup, in_header, present_handle_at, present_handles_at, sessions_pass}
-use Rattle.tpm_step.specs.Step.{acceptance, request_in}
-use Rattle.tpm_step.specs.Table.{row_of}
+use Rattle.tpm_step.specs.step.General.{body_of, general, both_or_neither, is_startup, in_header, present_handle_at, present_handles_at, sessions_pass}
+use Rattle.tpm_step.specs.step.Step.{acceptance, request_in}
+use Rattle.tpm_step.specs.step.Table.{row_of}
 use Rattle.tpm_step.specs.rows.Handles.{FitsRule, HandlesFit}
 use Rattle.tpm_step.specs.rows.Refusals.{Passes}
-use Rattle.tpm_step.proofs.Binding.{asked, checked_ok, err_bind, err_bind_is, err_checked, err_if, ok_bind, ok_bind_is, ok_checked, ok_in_command, ok_then}
+use Rattle.tpm_step.proofs.rows.Binding.{asked, checked_ok, err_bind, err_bind_is, err_checked, err_if, ok_bind, ok_bind_is, ok_checked, ok_in_command, ok_then}
 use Rattle.tpm_step.proofs.rows.Grants.{grants_refuse}
 use Rattle.tpm_step.proofs.rows.Table.{row_passes}
 
@@ -69,7 +69,7 @@ general_fits r buffer =
 
 -- ---- refusals after the general checks
 
--- if the authorization refuses a command, the failed check is never the check of handles (G6)
+-- authorization never refuses with the check of handles (G6)
 authorize_passes : (r : Record) (c : Whole) (locality : ℕ) → Passes check.Handles (authorize r c locality)
 unfolding authorize
 authorize_passes r c locality =

@@ -41,7 +41,7 @@ use Rattle.tpm_nvactions.specs.NvDefineSpace.{definition_refusal}
 use Rattle.tpm_commands.specs.Part.{NvAuthValue, NvCounter, NvData, Part}
 use Rattle.tpm_step.specs.rows.IndexChanges.{ChangesAuth, ChangesIndices, HasNoConflict}
 use Rattle.tpm_step.specs.rows.IndexChanges.{Increments, Writes}
-use Rattle.tpm_step.proofs.Binding.{ok_at, ok_bind, ok_bind_is, some_is}
+use Rattle.tpm_step.proofs.rows.Binding.{ok_at, ok_bind, ok_bind_is, some_is}
 use Rattle.tpm_step.proofs.rows.Parts.{SameCount}
 
 -- ---- writing or locking an index

@@ -58,7 +58,7 @@ use Rattle.tpm_step.specs.rows.IndexChanges.{ChangesIndices, HasNoConflict}
 use Rattle.tpm_step.specs.rows.Order.{IsLate, Late, Orders, Plain}
 use Rattle.tpm_step.specs.rows.RowLaws.{RowLaws, SuccessLaws}
 use Rattle.tpm_step.specs.rows.Shapes.{AnswersItsShape, Grows, behind, spelled}
-use Rattle.tpm_step.proofs.Binding.{err_bind, err_if, ok_bind, ok_bind_is, ok_then}
+use Rattle.tpm_step.proofs.rows.Binding.{err_bind, err_if, ok_bind, ok_bind_is, ok_then}
 use Rattle.tpm_step.proofs.rows.IndexChanges.{auth_changes, bits_write, counts_so}
 use Rattle.tpm_step.proofs.rows.IndexChanges.{extended_writes, keeps_count, none_is, passes_so}
 use Rattle.tpm_step.proofs.rows.IndexChanges.{read_locked_writes, same_count, target_names}
@@ -86,8 +86,8 @@ late_if : {F : Type 0} (Fit : Type 0) (refusal : F → Refused) (b : Bool) (faul
 late_if Fit refusal true fault late = late
 late_if Fit refusal false fault late = tt
 
--- If an index exists whenever the handles fit, and the later steps refuse late (`Late`), the step
--- that looks up the index refuses late too.
+-- Looking up an index refuses late (`Late`), if the index exists whenever the handles fit, and the
+-- later steps refuse late.
 late_index : {X F : Type 0} (Fit : Type 0) (refusal : F → Refused) (nv : NvContents) (h : Handle)
     (absence : F) (f : NvIndex → Result X F) → refusal absence ≡ handle_refusal
     → (Fit → is_some (index_at nv h) ≡ true) → ((i : NvIndex) → Late Fit (or_refusal refusal (f i)))
@@ -136,8 +136,8 @@ late_read_locked : (Fit : Type 0) (nv : NvContents) (h : Handle)
 unfolding read_locked
 late_read_locked Fit nv h there = search changes
 
--- Setting the authorization value of an NV index refuses late (`Late`), if the handle fits a rule
--- for NV indices whenever all handles of the command fit.
+-- Setting an index's authorization value refuses late (`Late`), if its handle fits a rule for NV
+-- indices whenever all handles fit.
 late_auth_value : (Fit : Type 0) (r : Record) (role : Option Role) (h : Handle) (value : List ℕ)
     → (Fit → FitsRule r (record { kind = handle_kind.NvIndex; role = role }) h)
     → Late Fit (or_refusal (λ absence. handle_refusal) (with_auth_value r.nv h value))

@@ -13,10 +13,10 @@ use Rattle.tpm_record.specs.Record.{Record, with_saved}
 use Rattle.tpm_record.specs.Saved.{Nothing}
 use Rattle.tpm_auth.specs.Entries.{session_of}
 use Rattle.tpm_auth.specs.declared.session_grant.Grant.{Grant}
-use Rattle.tpm_step.specs.Answer.{Written, answer_to, written_of}
-use Rattle.tpm_step.specs.Entries.{entries_ended, entries_rolled, entry_ended, entry_restarted, entry_rolled, restarted_by}
-use Rattle.tpm_step.specs.Granted.{Granted, granted_entries}
-use Rattle.tpm_step.specs.Step.{Accepted, success_step}
+use Rattle.tpm_step.specs.step.Answer.{Written, answer_to, written_of}
+use Rattle.tpm_step.specs.step.Entries.{entries_ended, entries_rolled, entry_ended, entry_restarted, entry_rolled, restarted_by}
+use Rattle.tpm_step.specs.step.Granted.{Granted, granted_entries}
+use Rattle.tpm_step.specs.step.Step.{Accepted, success_step}
 use Rattle.tpm_step.specs.rows.Acceptance.{LeavesEffect, OnlySessions}
 
 then_only : (a b c : Record) → OnlySessions a b → OnlySessions b c → OnlySessions a c

@@ -20,14 +20,14 @@ use Rattle.tpm_record.specs.Record.{Record}
 use Rattle.tpm_record.specs.Tick.{ticked}
 use Rattle.tpm_auth.specs.Entries.{entries_pass}
 use Rattle.tpm_auth.specs.Grant.{authorize, grants_pass}
-use Rattle.tpm_step.specs.Events.{PlainEvent, Given, Cycled, Placed}
-use Rattle.tpm_step.specs.Execution.{Executes}
-use Rattle.tpm_step.specs.General.{body_of, both_or_neither, general, in_command, in_header, is_startup, present_handles_at, sessions_pass}
-use Rattle.tpm_step.specs.Step.{Accepted, Stepped, acceptance, accepted, stepped_of, request_in, step}
-use Rattle.tpm_step.specs.Table.{row_of}
+use Rattle.tpm_step.specs.step.Events.{PlainEvent, Given, Cycled, Placed}
+use Rattle.tpm_step.specs.step.Execution.{Executes}
+use Rattle.tpm_step.specs.step.General.{body_of, both_or_neither, general, in_command, in_header, is_startup, present_handles_at, sessions_pass}
+use Rattle.tpm_step.specs.step.Step.{Accepted, Stepped, acceptance, accepted, stepped_of, request_in, step}
+use Rattle.tpm_step.specs.step.Table.{row_of}
 use Rattle.tpm_step.specs.declared.refused_command.RefusedCommand.{RefusedCommand}
 use Rattle.tpm_step.specs.rows.Refusals.{Passes}
-use Rattle.tpm_step.proofs.Binding.{checked_ok, err_bind, err_bind_is, err_checked, err_if}
+use Rattle.tpm_step.proofs.rows.Binding.{checked_ok, err_bind, err_bind_is, err_checked, err_if}
 use Rattle.tpm_step.proofs.rows.Grants.{grants_refuse}
 use Rattle.tpm_step.proofs.rows.Table.{row_wants}
 

@@ -66,7 +66,7 @@ use Rattle.tpm_step.specs.rows.IndexChanges.{ChangesIndices}
 use Rattle.tpm_step.specs.rows.Order.{Late, Orders, Plain}
 use Rattle.tpm_step.specs.rows.RowLaws.{RowLaws, SuccessLaws}
 use Rattle.tpm_step.specs.rows.Shapes.{AnswersItsShape, GrowsAsShaped, taken_in}
-use Rattle.tpm_step.proofs.Binding.{err_bind, err_if, ok_bind, ok_bind_is, ok_then, some_is}
+use Rattle.tpm_step.proofs.rows.Binding.{err_bind, err_if, ok_bind, ok_bind_is, ok_then, some_is}
 use Rattle.tpm_step.proofs.rows.Order.{IsThere, behind_found, either, ordered_steps}
 use Rattle.tpm_step.proofs.rows.Parts.{leaves_sessions}
 use Rattle.tpm_step.proofs.rows.PlainSteps.{plain_steps}
@@ -77,7 +77,7 @@ use Rattle.tpm_row_secrecy.proofs.ObjectRows as object_secrets
 
 -- ---- how the rows of objects refuse
 
--- If a handle has the type of an object, and its entity exists, it names an object.
+-- A handle with the type of an object names an object, if its entity exists.
 object_there : (type : ℕ) (session : Bool) (index : Entity) (o : Option Object)
     → (type == 0x80 || type == 0x81) ≡ true
     → IsThere type session (if type == 0x01 then index else option_map_or AnObject o Permanent)

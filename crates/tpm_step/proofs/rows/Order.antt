@@ -35,7 +35,7 @@ use Rattle.tpm_step.specs.rows.Handles.{FitsRule, HandlesFit}
 use Rattle.tpm_step.specs.rows.Order.{InOrder, IsLate, Late, Orders}
 use Rattle.tpm_step.specs.rows.Refusals.{Passes}
 use Rattle.tpm_step.specs.rows.Shapes.{ReadsParameters, behind_kind, spelled}
-use Rattle.tpm_step.proofs.Binding.{bind_assoc, err_bind, err_fault, err_if, err_or}
+use Rattle.tpm_step.proofs.rows.Binding.{bind_assoc, err_bind, err_fault, err_if, err_or}
 use Rattle.tpm_step.proofs.rows.Readings.{all_read_outcome, only_read, outcome, read_all}
 use Rattle.tpm_step.proofs.rows.Readings.{read_one, trimmed_read}
 
@@ -83,7 +83,7 @@ parameter_fault : {X : Type 0} (n : ℕ) (x : Result X Rc)
 parameter_fault n (Ok x) = tt
 parameter_fault n (Err rc) = refl
 
--- parameters that are not of their kinds are refused by the check of parameters
+-- the check of parameters refuses parameters that are not of their kinds
 pub spelled_faults : (n : ℕ) (kinds : List ParameterKind) (text : List ℕ)
     → IfErr (spelled n kinds text) (λ e. e.check ≡ check.Parameters)
 spelled_faults n [] text = err_if (λ e. e.check ≡ check.Parameters) _ _ refl
@@ -99,7 +99,7 @@ target_at r handles = do
   attributes ← attributes_of r handle
   Ok (record { auth_handle = auth_handle; handle = handle; attributes = attributes })
 
--- a row satisfies `Orders` if it reads the first handle, and the rest of the row satisfies `Orders`
+-- a first step that reads the first handle preserves `Orders`
 pub behind_first : {X : Type 0} (r : Record) (rule : HandleRule) (rules : List HandleRule)
     (handles : List Handle) (kinds : List ParameterKind) (text : List ℕ)
     (f : Handle → Result X Refused)
@@ -109,8 +109,7 @@ pub behind_first : {X : Type 0} (r : Record) (rule : HandleRule) (rules : List H
 behind_first r rule rules [] kinds text f more = record { order = inl (refl, λ fit. fit) }
 behind_first r rule rules (h ∷ hs) kinds text f more = more h (λ fit. fit.0)
 
--- a row satisfies `Orders` if it reads the second handle, and the rest of the row satisfies
--- `Orders`
+-- a first step that reads the second handle preserves `Orders`
 pub behind_second : {X : Type 0} (r : Record) (first rule : HandleRule) (rules : List HandleRule)
     (handles : List Handle) (kinds : List ParameterKind) (text : List ℕ)
     (f : Handle → Result X Refused)
@@ -121,7 +120,7 @@ behind_second r first rule rules [] kinds text f more = record { order = inl (re
 behind_second r first rule rules (h ∷ []) kinds text f more = record { order = inl (refl, λ fit. fit.1) }
 behind_second r first rule rules (h ∷ k ∷ hs) kinds text f more = more k (λ fit. fit.1.0)
 
--- a row satisfies `Orders` if it reads the third handle, and the rest of the row satisfies `Orders`
+-- a first step that reads the third handle preserves `Orders`
 pub behind_third : {X : Type 0} (r : Record) (first second rule : HandleRule)
     (rules : List HandleRule) (handles : List Handle) (kinds : List ParameterKind) (text : List ℕ)
     (f : Handle → Result X Refused)
@@ -133,8 +132,8 @@ behind_third r first second rule rules (h ∷ []) kinds text f more = record { o
 behind_third r first second rule rules (h ∷ k ∷ []) kinds text f more = record { order = inl (refl, λ fit. fit.1.1) }
 behind_third r first second rule rules (h ∷ k ∷ l ∷ hs) kinds text f more = more l (λ fit. fit.1.1.0)
 
--- a row satisfies `Orders` if it makes an assertion from its first handle, as TPM2_PolicySecret
--- does, and the rest of the row satisfies `Orders`
+-- a first step that makes an assertion from the first handle, as in TPM2_PolicySecret, preserves
+-- `Orders`
 pub behind_entity : {A X : Type 0} (r : Record) (rule : HandleRule) (rules : List HandleRule)
     (handles : List Handle) (kinds : List ParameterKind) (text : List ℕ)
     (g : Handle → Result A Refused) (f : A → Result X Refused)
@@ -143,8 +142,8 @@ pub behind_entity : {A X : Type 0} (r : Record) (rule : HandleRule) (rules : Lis
 behind_entity r rule rules [] kinds text g f more = record { order = inl (refl, λ fit. fit) }
 behind_entity r rule rules (h ∷ hs) kinds text g f more = more h
 
--- a row satisfies `Orders` if it looks up an entity that exists whenever the handles fit, and the
--- rest of the row satisfies `Orders`
+-- a first step that looks up an entity preserves `Orders`, if the entity exists whenever the
+-- handles fit
 pub behind_found : {A X : Type 0} (r : Record) (rules : List HandleRule) (handles : List Handle)
     (o : Option A) (kinds : List ParameterKind) (text : List ℕ) (f : A → Result X Refused)
     → (HandlesFit r rules handles → is_some o ≡ true)
@@ -158,19 +157,19 @@ pub late_found : {A : Type 0} (Fit : Type 0) (o : Option A) → (Fit → is_some
 late_found Fit (Some a) there = tt
 late_found Fit None there = λ fit. false≢true (there fit)
 
--- if the disjunction of two tests holds, the first or the second test holds
+-- splits a disjunction of two tests
 pub either : (a b : Bool) → (a || b) ≡ true → (a ≡ true) ⊎ (b ≡ true)
 either true b is = inl refl
 either false b is = inr is
 
--- A handle of this type names something that exists: `session` says whether its session exists, and
--- `entity` is its entity if the handle does not have the type of a session.
+-- The session or entity of a handle of this type exists. `session` says whether a session exists;
+-- `entity` is the entity of a handle that has another type.
 abbrev pub IsThere : ℕ → Bool → Entity → Type 0
 IsThere type session entity =
     (if (type == 0x02 || type == 0x03) then session
     else (is_kept entity || not (type == 0x01 || type == 0x80 || type == 0x81))) ≡ true
 
--- If a handle has the type of an NV index, and its entity exists, it names an index.
+-- A handle with the type of an NV index names an index, if its entity exists.
 index_present : (type : ℕ) (session : Bool) (o : Option NvIndex) (object : Entity)
     → (type == 0x01) ≡ true
     → IsThere type session (if type == 0x01 then option_map_or AnIndex (option_map head_of o) Permanent else object)
@@ -195,8 +194,7 @@ pub behind_index : {X : Type 0} (r : Record) (rules : List HandleRule) (handles 
     → Orders r rules handles kinds text (index_or_refusal r h >>= f)
 behind_index r rules handles role h kinds text f fits more = behind_found r rules handles (index_at r.nv h) kinds text f (λ fit. index_there r role h (fits fit)) more
 
--- a row satisfies `Orders` if it reads authHandle, nvIndex and the index's attributes, and the rest
--- of the row satisfies `Orders`
+-- a first step that reads authHandle, nvIndex and the index's attributes preserves `Orders`
 pub behind_target : {X : Type 0} (r : Record) (first : HandleRule) (others : List HandleRule)
     (handles : List Handle) (kinds : List ParameterKind) (text : List ℕ)
     (f : Target → Result X Refused)
@@ -223,8 +221,8 @@ behind_target r first others (h ∷ k ∷ hs) kinds text f more =
     found (Some i) there next = next i.public.attributes there
     found None there next = record { order = inl (refl, λ fit. false≢true (there fit)) }
 
--- a row satisfies `Orders` if it makes an assertion from authHandle, nvIndex and the index's
--- attributes, and the rest of the row satisfies `Orders`
+-- a first step that makes an assertion from authHandle, nvIndex and the index's attributes
+-- preserves `Orders`
 pub behind_target_asserted : {A X : Type 0} (r : Record) (first : HandleRule)
     (others : List HandleRule) (handles : List Handle) (kinds : List ParameterKind) (text : List ℕ)
     (g : Target → Result A Refused) (f : A → Result X Refused)
@@ -243,8 +241,7 @@ late_after : {X : Type 0} (Fit : Type 0) (s : Result (Unit {0}) Refused)
 late_after Fit s (Ok x) is late = is
 late_after Fit s (Err e) is late = inr (inr (is, late))
 
--- a row satisfies `Orders` if it parses all parameters first, and everything after that refuses
--- late (`Late`)
+-- a row satisfies `Orders` if it first parses all parameters, and then refuses only late (`Late`)
 pub behind_reading : {P X : Type 0} (r : Record) (rules : List HandleRule) (handles : List Handle)
     (kinds : List ParameterKind) (text : List ℕ) (read : Result P Refused)
     (f : P → Result X Refused) → outcome read ≡ spelled 1 kinds text
@@ -253,8 +250,8 @@ pub behind_reading : {P X : Type 0} (r : Record) (rules : List HandleRule) (hand
 behind_reading r rules handles kinds text (Ok p) f is late = record { order = late_after _ _ (f p) (sym is) (late p) }
 behind_reading r rules handles kinds text (Err e) f is late = record { order = inr (inl (sym is)) }
 
--- a row satisfies `Orders` if it parses all parameters first and converts them, for example to an
--- assertion, and everything after that refuses late (`Late`)
+-- a row satisfies `Orders` if it first parses all parameters, converts them, for example to an
+-- assertion, and then refuses only late (`Late`)
 pub behind_handed : {P A X : Type 0} (r : Record) (rules : List HandleRule) (handles : List Handle)
     (kinds : List ParameterKind) (text : List ℕ) (read : Result P Refused) (g : P → A)
     (f : A → Result X Refused) → outcome read ≡ spelled 1 kinds text

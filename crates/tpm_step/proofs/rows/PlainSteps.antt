@@ -1,4 +1,4 @@
--- The refusals of these steps of a row neither count as failed tries nor disable lockoutAuth.
+-- Steps of a row whose refusals neither count as failed tries nor disable lockoutAuth.
 use Rattle.std.proofs.Common.{◌∷◌, Err, List, Ok, Result, [], refl, rules, ℕ}
 use Rattle.tpm_types.specs.declared.action_fault.ActionFault.{ActionFault}
 use Rattle.tpm_types.specs.declared.handle.Handle.{Handle}
@@ -7,7 +7,7 @@ use Rattle.tpm_record.specs.rows.Refusals.{fault_refusal, or_refusal}
 use Rattle.tpm_record.specs.rows.Request.{first_handle, second_handle, third_handle}
 use Rattle.tpm_record.specs.rows.Rows.{parameter}
 use Rattle.tpm_step.specs.rows.Order.{Plain}
-use Rattle.tpm_step.proofs.Binding.{err_bind, err_fault, err_if, err_or}
+use Rattle.tpm_step.proofs.rows.Binding.{err_bind, err_fault, err_if, err_or}
 
 pub plain_parameter : {X : Type 0} (n : ℕ) (x : Result X Rc) → Plain (parameter n x)
 plain_parameter n (Ok x) = tt

@@ -42,7 +42,7 @@ use Rattle.tpm_step.specs.rows.RowLaws.{RowLaws, SuccessLaws}
 use Rattle.tpm_step.specs.rows.Sessions.{SessionsStay}
 use Rattle.tpm_step.specs.rows.Shapes.{AnswersItsShape}
 use Rattle.tpm_step.specs.rows.Sizes.{AreSized, IsSized}
-use Rattle.tpm_step.proofs.Binding.{ok_bind, ok_bind_is, ok_then, some_is}
+use Rattle.tpm_step.proofs.rows.Binding.{ok_bind, ok_bind_is, ok_then, some_is}
 use Rattle.tpm_step.proofs.rows.Order.{late_found, ordered_steps}
 use Rattle.tpm_step.proofs.rows.Parts.{same_sessions}
 use Rattle.tpm_step.proofs.rows.PlainSteps.{plain_steps}
@@ -53,7 +53,7 @@ use Rattle.tpm_row_secrecy.proofs.PolicyRows as policy_secrets
 
 -- ---- how the rows of policies refuse
 
--- If a handle has the type of a policy session, and its entity exists, it names a session.
+-- A handle with the type of a policy session names a session, if its entity exists.
 session_there : (type : ℕ) (session other : Bool) → (type == 0x03) ≡ true
     → (if (type == 0x02 || type == 0x03) then session else other) ≡ true → session ≡ true
 session_there type session other kind present = grind (arith, nat_tests)

@@ -32,8 +32,7 @@ nonce_few hash size is =
     let most = leb-true size (digest_size hash) (both (nat_le 16 size) (nat_le size (digest_size hash)) is).1 in
     omega (arith, most, digest_few hash)
 
--- if a list has at least 32 bytes, its first `size` bytes are a nonce, provided that a nonce may
--- have this size
+-- the first `size` bytes of a list of at least 32 bytes are a nonce, if a nonce may have this size
 pub nonce_taken : (hash : HashAlg) (size : ℕ) (bytes : List ℕ) → is_nonce_size hash size ≡ true → 32 ≤ length bytes → is_nonce_size hash (length (take size bytes)) ≡ true
 nonce_taken hash size bytes is enough =
     subst (λ (n : ℕ). is_nonce_size hash n ≡ true) (sym (length-take-le size bytes (omega (arith, nonce_few hash size is, enough)))) is

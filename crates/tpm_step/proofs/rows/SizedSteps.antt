@@ -19,18 +19,18 @@ use Rattle.tpm_record.specs.Tick.{ticked}
 use Rattle.tpm_auth.specs.Entries.{session_of}
 use Rattle.tpm_auth.specs.Grant.{authorize}
 use Rattle.tpm_auth.specs.declared.session_grant.Grant.{Grant}
-use Rattle.tpm_step.specs.Answer.{Written, answer_to, written_of}
-use Rattle.tpm_step.specs.Entries.{draw_of, entries_ended, entries_rolled, entry_ended, entry_restarted, entry_rolled, restarted_by}
-use Rattle.tpm_step.specs.Events.{PlainEvent, Given, Cycled, Placed, IsEvent}
-use Rattle.tpm_step.specs.General.{general}
-use Rattle.tpm_step.specs.Granted.{Granted, granted_entries}
-use Rattle.tpm_step.specs.Run.{after_all, Runs}
-use Rattle.tpm_step.specs.Step.{Accepted, acceptance, accepted, answer_where, request_in, refusal_without_memory, step, step_where, success_step, Stepped, Steps, outcome_step}
-use Rattle.tpm_step.specs.Table.{row_of}
+use Rattle.tpm_step.specs.step.Answer.{Written, answer_to, written_of}
+use Rattle.tpm_step.specs.step.Entries.{draw_of, entries_ended, entries_rolled, entry_ended, entry_restarted, entry_rolled, restarted_by}
+use Rattle.tpm_step.specs.step.Events.{PlainEvent, Given, Cycled, Placed, IsEvent}
+use Rattle.tpm_step.specs.step.General.{general}
+use Rattle.tpm_step.specs.step.Granted.{Granted, granted_entries}
+use Rattle.tpm_step.specs.step.Run.{after_all, Runs}
+use Rattle.tpm_step.specs.step.Step.{Accepted, acceptance, accepted, answer_where, request_in, refusal_without_memory, step, step_where, success_step, Stepped, Steps, outcome_step}
+use Rattle.tpm_step.specs.step.Table.{row_of}
 use Rattle.tpm_step.specs.declared.refused_command.RefusedCommand.{RefusedCommand}
 use Rattle.std.specs.List.{AllByRecursion}
 use Rattle.std.specs.Fn.{Mut}
-use Rattle.tpm_step.specs.Execution.{Executes}
+use Rattle.tpm_step.specs.step.Execution.{Executes}
 use Rattle.tpm_step.specs.declared.event.Outcome.{Outcome}
 use Rattle.tpm_record.specs.rows.Request.{Request}
 use Rattle.tpm_record.specs.rows.Rows.{Success}
@@ -39,7 +39,7 @@ use Rattle.tpm_commands.specs.declared.command_code.CommandCode.{CommandCode}
 use Rattle.tpm_step.proofs.rows.Draws.{general_few}
 use Rattle.tpm_step.specs.rows.Sizes.{AreSized, IsSized}
 use Rattle.tpm_step.proofs.rows.AllPlaces.{all_changed, all_found, all_free}
-use Rattle.tpm_step.proofs.Binding.{ok_bind, ok_then, ok_in_command}
+use Rattle.tpm_step.proofs.rows.Binding.{ok_bind, ok_then, ok_in_command}
 use Rattle.tpm_policy.proofs.Sizes.{starting_sized}
 use Rattle.tpm_step.proofs.rows.SizedParts.{nonce_few, nonce_taken}
 use Rattle.tpm_step.proofs.rows.SessionPlaces.{flushed_all, policy_all}

@@ -11,13 +11,13 @@ use Rattle.tpm_record.specs.rows.Rows.{Success, only}
 use Rattle.tpm_actions_device.specs.Startup.{start_of, started_record, startup_row}
 use Rattle.tpm_actions_device.specs.declared.startup.Start.{Start}
 use Rattle.tpm_actions_device.specs.declared.startup.Start.TheVariants.{Reset}
-use Rattle.tpm_step.specs.Step.{Accepted, success_step}
-use Rattle.tpm_step.specs.Table.{row_of}
+use Rattle.tpm_step.specs.step.Step.{Accepted, success_step}
+use Rattle.tpm_step.specs.step.Table.{row_of}
 use Rattle.tpm_step.specs.rows.Acceptance.{IsAcceptance, IsDue}
 use Rattle.tpm_step.specs.rows.Footprint.{Touches}
 use Rattle.tpm_commands.specs.Part.{Part, AuthValues, Beginning}
 use Rattle.tpm_commands.specs.CommandCode.{part_of}
-use Rattle.tpm_step.proofs.Binding.{ok_at, ok_bind, ok_weaker}
+use Rattle.tpm_step.proofs.rows.Binding.{ok_at, ok_bind, ok_weaker}
 use Rattle.tpm_step.proofs.rows.Table.{row_touches}
 use Rattle.tpm_step.proofs.rows.Leaving.{success_leaves}
 

@@ -13,7 +13,7 @@ use Rattle.tpm_step.specs.rows.IndexChanges.{ChangesIndices}
 use Rattle.tpm_step.specs.rows.RowLaws.{SuccessLaws}
 use Rattle.tpm_step.specs.rows.Shapes.{AnswersItsShape, Grows, GrowsAsShaped}
 use Rattle.tpm_step.specs.rows.Sizes.{IsSized}
-use Rattle.tpm_step.proofs.Binding.{ok_bind}
+use Rattle.tpm_step.proofs.rows.Binding.{ok_bind}
 use Rattle.tpm_step.proofs.rows.Parts.{keeps_places, leaves_sessions, sessions_same}
 use Rattle.tpm_step.proofs.rows.Parts.{touched_grows, touched_same}
 

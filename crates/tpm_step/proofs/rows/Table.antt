@@ -11,8 +11,8 @@ use Rattle.tpm_record.specs.rows.Rows.{Success}
 use Rattle.tpm_row_secrecy.specs.Alike.{Same}
 use Rattle.tpm_row_secrecy.specs.Reads.{reads_secret}
 use Rattle.tpm_row_secrecy.specs.Secrecy.{CoversKeys, Secrecy, without_secrets}
-use Rattle.tpm_step.specs.General.{is_startup}
-use Rattle.tpm_step.specs.Table.{row_of}
+use Rattle.tpm_step.specs.step.General.{is_startup}
+use Rattle.tpm_step.specs.step.Table.{row_of}
 use Rattle.tpm_step.specs.rows.Draws.{draws_of}
 use Rattle.tpm_step.specs.rows.Footprint.{Touches}
 use Rattle.tpm_step.specs.rows.Handles.{HandlesFit}
@@ -23,7 +23,7 @@ use Rattle.tpm_step.specs.rows.RowLaws.{RowLaws, SuccessLaws}
 use Rattle.tpm_step.specs.rows.Sessions.{SessionsStay}
 use Rattle.tpm_step.specs.rows.Shapes.{AnswersItsShape, GrowsAsShaped, ReadsParameters, spelled}
 use Rattle.tpm_step.specs.rows.Sizes.{AreSized}
-use Rattle.tpm_step.proofs.Binding.{ok_weaker}
+use Rattle.tpm_step.proofs.rows.Binding.{ok_weaker}
 use Rattle.tpm_step.proofs.rows.CapabilityRows as capability
 use Rattle.tpm_step.proofs.rows.DeviceRows as device
 use Rattle.tpm_step.proofs.rows.IndexRows as nv
@@ -94,8 +94,7 @@ pub row_touches : (r : Record) (c : CommandCode) (q : Request)
     → IfOk (row_of r c q) (λ s. Touches (part_of c) r s.after)
 row_touches r c q = of_success _ r c q (λ s laws. laws.touches)
 
--- a success changes the NV indices only as allowed for the part of the state that its command
--- changes
+-- each success changes the NV indices only as `ChangesIndices` allows for its command
 pub row_changes : (r : Record) (c : CommandCode) (q : Request)
     → IfOk (row_of r c q) (λ s. ChangesIndices (part_of c) q r.nv s.after.nv)
 row_changes r c q = of_success _ r c q (λ s laws. laws.changes)
@@ -124,8 +123,7 @@ pub row_sized : (r : Record) (c : CommandCode) (q : Request) → 32 ≤ length q
     → IfOk (row_of r c q) (λ s. AreSized s.after)
 row_sized r c q enough sized = of_success _ r c q (λ s laws. laws.sized enough sized)
 
--- if a command changes a part of the state without sessions, its success leaves the sessions
--- unchanged
+-- a success leaves the sessions unchanged, if the part that its command changes contains no session
 pub row_same : (r : Record) (c : CommandCode) (q : Request) → leaves_sessions (part_of c) ≡ true
     → IfOk (row_of r c q) (λ s. s.after.sessions ≡ r.sessions)
 row_same r c q leaves =

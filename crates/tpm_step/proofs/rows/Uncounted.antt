@@ -8,10 +8,10 @@ use Rattle.tpm_types_command.specs.declared.header.Header.{Header}
 use Rattle.tpm_types_command.specs.declared.header.HeaderFault.{HeaderFault}
 use Rattle.tpm_types_command.specs.declared.tag.Tag.{Tag}
 use Rattle.tpm_record.specs.Record.{Record}
-use Rattle.tpm_step.specs.General.{body_of, general, in_command, in_header, sessions_pass}
+use Rattle.tpm_step.specs.step.General.{body_of, general, in_command, in_header, sessions_pass}
 use Rattle.tpm_step.specs.declared.refused_command.RefusedCommand.{RefusedCommand}
 use Rattle.tpm_step.specs.rows.Order.{IsPlain, Plain}
-use Rattle.tpm_step.proofs.Binding.{err_bind, err_checked, err_if}
+use Rattle.tpm_step.proofs.rows.Binding.{err_bind, err_checked, err_if}
 
 header_plain : (x : Result (Header × List ℕ) HeaderFault) → IfErr (in_header x) (λ e. IsPlain e.refused)
 header_plain (Ok header) = tt

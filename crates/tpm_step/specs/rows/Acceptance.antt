@@ -5,8 +5,8 @@ use Rattle.tpm_commands.specs.declared.command_code.CommandCode.{CommandCode}
 use Rattle.tpm_commands.specs.declared.command_code.CommandCode.TheVariants as command
 use Rattle.tpm_record.specs.Record.{Record}
 use Rattle.tpm_auth.specs.Grant.{authorize}
-use Rattle.tpm_step.specs.Step.{Accepted, request_in}
-use Rattle.tpm_step.specs.Table.{row_of}
+use Rattle.tpm_step.specs.step.Step.{Accepted, request_in}
+use Rattle.tpm_step.specs.step.Table.{row_of}
 use Rattle.tpm_step.specs.rows.Handles.{HandlesFit}
 
 -- The device is in the right mode for the command: not started for TPM2_Startup, and started for

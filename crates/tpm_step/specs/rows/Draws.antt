@@ -16,7 +16,7 @@ use Rattle.tpm_record.specs.rows.Request.{Request}
 use Rattle.tpm_record.specs.rows.Rows.{Success, only}
 use Rattle.tpm_actions_device.specs.StartAuthSession.{parameters_in as session_parameters}
 use Rattle.tpm_actions_object.specs.Creation.{parameters_in as creation_parameters}
-use Rattle.tpm_step.specs.General.{is_startup}
+use Rattle.tpm_step.specs.step.General.{is_startup}
 
 -- the count for these parameters, or 0 if they could not be parsed
 abbrev pub read_or_none : {P : Type 0} → (P → ℕ) → Result P Refused → ℕ

@@ -22,8 +22,8 @@ IsLate Fit _ = ⊥
 abbrev pub Late : {X : Type 0} → Type 0 → Result X Refused → Type 0
 Late Fit row = IfErr row (λ e. IsLate Fit e.check)
 
--- The refusal is one of these: the check of handles fails, and a handle does not fit its rule; the
--- parameters have this fault; or all parameters could be parsed, and a late check fails.
+-- The row may refuse in three ways: by the check of handles, if a handle does not fit its rule;
+-- with the fault of the parameters; or by a late check, if all parameters could be parsed.
 abbrev pub IsInPlace : Type 0 → Result (Unit {0}) Refused → Refused → Type 0
 IsInPlace Fit spelling e =
     ((e.check ≡ check.Handles) × (Fit → ⊥))
@@ -44,6 +44,6 @@ pub record Orders {X : Type 0} (r : Record) (rules : List HandleRule) (handles :
 abbrev pub IsPlain : Refused → Type 0
 IsPlain e = e.counted ≡ counted.None
 
--- If the result is a refusal, it neither counts as a failed try nor disables lockoutAuth.
+-- The result is not a refusal that counts as a failed try or disables lockoutAuth.
 abbrev pub Plain : {X : Type 0} → Result X Refused → Type 0
 Plain result = IfErr result IsPlain

@@ -4,7 +4,7 @@ use Rattle.tpm_types.specs.declared.check.Check.{Check}
 use Rattle.tpm_types.specs.declared.check.Check.TheVariants as check
 use Rattle.tpm_types.specs.declared.refused.Refused.{Refused}
 
--- If the result is a refusal, it is not by this check.
+-- The result is not a refusal by this check.
 abbrev pub Passes : {X : Type 0} → Check → Result X Refused → Type 0
 Passes check result = IfErr result (λ e. e.check ≢ check)
 

@@ -12,10 +12,11 @@ use Rattle.tpm_types.specs.declared.check.Check.{Check}
 abbrev pub row_of : Answer → Row
 row_of a = record { code = a.code; check = a.check }
 
--- The number is 0, or the number of a command. `IsCheck` is the same for checks.
+-- The number is 0, or the number of a command.
 abbrev pub IsCode : ℕ → Type 0
 IsCode number = (number ≡ 0) ⊎ ((code : CommandCode) × (number ≡ code_number code))
 
+-- The number is 0, or the number of a check.
 abbrev pub IsCheck : ℕ → Type 0
 IsCheck number = (number ≡ 0) ⊎ ((check : Check) × (number ≡ check_number check))
 

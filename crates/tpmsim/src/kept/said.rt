@@ -13,8 +13,8 @@ use tpm_state_text::{RestoreFault, StateFault};
 use tpm_step::Outcome;
 use tpmsim_folder::Said;
 
-/// Returns why these bytes cannot be opened as a journal. If they can, returns `Damaged`, since an
-/// earlier attempt found the journal damaged.
+/// Returns why these bytes cannot be opened as a journal. If they can be opened, returns `Damaged`,
+/// since an earlier attempt found the journal damaged.
 pub fn said_of_text(alloc: Global, text: &[u8]) -> Said
     ensures { IsSaidOf text.now result }
 {

@@ -9,7 +9,7 @@ use tpm_wire::connection::Connection;
 use tpm_wire::reading::fill;
 use tpmsim_folder::KeptFault;
 
-/// The largest number of reads that return bytes, for one connection.
+/// The largest number of nonempty reads for one connection.
 const READS: u32 = 1_048_576;
 
 /// Why a connection was not served to its end.

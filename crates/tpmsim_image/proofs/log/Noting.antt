@@ -7,8 +7,8 @@ use Rattle.tpmsim_image.specs.log.Log.{Adds, AddsSome, Written}
 use Rattle.tpm_machine.specs.Drawn.{drawn_by}
 use Rattle.tpm_record.specs.Record.{Record}
 use Rattle.tpm_machine.specs.Latest.{IsLatest}
-use Rattle.tpm_step.specs.Events.{PlainEvent}
-use Rattle.tpm_step.specs.Step.{Stepped}
+use Rattle.tpm_step.specs.step.Events.{PlainEvent}
+use Rattle.tpm_step.specs.step.Step.{Stepped}
 use Rattle.tpm_step.specs.declared.event.Outcome.{Outcome}
 
 entry_latest : (now : Record) (drawn : ℕ) (event : PlainEvent) (outcome : Outcome) (one : Execution) → IsLatest now drawn event outcome one → entry_in one ≡ entry_by event drawn outcome.response.items

@@ -1,6 +1,6 @@
 -- The entry that a log contains for an execution.
 use Rattle.std.specs.Prelude.{ℕ, ◌&&◌, nat_le, Bool, false, List, length, take, Option, Some, None}
-use Rattle.tpm_step.specs.Events.{PlainEvent, Given, Cycled, Placed}
+use Rattle.tpm_step.specs.step.Events.{PlainEvent, Given, Cycled, Placed}
 use Rattle.tpm_machine.specs.Executions.{Execution}
 use Rattle.tpm_machine.specs.Drawn.{drawn_by}
 use Rattle.tpm_journal_text.specs.Sum.{sum_of}

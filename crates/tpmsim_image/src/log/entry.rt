@@ -3,7 +3,7 @@
 ghost use Rattle.std.specs.Prelude.{◌≡◌, IfSome, None, Some, false, take};
 ghost use Rattle.tpm_journal_text.specs.Entry.{IsEntry, plain_entry};
 ghost use Rattle.tpmsim_image.specs.log.Executed.{entry_by, fits_entry, has_entry};
-ghost use Rattle.tpm_step.specs.Events.{plain_event};
+ghost use Rattle.tpm_step.specs.step.Events.{plain_event};
 ghost use Rattle.tpm_types.specs.Locality.{locality_number};
 
 use tpm_journal_text::{ENTRY_LIMIT, Entry, sum_of};

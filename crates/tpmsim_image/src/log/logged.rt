@@ -5,7 +5,7 @@ ghost use Rattle.tpm_machine.specs.Executions.{Execution};
 ghost use Rattle.tpmsim_image.specs.log.Log.{AddsWhereKept, log_failed};
 ghost use Rattle.tpm_machine.specs.State.{latest_drawn, state_of};
 ghost use Rattle.tpm_machine.specs.Latest.{IsLatest};
-ghost use Rattle.tpm_step.specs.Events.{plain_event};
+ghost use Rattle.tpm_step.specs.step.Events.{plain_event};
 
 use crate::log::Log;
 use std::io::Write;

@@ -1,5 +1,5 @@
--- A holder owns the box of its device, or nothing if it is null. With these lemmas, proofs take
--- holders apart and make them.
+-- A holder owns the box of its device, or nothing if it is null. These lemmas take holders apart
+-- and build them.
 use mathlib.Core.List.{List, [], ◌∷◌}
 use mathlib.Core.Path.{◌≡◌, refl}
 use Prim.Native.Nat.{ℕ}

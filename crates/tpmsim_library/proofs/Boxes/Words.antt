@@ -36,8 +36,7 @@ heap_word alloc = global_laws.lowered alloc
 abbrev pub word : Ptr → Global → Val
 word at alloc = vstruct (vcons (ptr_val at) (vcons (heap_word alloc) vnil))
 
--- an allocator is represented by this machine word, and by no other; it owns nothing except this
--- fact
+-- exactly this machine word represents an allocator, which owns nothing
 pub heap_is : (alloc : Global) → Is Heap alloc (heap_word alloc ∷ [])
 heap_is alloc = ((vstruct (vcons vunit vnil) ∷ [], tt), (refl, (((vunit ∷ [], tt), (refl, (refl, tt))), tt)))
 

@@ -45,8 +45,7 @@ source_word alloc = lent_laws.lowered alloc
 abbrev pub word : Ptr → Lent → Val
 word at alloc = vstruct (vcons (ptr_val at) (vcons (source_word alloc) vnil))
 
--- an allocator is represented by this machine word, and by no other; it owns nothing except this
--- fact
+-- exactly this machine word represents an allocator, which owns nothing
 pub source_is : (alloc : Lent) → Is Source alloc (source_word alloc ∷ [])
 source_is alloc = (tt, (refl, tt))
 

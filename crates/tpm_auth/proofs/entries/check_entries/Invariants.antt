@@ -3,8 +3,7 @@ use Rattle.tpm_types_command.specs.AuthEntry.{entry_of}
 use Rattle.tpm_auth.specs.Entries.{entries_pass}
 use Rattle.tpm_auth.proofs.entries.check_entries.Given as goal
 
--- Checking the remaining entries, after those already checked, gives the same result as checking
--- all entries.
+-- Checking the remaining entries gives the same result as checking all entries.
 abbrev pub invariant-loop-index : goal.invariant-loop-index
 invariant-loop-index g l =
     let r = g.K.Keep.record_of l.keep in

@@ -1,4 +1,4 @@
-use Rattle.tpm_step.specs.Events.{plain_event}
+use Rattle.tpm_step.specs.step.Events.{plain_event}
 use Rattle.tpm_completion.specs.Execution.{seen_of}
 use Rattle.tpm_completion.proofs.Exactly.{completes_by_cases, exactly}
 use Rattle.tpm_completion.proofs.execution.execute.Goals as goal

@@ -1,7 +1,7 @@
 use Rattle.std.proofs.Common.{◌≡◌, ℕ, List, Option, ap, replicate, subst, ◌∙◌}
 use Rattle.std.specs.Prelude.{◌==◌}
 use Rattle.tpm_machine.specs.State.{state_of}
-use Rattle.tpm_step.specs.Events.{Given, PlainEvent, plain_event}
+use Rattle.tpm_step.specs.step.Events.{Given, PlainEvent, plain_event}
 use Rattle.tpm_step.specs.declared.event.Event.{Event}
 use Rattle.tpm_types.specs.Locality.{locality_number}
 use Rattle.tpm_completion.specs.Execution.{Passes, Seen, seen_of}

@@ -4,12 +4,12 @@ use Rattle.std.specs.Result.{IsOk, OnOk}
 use Rattle.sha2.specs.Sha256.{digest_bytes}
 use Rattle.tpm_hash_state.proofs.digest.words_text.Goals as goal
 
--- what is known of a success
+-- if a call succeeded, its condition on success holds
 on_ok : {T E Q : Type 0} (r : Result T E) → IsOk r → OnOk r Q → Q
 on_ok (Ok v) is fact = fact
 on_ok (Err e) is fact = cc
 
--- one more word
+-- appending the bytes of one more word
 bytes_more : (words items bytes new : List ℕ) (i : ℕ) → items ≡ digest_bytes words i → length items ≡ 4 * i
     → bytes ≡ to_be_bytes w32 (slice_index words i) → new ≡ items ++ bytes
     → (new ≡ digest_bytes words (i + 1)) × (length new ≡ 4 * (i + 1))

@@ -1,7 +1,7 @@
 use Rattle.std.proofs.Common.{◌≡◌, ◌+◌, ◌≤◌, drop, length}
 use Rattle.tpm_bytes.specs.Many.{each_at}
 use Rattle.tpm_bytes.proofs.Joining.{behind}
-use Rattle.tpm_step.specs.General.{present_handle_at}
+use Rattle.tpm_step.specs.step.General.{present_handle_at}
 use Rattle.tpm_machine.proofs.decoding.read_handles.Given as goal
 
 -- The handles read so far, together with the handles that remain to be read, are all handles of the

@@ -1,6 +1,6 @@
 use Rattle.std.proofs.Common.{◌≡◌, ◌+◌, ◌*◌, ◌≤◌, drop, length, map}
 use Rattle.tpm_types_command.specs.AuthEntry.{entry_of}
-use Rattle.tpm_step.specs.Entries.{entries_rolled}
+use Rattle.tpm_step.specs.step.Entries.{entries_rolled}
 use Rattle.tpm_machine.proofs.entries.roll_entries.Given as goal
 
 -- Drawing nonces for the remaining entries in the current state has the same result as drawing

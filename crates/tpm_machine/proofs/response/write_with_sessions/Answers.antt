@@ -3,7 +3,7 @@ use Rattle.std.proofs.lemmas.Grind.{common_steps}
 use Rattle.std.specs.List.{zip}
 use Rattle.tpm_types_command.specs.AuthEntry.{entry_of}
 use Rattle.tpm_types_command.specs.Command.{whole_of}
-use Rattle.tpm_step.specs.Answer.{text_of}
+use Rattle.tpm_step.specs.step.Answer.{text_of}
 use Rattle.tpm_machine.proofs.Answering.{answered_with, drawn_few, drawn_in_all}
 use Rattle.tpm_machine.proofs.response.write_with_sessions.Goals as goal
 

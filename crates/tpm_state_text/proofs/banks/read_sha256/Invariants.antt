@@ -3,7 +3,7 @@ use Rattle.tpm_state_text.specs.Banks.{bank_in}
 use Rattle.tpm_state_text.proofs.Loops.{bank_left}
 use Rattle.tpm_state_text.proofs.banks.read_sha256.Given as goal
 
--- The values read so far, followed by those still to be read, are the whole list.
+-- The values read so far, followed by the unread values, are the whole list.
 abbrev pub invariant-loop-place : goal.invariant-loop-place
 invariant-loop-place l = record {
   joined : bank_left 32 l.place l.banks.sha256 l.ahead ≡ bank_in 32 l.fn.text;

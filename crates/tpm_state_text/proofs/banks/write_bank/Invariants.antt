@@ -2,7 +2,7 @@ use Rattle.std.proofs.Common.{◌≡◌, ◌+◌, ◌*◌, ◌++◌, drop, lengt
 use Rattle.tpm_state_text.specs.Banks.{bank_text}
 use Rattle.tpm_state_text.proofs.banks.write_bank.Given as goal
 
--- The values written so far, followed by those still to be written, are the whole list.
+-- The values written so far, followed by the unwritten values, are the whole list.
 abbrev pub invariant-loop-value : goal.invariant-loop-value
 invariant-loop-value g l = record {
   written : l.text ++ bank_text (drop l.value-index l.values) ≡ l.fn.text ++ bank_text l.values;

@@ -6,8 +6,8 @@ use Rattle.tpm_state_text.specs.Objects.{transients_in}
 use Rattle.tpm_state_text.proofs.Loops.{IsFreeFrom, left}
 use Rattle.tpm_state_text.proofs.objects.read_transients.Given as goal
 
--- The slots read so far, followed by those still to be read, are the whole list. All later slots
--- are free.
+-- The slots read so far, followed by the unread slots, are the whole list. All later slots are
+-- still free.
 abbrev pub invariant-loop-place : goal.invariant-loop-place
 invariant-loop-place g l = record {
   joined : left (optional_in object_fields_in) 8 l.place (objects_of g.O.Slots.places l.objects) l.text ≡ transients_in l.fn.text;

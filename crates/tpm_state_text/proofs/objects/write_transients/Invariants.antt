@@ -4,7 +4,7 @@ use Rattle.tpm_image_text.specs.Body.{object_fields_text}
 use Rattle.tpm_state_text.specs.Places.{places_text}
 use Rattle.tpm_state_text.proofs.objects.write_transients.Given as goal
 
--- The slots written so far, followed by those still to be written, are the whole list.
+-- The slots written so far, followed by the unwritten slots, are the whole list.
 abbrev pub invariant-loop-place : goal.invariant-loop-place
 invariant-loop-place g l = record {
   written : l.text ++ places_text object_fields_text (drop l.place (objects_of g.O.Slots.places l.objects)) ≡ l.fn.text ++ places_text object_fields_text (objects_of g.O.Slots.places l.objects);

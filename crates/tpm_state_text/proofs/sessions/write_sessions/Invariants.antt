@@ -4,7 +4,7 @@ use Rattle.tpm_state_text.specs.Sessions.{session_text}
 use Rattle.tpm_state_text.specs.Places.{places_text}
 use Rattle.tpm_state_text.proofs.sessions.write_sessions.Given as goal
 
--- The slots written so far, followed by those still to be written, are the whole list.
+-- The slots written so far, followed by the unwritten slots, are the whole list.
 abbrev pub invariant-loop-place : goal.invariant-loop-place
 invariant-loop-place g l = record {
   written : l.text ++ places_text session_text (drop l.place (places_of g.S.Slots.places l.sessions)) ≡ l.fn.text ++ places_text session_text (places_of g.S.Slots.places l.sessions);

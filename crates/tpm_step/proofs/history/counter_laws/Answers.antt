@@ -1,4 +1,4 @@
-use Rattle.tpm_step.proofs.DeviceCounters.{begins_above, exceeds_earlier, keeps_counter}
+use Rattle.tpm_step.proofs.history.DeviceCounters.{begins_above, exceeds_earlier, keeps_counter}
 use Rattle.tpm_step.proofs.history.counter_laws.Goals as goal
 
 pub returns-clause-keeps : goal.returns-clause-keeps

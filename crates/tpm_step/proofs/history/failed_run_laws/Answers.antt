@@ -1,4 +1,4 @@
-use Rattle.tpm_step.proofs.FailedRun.{failed_run_is}
+use Rattle.tpm_step.proofs.history.FailedRun.{failed_run_is}
 use Rattle.tpm_step.proofs.history.failed_run_laws.Goals as goal
 
 pub returns : goal.returns

@@ -1,4 +1,4 @@
-use Rattle.tpm_step.proofs.FailedTries.{execution_tells, try_tells}
+use Rattle.tpm_step.proofs.history.FailedTries.{execution_tells, try_tells}
 use Rattle.tpm_step.proofs.history.failed_try_laws.Goals as goal
 
 pub returns-clause-exactly : goal.returns-clause-exactly

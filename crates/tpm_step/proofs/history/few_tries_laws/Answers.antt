@@ -1,4 +1,4 @@
-use Rattle.tpm_step.proofs.FewTries.{fails_few, fails_within, one_more}
+use Rattle.tpm_step.proofs.history.FewTries.{fails_few, fails_within, one_more}
 use Rattle.tpm_step.proofs.history.few_tries_laws.Goals as goal
 
 pub returns-clause-sharply : goal.returns-clause-sharply

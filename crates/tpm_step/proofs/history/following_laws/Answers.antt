@@ -1,4 +1,4 @@
-use Rattle.tpm_step.proofs.Following.{cycled_follows, execution_follows, manufactured_follows}
+use Rattle.tpm_step.proofs.history.Following.{cycled_follows, execution_follows, manufactured_follows}
 use Rattle.tpm_step.proofs.history.following_laws.Goals as goal
 
 pub returns-clause-manufactured : goal.returns-clause-manufactured

@@ -1,4 +1,4 @@
-use Rattle.tpm_step.proofs.Following.{grounds_manufactured}
+use Rattle.tpm_step.proofs.history.Following.{grounds_manufactured}
 use Rattle.tpm_step.proofs.history.grounds_laws.Goals as goal
 
 pub returns : goal.returns

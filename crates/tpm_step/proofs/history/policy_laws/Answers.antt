@@ -1,4 +1,4 @@
-use Rattle.tpm_step.proofs.PolicyLaws.{as_written, its_command, pcrs_as_they_are, quiet_values}
+use Rattle.tpm_step.proofs.uses.PolicyLaws.{as_written, its_command, pcrs_as_they_are, quiet_values}
 use Rattle.tpm_step.proofs.history.policy_laws.Goals as goal
 
 pub returns-clause-pcrs : goal.returns-clause-pcrs

@@ -1,4 +1,4 @@
-use Rattle.tpm_step.proofs.PolicyReviews.{each_is_written_once, each_needs_count, each_needs_its_policy, each_needs_pcrs, each_needs_pcrs_and_pin, each_needs_pin_or_secret}
+use Rattle.tpm_step.proofs.uses.PolicyReviews.{each_is_written_once, each_needs_count, each_needs_its_policy, each_needs_pcrs, each_needs_pcrs_and_pin, each_needs_pin_or_secret}
 use Rattle.tpm_step.proofs.history.policy_review_laws.Goals as goal
 
 pub returns-clause-every : goal.returns-clause-every

@@ -1,4 +1,4 @@
-use Rattle.tpm_step.proofs.Following.{replays_manufactured}
+use Rattle.tpm_step.proofs.history.Following.{replays_manufactured}
 use Rattle.tpm_step.proofs.history.replay_laws.Goals as goal
 
 pub returns : goal.returns

@@ -1,4 +1,4 @@
-use Rattle.tpm_step.proofs.FewTries.{reset_is, resets_so}
+use Rattle.tpm_step.proofs.history.FewTries.{reset_is, resets_so}
 use Rattle.tpm_step.proofs.history.reset_laws.Goals as goal
 
 pub returns : goal.returns

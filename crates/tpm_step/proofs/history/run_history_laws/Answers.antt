@@ -1,4 +1,4 @@
-use Rattle.tpm_step.proofs.Following.{run_follows, told_runs}
+use Rattle.tpm_step.proofs.history.Following.{run_follows, told_runs}
 use Rattle.tpm_step.proofs.history.run_history_laws.Goals as goal
 
 pub returns-clause-follows : goal.returns-clause-follows

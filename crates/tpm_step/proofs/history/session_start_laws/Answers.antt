@@ -1,4 +1,4 @@
-use Rattle.tpm_step.proofs.SessionStarts.{starts_new}
+use Rattle.tpm_step.proofs.history.SessionStarts.{starts_new}
 use Rattle.tpm_step.proofs.history.session_start_laws.Goals as goal
 
 pub returns : goal.returns

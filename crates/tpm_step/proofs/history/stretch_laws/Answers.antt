@@ -1,5 +1,5 @@
-use Rattle.tpm_step.proofs.Placing.{placing_leads}
-use Rattle.tpm_step.proofs.PowerCycles.{leads_on, leads_too, power_cycle_leads}
+use Rattle.tpm_step.proofs.step.Placing.{placing_leads}
+use Rattle.tpm_step.proofs.step.PowerCycles.{leads_on, leads_too, power_cycle_leads}
 use Rattle.tpm_step.proofs.history.stretch_laws.Goals as goal
 
 pub returns-clause-power_cycle : goal.returns-clause-power_cycle

@@ -1,4 +1,4 @@
-use Rattle.tpm_step.proofs.Views.{recorded_views, views_tell}
+use Rattle.tpm_step.proofs.history.Views.{recorded_views, views_tell}
 use Rattle.tpm_step.proofs.history.view_laws.Goals as goal
 
 pub returns-clause-tell : goal.returns-clause-tell

@@ -2,9 +2,9 @@ use Rattle.std.proofs.Common.{sym, ap, subst, ◌∙◌, ◌≡◌, false}
 use Rattle.std.specs.declared.option.Option.TheVariants.{Some}
 use Rattle.tpm_machine.specs.Follows.{After, Follows}
 use Rattle.tpm_machine.specs.Drawn.{drawn_by}
-use Rattle.tpm_step.specs.Events.{Given, plain_event}
-use Rattle.tpm_step.specs.Execution.{Executes}
-use Rattle.tpm_step.specs.Step.{Stepped}
+use Rattle.tpm_step.specs.step.Events.{Given, plain_event}
+use Rattle.tpm_step.specs.step.Execution.{Executes}
+use Rattle.tpm_step.specs.step.Step.{Stepped}
 use Rattle.tpm_step.specs.declared.event.Row.{Row}
 use Rattle.tpm_text.specs.Trace.{trace_text}
 use Rattle.std.specs.Prelude.{take}

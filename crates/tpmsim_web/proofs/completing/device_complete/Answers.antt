@@ -1,7 +1,7 @@
 use Rattle.std.proofs.Common.{sym, ap, subst, ◌∙◌, ◌≡◌, false, true}
 use Rattle.std.specs.declared.option.Option.TheVariants.{Some}
 use Rattle.tpm_completion.specs.Execution.{CompletesIf}
-use Rattle.tpm_step.specs.Events.{Given, plain_event}
+use Rattle.tpm_step.specs.step.Events.{Given, plain_event}
 use Rattle.tpmsim_web.specs.Journal.{seen_in}
 use Rattle.tpmsim_web.specs.State.{record_of}
 use Rattle.tpmsim_web.proofs.completing.device_complete.Goals as goal

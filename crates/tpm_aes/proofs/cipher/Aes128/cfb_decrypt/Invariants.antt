@@ -3,7 +3,8 @@ use Rattle.tpm_aes.proofs.TextBlocks.{IsDoneTo}
 use Rattle.tpm_aes.proofs.cipher.Aes128.cfb_decrypt.Given as goal
 use Rattle.tpm_aes.specs.Cfb.{block_before, plain_block}
 
--- the blocks before this index are decrypted; the last of them, if it was full, is fed back
+-- The blocks before this index are decrypted. The feedback is the ciphertext block before this
+-- index (at first the IV), unless that block was short.
 abbrev pub invariant-loop-index : goal.invariant-loop-index
 invariant-loop-index l =
     IsDoneTo (plain_block l.self l.iv l.initial.text) l.initial.text l.text l.index

@@ -1,8 +1,8 @@
 use Rattle.std.proofs.Common.{drop, map}
 use denote.Param.Always.{always_mut}
 use Rattle.tpm_record.specs.Record.{Record}
-use Rattle.tpm_step.specs.Events.{plain_event}
-use Rattle.tpm_step.specs.Run.{Runs}
+use Rattle.tpm_step.specs.step.Events.{plain_event}
+use Rattle.tpm_step.specs.step.Run.{Runs}
 use Rattle.tpm_machine.proofs.machine.Machine.execute_all.Given as goal
 
 -- If a run executes the remaining events from the current state, then a run executes all events

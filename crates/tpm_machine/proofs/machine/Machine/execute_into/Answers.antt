@@ -1,11 +1,11 @@
-use Rattle.tpm_step.specs.Events.{plain_event}
+use Rattle.tpm_step.specs.step.Events.{plain_event}
 use Rattle.tpm_machine.specs.State.{state_of}
 use Rattle.tpm_machine.proofs.Histories.{follows_on}
 use Rattle.tpm_machine.proofs.Modesty.{accepts_modestly}
 use Rattle.tpm_machine.proofs.Refusals.{steps_harmless}
 use Rattle.tpm_machine.proofs.Running.{exactly}
-use Rattle.tpm_step.specs.Execution.{Executes}
-use Rattle.tpm_step.specs.Step.{Stepped}
+use Rattle.tpm_step.specs.step.Execution.{Executes}
+use Rattle.tpm_step.specs.step.Step.{Stepped}
 use Rattle.tpm_machine.proofs.machine.Machine.execute_into.Goals as goal
 
 pub returns : goal.returns

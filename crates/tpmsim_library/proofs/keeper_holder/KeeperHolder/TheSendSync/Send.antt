@@ -1,4 +1,4 @@
--- A holder may be moved to another thread, because the box of its keeper may.
+-- A holder may be moved to another thread, because the box of its keeper may be moved.
 use mir.Raw.{raw}
 use base.Shift.{Keyless}
 use base.Fraction.{full_share}

@@ -1,6 +1,6 @@
 use Rattle.std.proofs.Common.{ap}
 use Rattle.tpm_machine.specs.State.{state_of}
-use Rattle.tpm_step.specs.Step.{outcome_step}
+use Rattle.tpm_step.specs.step.Step.{outcome_step}
 use Rattle.tpmsim_script.specs.Player.{playing_of}
 use Rattle.tpmsim_script.proofs.Doing.{cycled}
 use Rattle.tpmsim_script.proofs.player.Player.cycle_power.Goals as goal

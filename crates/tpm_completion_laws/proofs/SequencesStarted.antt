@@ -1,0 +1,497 @@
+-- TPM2_HMAC_Start starts a sequence with the hash and the key that the device uses for TPM2_HMAC.
+use Rattle.std.proofs.Common.{arith, ◌≡◌, ℕ, ◌+◌, ◌^◌, ◌<◌, ◌≤◌, Bool, true, false, cond, List, [], ◌∷◌, ◌++◌, length, drop, replicate, Option, Some, None, option_map, Result, Ok, Err, IfOk, refl, sym, ap, subst, ◌∙◌, append-nil, append_assoc, length-append, eqb-true, ltb-false}
+use Rattle.std.specs.Prelude.{◌==◌, ◌&&◌, ◌||◌, nat_lt, not, ok_or, option_and_then, slice_get, if◌then◌else◌}
+use Rattle.std.specs.Int.{w16, w32, to_be_bytes}
+use Rattle.std.specs.List.{AllByRecursion, list_any}
+use Rattle.std.specs.Option.{option_map_or}
+use Rattle.tpm_bytes.proofs.Fields.{AreBytes, number_or_takes, ok_is, or_fault_ok, passed, sized_again, wide32}
+use Rattle.tpm_bytes.specs.Reading.{◌>>=◌, number_at, or_fault, refused_if, sized_at}
+use Rattle.tpm_bytes.specs.Writing.{sized_text}
+use Rattle.tpm_bytes.specs.declared.cursor.SizedFault.TheVariants as fault
+use Rattle.tpm_mac.specs.Hmac.{hmac_of}
+use Rattle.tpm_mac.specs.declared.algorithm.HashAlg.{HashAlg}
+use Rattle.tpm_types.specs.declared.action_check.ActionCheck.TheVariants as action
+use Rattle.tpm_types.specs.declared.check.Check.{Check}
+use Rattle.tpm_types.specs.declared.check.Check.TheVariants as check
+use Rattle.tpm_types.specs.declared.handle.Handle.{Handle}
+use Rattle.tpm_types.specs.declared.rc.Place.TheVariants as place
+use Rattle.tpm_types.specs.declared.rc.Rc.{Rc}
+use Rattle.tpm_types.specs.declared.rc.ResponseCode.TheVariants as code
+use Rattle.tpm_types.specs.declared.refused.Refused.{Refused}
+use Rattle.tpm_types.specs.declared.session_type.SessionType.{SessionType}
+use Rattle.tpm_types.specs.declared.session_type.SessionType.TheVariants as type
+use Rattle.tpm_types.specs.Algorithm.{hash_number, hash_or_null_at, hash_or_null_number}
+use Rattle.tpm_types.specs.Buffer.{buffer_at, or_sized_rc}
+use Rattle.tpm_types.specs.Check.{check_number}
+use Rattle.tpm_types.specs.Handle.{password_handle}
+use Rattle.tpm_types.specs.Limits.{data_limit}
+use Rattle.tpm_types.specs.Rc.{at, plain}
+use Rattle.tpm_types.specs.Refused.{checked}
+use Rattle.tpm_types.specs.SessionAttributes.{audits, has_reserved_bits, uses_cipher}
+use Rattle.tpm_types.specs.SessionType.{type_byte}
+use Rattle.tpm_types.proofs.HashLaws.{hash_or_null_spelled}
+use Rattle.tpm_types_object.specs.ObjectAttributes.{has}
+use Rattle.tpm_types_object.specs.declared.object_attributes.ObjectAttribute.TheVariants as attribute
+use Rattle.tpm_types_object.specs.declared.public.KeyedHashScheme.{KeyedHashScheme}
+use Rattle.tpm_types_object.specs.declared.public.KeyedHashScheme.TheVariants as scheme
+use Rattle.tpm_types_object.specs.declared.public.PublicParameters.{PublicParameters}
+use Rattle.tpm_types_object.specs.declared.public.PublicParameters.TheVariants.{KeyedHash, SymCipher}
+use Rattle.tpm_types_command.proofs.CommandLaws.{command_again, command_body_text-is, command_size-is, command_text-is, length-body}
+use Rattle.tpm_types_command.proofs.EntryLaws.{area_takes, length-auth_entry_text}
+use Rattle.tpm_types_command.specs.AuthArea.{area_at}
+use Rattle.tpm_types_command.specs.AuthEntry.{Entry, IsEntry, auth_entry_text}
+use Rattle.tpm_types_command.specs.Command.{IsCommand, Whole, command_at, command_body_text, command_text, sessions_text}
+use Rattle.tpm_types_command.specs.Header.{header_text}
+use Rattle.tpm_types_command.specs.declared.tag.Tag.TheVariants.{Sessions}
+use Rattle.tpm_commands.specs.CommandCode.{authorized_handles, code_number, shape_of}
+use Rattle.tpm_commands.specs.declared.command_code.CommandCode.TheVariants as command
+use Rattle.tpm_containers.specs.Numbered.{at_number, if_of_kind, kind_of, place_of}
+use Rattle.tpm_containers.specs.Slots.{at_place}
+use Rattle.tpm_object.specs.declared.object.Object.{Object}
+use Rattle.tpm_sequence.proofs.SequenceLaws.{hmac_sequence_is_hmac}
+use Rattle.tpm_sequence.specs.Sequence.{hmac_sequence}
+use Rattle.tpm_sequence.specs.Sequence.{object_of as sequence_object}
+use Rattle.tpm_session.specs.FirstBuffer.{has_first_buffer, with_first_buffer}
+use Rattle.tpm_session.specs.ParameterHash.{HashedParts, OfResponse}
+use Rattle.tpm_session.specs.Sessions.{session_at, session_byte}
+use Rattle.tpm_session.specs.declared.session.Session.{Session}
+use Rattle.tpm_record.specs.Entity.{object_of}
+use Rattle.tpm_record.specs.Record.{Record}
+use Rattle.tpm_record.specs.Tick.{ticked}
+use Rattle.tpm_record.specs.rows.Answer.{Sized, answer_of}
+use Rattle.tpm_record.specs.rows.Refusals.{action_refusal, handle_refusal}
+use Rattle.tpm_record.specs.rows.Request.{Request}
+use Rattle.tpm_record.specs.rows.Rows.{Success, all_read, parameter, unchanged}
+use Rattle.tpm_auth.specs.Entries.{decrypts, entries_pass, session_of}
+use Rattle.tpm_auth.specs.Grant.{authorize, authorized, grant, grants_pass}
+use Rattle.tpm_auth.specs.SessionGrant.{granted_value}
+use Rattle.tpm_auth.specs.declared.session_grant.Grant.{Grant}
+use Rattle.tpm_actions_object.specs.Hmac.{Parameters, chosen_hash, hmac_row, own_hash, parameters_in, scheme_of}
+use Rattle.tpm_actions_object.specs.Loaded.{loaded_at}
+use Rattle.tpm_step.proofs.rows.Binding.{ok_at, ok_bind, ok_bind_is, ok_checked, ok_in_command, ok_then, ok_weaker, some_is}
+use Rattle.tpm_step.proofs.step.Decoding.{general_reads}
+use Rattle.tpm_step.proofs.rows.Acceptance.{accepted_is}
+use Rattle.tpm_step.specs.step.Answer.{answer_to, framed, success_text, written_of}
+use Rattle.tpm_step.specs.step.Entries.{entries_answer, entries_rolled, entry_answer, password_answer, session_answer}
+use Rattle.tpm_step.specs.step.General.{general}
+use Rattle.tpm_step.specs.step.Granted.{Granted}
+use Rattle.tpm_step.specs.step.Parameters.{asks_for, entry_parameters, session_bytes, session_parameters}
+use Rattle.tpm_step.specs.step.Step.{Accepted, acceptance, accepted, request_in, stepped_of, success_step}
+use Rattle.tpm_step.specs.step.Table.{row_of}
+use Rattle.tpm_step.specs.declared.direction.Direction.{Direction}
+use Rattle.tpm_step.specs.declared.direction.Direction.TheVariants as direction
+use Rattle.tpm_step.specs.declared.refused_command.RefusedCommand.{RefusedCommand}
+use Rattle.tpm_step.specs.rows.Acceptance.{IsAcceptance}
+use Rattle.tpm_completion.specs.Authorizing.{entries_at, entry_refused, handle_at, is_password_entry, only_entry}
+use Rattle.tpm_completion.specs.Sending.{HmacStart, area_of, hmac_command, hmac_start_in, key_hash, keyed_sequence, start_sent, start_work}
+use Rattle.tpm_completion.specs.SequenceRows.{authorized_success, full_refused}
+use Rattle.tpm_completion.specs.Sequences.{free_slot}
+use Rattle.tpm_completion.specs.declared.completion.Completion.{Completion}
+use Rattle.tpm_completion.specs.declared.sending.Work.TheVariants.{Starts}
+use Rattle.tpm_completion_laws.specs.Sequences.{StartsLikeTheDevice, StartsWithTheKey, hmac_request}
+
+-- ---- results of several steps
+
+bind_is : {A B E : Type 0} (x : Result A E) (f : A → Result B E) (a : A) (y : Result B E) → x ≡ Ok a → f a ≡ y → (x >>= f) ≡ y
+bind_is x f a y is rest = rw is rest
+
+always : {A E : Type 0} (P : A → Type 0) (x : Result A E) → ((a : A) → P a) → IfOk x P
+always P (Ok a) all = all a
+always P (Err e) all = tt
+
+neither : (a b : Bool) → (a || b) ≡ false → (a ≡ false) × (b ≡ false)
+neither true b e = absurd cc
+neither false b e = (refl, e)
+
+not_false : (b : Bool) → not b ≡ false → b ≡ true
+not_false true e = refl
+not_false false e = absurd cc
+
+-- ---- what TPM2_HMAC_Start asks for
+
+-- The nonce and the password of an entry have at most 32 bytes, and its handle is TPM_RS_PW.
+record HasPassword (e : Entry) : Type 0 where
+  nonce : length e.nonce ≤ 32
+  hmac : length e.hmac ≤ 32
+  password : (e.session.number == password_handle.number) ≡ true
+
+-- The handle and the entry can be encoded, and the entry is that of a password.
+record IsStart (start : HmacStart) : Type 0 where
+  handle : start.handle.number < 2 ^ 32
+  entry : IsEntry start.entry
+  secret : HasPassword start.entry
+
+handle_is : (text : List ℕ) → AreBytes text → IfOk (handle_at 1 text) (λ x. (x.0.number < 2 ^ 32) × AreBytes x.1)
+unfolding handle_at
+handle_is text fits =
+    ok_bind_is _ (or_fault (number_at w32 text) _) _ (λ number is.
+    let t = number_or_takes w32 (2 ^ 32) wide32 _ text number fits is in (t.1, t.0.rest_fits))
+
+entries_are : (text : List ℕ) → AreBytes text → IfOk (entries_at text) (λ x. AllByRecursion IsEntry x.0)
+unfolding entries_at
+entries_are text fits = ok_checked _ check.Entries (area_at text) (by (area_at text) refl)
+  where
+    by : (x : Result (List Entry × List ℕ) Rc) → area_at text ≡ x → IfOk x (λ y. AllByRecursion IsEntry y.0)
+    by (Ok y) is = (area_takes text y fits is).2
+    by (Err e) is = tt
+
+password_is : (n : ℕ) (e : Entry) → IfOk (is_password_entry n e) (λ u. HasPassword e)
+unfolding is_password_entry
+password_is n e =
+    let sizes : Bool = nat_lt 32 (length e.nonce) || nat_lt 32 (length e.hmac) in
+    let session : Bool = not (e.session.number == password_handle.number) in
+    let other : Bool = audits e.attributes || uses_cipher e.attributes in
+    ok_bind_is (λ u. HasPassword e) (refused_if sizes (entry_refused n code.Size)) _ (λ one first.
+    ok_bind_is (λ u. HasPassword e) (refused_if session (entry_refused n code.Handle)) _ (λ two second.
+    ok_bind (λ u. HasPassword e) (refused_if (has_reserved_bits e.attributes) (entry_refused n code.ReservedBits)) _ (λ three.
+    let small = neither (nat_lt 32 (length e.nonce)) (nat_lt 32 (length e.hmac)) (passed sizes (entry_refused n code.Size) one first) in
+    always (λ u. HasPassword e) (refused_if other (entry_refused n code.Attributes)) (λ u. record {
+      nonce = ltb-false _ _ small.0;
+      hmac = ltb-false _ _ small.1;
+      password = not_false (e.session.number == password_handle.number) (passed session (entry_refused n code.Handle) two second);
+    }))))
+
+only_is : (entries : List Entry) → AllByRecursion IsEntry entries → IfOk (only_entry entries) (λ e. IsEntry e × HasPassword e)
+unfolding only_entry
+only_is [] are = tt
+only_is (e ∷ []) are = ok_then (λ u. HasPassword e) _ (is_password_entry 1 e) _ (password_is 1 e) (λ valid has. (are.0, has))
+only_is (e ∷ f ∷ more) are = ok_bind _ (is_password_entry 1 e) _ (λ valid. tt)
+
+start_is : (c : Completion) (text : List ℕ) → AreBytes text → IfOk (hmac_start_in c text) IsStart
+unfolding hmac_start_in
+start_is c text fits =
+    ok_then (λ x. (x.0.number < 2 ^ 32) × AreBytes x.1) IsStart (handle_at 1 text) _ (handle_is text fits) (λ handle is.
+    ok_then (λ x. AllByRecursion IsEntry x.0) IsStart (entries_at handle.1) _ (entries_are handle.1 is.1) (λ entries are.
+    ok_then (λ e. IsEntry e × HasPassword e) IsStart (only_entry entries.0) _ (only_is entries.0 are) (λ entry one.
+    ok_bind IsStart (parameter 1 (buffer_at 32 entries.1)) _ (λ auth.
+    ok_bind IsStart (parameter 2 (hash_or_null_at auth.1)) _ (λ hash.
+    ok_bind IsStart (all_read hash.1) _ (λ ended.
+    ok_bind IsStart (ok_or (free_slot c) full_refused) _ (λ slot.
+    record { handle = is.0; entry = one.0; secret = one.1 })))))))
+
+-- ---- the command that is sent
+
+-- the parameters of TPM2_HMAC: a buffer, and the hashAlg of a TPM2_HMAC_Start
+abbrev hmac_parameters : HmacStart → (message : List ℕ) → List ℕ
+hmac_parameters start message = sized_text message ++ to_be_bytes w16 (hash_or_null_number start.hash)
+
+-- the command as the device decodes it
+abbrev hmac_whole : HmacStart → Whole
+hmac_whole start = record {
+  code = command.Hmac;
+  handles = start.handle ∷ [];
+  entries = start.entry ∷ [];
+  parameters = hmac_parameters start [];
+}
+
+body_is : (start : HmacStart) → command_body_text (hmac_whole start) ≡ to_be_bytes w32 start.handle.number ++ area_of start.entry ++ sized_text [] ++ to_be_bytes w16 (hash_or_null_number start.hash)
+body_is start =
+    let front : List ℕ = to_be_bytes w32 start.handle.number in
+    command_body_text-is (hmac_whole start)
+    ∙ ap (λ (entries : List ℕ). front ++ (to_be_bytes w32 (length entries) ++ entries) ++ hmac_parameters start []) (append-nil (auth_entry_text start.entry))
+    ∙ sym (append_assoc (front ++ area_of start.entry) (sized_text []) (to_be_bytes w16 (hash_or_null_number start.hash)))
+
+text_is : (start : HmacStart) → command_text (hmac_whole start) ≡ hmac_command start.handle start.entry start.hash
+unfolding header_text hmac_command
+text_is start =
+    let c : Whole = hmac_whole start in
+    command_text-is c
+    ∙ ap (λ (size : ℕ). header_text Sessions size command.Hmac ++ command_body_text c) (command_size-is c)
+    ∙ ap (λ (body : List ℕ). header_text Sessions (10 + length body) command.Hmac ++ body) (body_is start)
+
+area_size : (e : Entry) → length (sessions_text (e ∷ [])) ≡ 13 + length e.nonce + length e.hmac
+area_size e = omega (arith, length-append (auth_entry_text e) [], length-auth_entry_text e)
+
+is_command : (start : HmacStart) → IsStart start → IsCommand (hmac_whole start)
+unfolding shape_of
+is_command start is =
+    let c : Whole = hmac_whole start in
+    let size = command_size-is c in
+    let body = length-body c in
+    let area = area_size start.entry in
+    let nonce = is.secret.nonce in
+    let hmac = is.secret.hmac in
+    record {
+      handle_count = refl;
+      handles = (is.handle, tt);
+      entry_count = omega arith;
+      entries = (is.entry, tt);
+      size = omega (arith, size, body, area, nonce, hmac);
+    }
+
+acceptance_command : (t : Record) (c : Whole) (locality : ℕ) (random : List ℕ) → IfOk (acceptance t c locality random) (λ a. a.command ≡ c)
+unfolding acceptance
+acceptance_command t c locality random =
+    ok_bind _ (authorize t c locality) _ (λ grants.
+    ok_bind _ (row_of t c.code (request_in t c grants locality random)) _ (λ success. refl))
+
+accepted_reads : (t : Record) (buffer : List ℕ) (locality : ℕ) (random : List ℕ) → IfOk (accepted t buffer locality random) (λ a. command_at buffer ≡ Ok (a.command, []))
+unfolding accepted
+accepted_reads t buffer locality random =
+    ok_then (λ c. command_at buffer ≡ Ok (c, [])) _ (general t buffer) _ (general_reads t buffer) (λ c reads.
+    ok_in_command _ c.code (acceptance t c locality random)
+    (ok_weaker (λ a. a.command ≡ c) _ (acceptance t c locality random) (acceptance_command t c locality random)
+    (λ a same. subst (λ (d : Whole). command_at buffer ≡ Ok (d, [])) (sym same) reads)))
+
+accepted_whole : (t : Record) (start : HmacStart) (locality : ℕ) (random : List ℕ) → IsStart start
+    → IfOk (accepted t (hmac_command start.handle start.entry start.hash) locality random) (λ a. a.command ≡ hmac_whole start)
+accepted_whole t start locality random is =
+    let buffer = hmac_command start.handle start.entry start.hash in
+    ok_weaker (λ a. command_at buffer ≡ Ok (a.command, [])) _ (accepted t buffer locality random) (accepted_reads t buffer locality random) (λ a reads.
+    ap (λ (x : Whole × List ℕ). x.0)
+    (ok_is {E = Rc} (a.command, []) (hmac_whole start, [])
+    (sym reads ∙ ap command_at (sym (text_is start)) ∙ command_again (hmac_whole start) (is_command start is))))
+
+-- ---- a password is no session
+
+apart : (kind : SessionType) → (kind_of 0x4000_0009 == type_byte kind) ≡ false
+apart type.Hmac = refl
+apart type.Policy = refl
+apart type.Trial = refl
+
+no_session : (places : List (Option Session)) (handle : Handle) → (handle.number == password_handle.number) ≡ true → session_at places handle ≡ None
+unfolding session_at at_number
+no_session places handle is = by (at_place places (place_of handle.number))
+  where
+    by : (o : Option Session) → option_and_then (if_of_kind session_byte handle.number) o ≡ None
+    by None = refl
+    by (Some s) =
+        ap (λ (n : ℕ). if kind_of n == session_byte s then Some s else None) (eqb-true handle.number password_handle.number is)
+        ∙ ap (λ (b : Bool). if b then Some s else None) (apart s.kind)
+
+plain_entry : (d : Direction) (r : Record) (g : Option Grant) (e : Entry) (text : List ℕ) → session_of r e ≡ None → entry_parameters d r g e text ≡ text
+unfolding entry_parameters
+plain_entry d r g e text none =
+    ap (λ (o : Option Session). option_map_or (λ (s : Session). with_first_buffer (session_bytes d s (granted_value r g) e) text) o text) none
+
+-- a password neither decrypts nor encrypts parameters
+plain_by : (d : Direction) (r : Record) (g : Option Grant) (e : Entry) (text : List ℕ) → session_of r e ≡ None → session_parameters d r ((e, g) ∷ []) text ≡ text
+plain_by d r g e text none = by (asks_for d e)
+  where
+    by : (b : Bool) → option_map_or (λ (x : Granted). entry_parameters d r x.1 x.0 text) (cond b (Some (e, g)) None) text ≡ text
+    by true = plain_entry d r g e text none
+    by false = refl
+
+password_answered : (r : Record) (hashed : HashedParts) (g : Option Grant) (e : Entry) → session_of r e ≡ None → entry_answer r hashed g e ≡ password_answer
+unfolding entry_answer
+password_answered r hashed g e none =
+    ap (λ (o : Option Session). option_map_or (session_answer r hashed g e) o password_answer) none
+
+-- ---- the grants
+
+-- There is one grant.
+abbrev IsOneGrant : List (Option Grant) → Type 0
+IsOneGrant grants = (g : Option Grant) × (grants ≡ g ∷ [])
+
+one_grant : (t : Record) (start : HmacStart) (locality : ℕ) → IfOk (authorize t (hmac_whole start) locality) IsOneGrant
+unfolding authorize
+one_grant t start locality =
+    let c : Whole = hmac_whole start in
+    ok_bind IsOneGrant (checked check.Entries (entries_pass t c.code [] c.entries)) _ (λ own.
+    ok_bind IsOneGrant (refused_if (nat_lt (length c.entries) (authorized_handles c.code)) _) _ (λ enough.
+    ok_then IsOneGrant IsOneGrant (grants_pass t c locality [] c.entries) _
+    (ok_bind IsOneGrant (grant t c locality 1 (slice_get (authorized c) 0) start.entry) _ (λ this. (this, refl))) (λ grants are.
+    ok_bind IsOneGrant (refused_if (list_any decrypts c.entries && not (has_first_buffer c.parameters)) _) _ (λ whole. are))))
+
+-- ---- the row
+
+buffer_again : (message rest : List ℕ) → length message ≤ data_limit → buffer_at data_limit (sized_text message ++ rest) ≡ Ok (message, rest)
+unfolding buffer_at
+buffer_again message rest few =
+    ap or_sized_rc (or_fault_ok (sized_at data_limit (sized_text message ++ rest)) fault.Short (message, rest) (sized_again data_limit fault.Short message rest (omega (arith, few)) few))
+
+-- the parameters as the device decodes them
+abbrev parameters_of : HmacStart → (message : List ℕ) → Parameters
+parameters_of start message = record { buffer = message; hash = start.hash }
+
+parameters_again : (start : HmacStart) (message : List ℕ) → length message ≤ data_limit → parameters_in (hmac_parameters start message) ≡ Ok (parameters_of start message)
+unfolding parameters_in
+parameters_again start message few =
+    let rest : List ℕ = to_be_bytes w16 (hash_or_null_number start.hash) in
+    bind_is (parameter 1 (buffer_at data_limit (hmac_parameters start message))) _ (message, rest) _
+    (ap (λ (x : Result (List ℕ × List ℕ) Rc). parameter 1 x) (buffer_again message rest few))
+    (bind_is (parameter 2 (hash_or_null_at rest)) _ (start.hash, []) _
+    (ap (λ (x : Result (Option HashAlg × List ℕ) Rc). parameter 2 x) (hash_or_null_spelled.again start.hash [] tt)) refl)
+
+-- the refusals of the row
+abbrev restricted_refusal : Refused
+restricted_refusal = action_refusal action.Second (at (place.Handle 1) (plain code.Attributes))
+
+abbrev key_refusal : Refused
+key_refusal = action_refusal action.Third (at (place.Handle 1) (plain code.Key))
+
+abbrev hash_refusal : Refused
+hash_refusal = action_refusal action.Fourth (at (place.Parameter 2) (plain code.Value))
+
+-- the row of TPM2_HMAC of this handle and these parameters
+abbrev hmac_by : Record → Handle → List ℕ → Result Success Refused
+hmac_by t handle text = do
+  object ← loaded_at t handle
+  p ← parameters_in text
+  scheme ← scheme_of object.public.parameters
+  a2 ← refused_if (has object.public.attributes attribute.Restricted) restricted_refusal
+  a3 ← refused_if (not (has object.public.attributes attribute.Sign)) key_refusal
+  hash ← ok_or (chosen_hash scheme p.hash) hash_refusal
+  Ok (unchanged t (answer_of (Sized (hmac_of hash object.sensitive p.buffer))))
+
+row_by : (t : Record) (start : HmacStart) (locality : ℕ) (random message : List ℕ) → hmac_row t (hmac_request start locality random message) ≡ hmac_by t start.handle (hmac_parameters start message)
+unfolding hmac_row
+row_by t start locality random message = refl
+
+-- The row of TPM2_HMAC succeeds with this object, scheme and hash.
+record IsHmac (t : Record) (start : HmacStart) (success : Success) : Type 0 where
+  object : Object
+  scheme : KeyedHashScheme
+  hash : HashAlg
+  found : object_of t start.handle ≡ Some object
+  kind : scheme_of object.public.parameters ≡ Ok scheme
+  unrestricted : has object.public.attributes attribute.Restricted ≡ false
+  signs : not (has object.public.attributes attribute.Sign) ≡ false
+  chosen : chosen_hash scheme start.hash ≡ Some hash
+  answer : success ≡ unchanged t (answer_of (Sized (hmac_of hash object.sensitive [])))
+
+parameters_are : (start : HmacStart) (x : Result Parameters Refused) → x ≡ Ok (parameters_of start []) → IfOk x (λ p. p ≡ parameters_of start [])
+parameters_are start (Ok p) is = ok_is {E = Refused} p (parameters_of start []) is
+parameters_are start (Err e) is = tt
+
+row_is : (t : Record) (start : HmacStart) → IfOk (hmac_by t start.handle (hmac_parameters start [])) (IsHmac t start)
+row_is t start =
+    ok_bind_is (IsHmac t start) (loaded_at t start.handle) _ (λ object found.
+    ok_then (λ (p : Parameters). p ≡ parameters_of start []) (IsHmac t start) (parameters_in (hmac_parameters start [])) _
+    (parameters_are start (parameters_in (hmac_parameters start [])) (parameters_again start [] (omega arith))) (λ p same.
+    ok_bind_is (IsHmac t start) (scheme_of object.public.parameters) _ (λ scheme kind.
+    ok_bind_is (IsHmac t start) (refused_if (has object.public.attributes attribute.Restricted) restricted_refusal) _ (λ a2 second.
+    ok_bind_is (IsHmac t start) (refused_if (not (has object.public.attributes attribute.Sign)) key_refusal) _ (λ a3 third.
+    ok_bind_is (IsHmac t start) (ok_or (chosen_hash scheme p.hash) hash_refusal) _ (λ hash fourth.
+    record {
+      object = object;
+      scheme = scheme;
+      hash = hash;
+      found = some_is (object_of t start.handle) handle_refusal object found;
+      kind = kind;
+      unrestricted = passed (has object.public.attributes attribute.Restricted) restricted_refusal a2 second;
+      signs = passed (not (has object.public.attributes attribute.Sign)) key_refusal a3 third;
+      chosen = ap (λ (q : Parameters). chosen_hash scheme q.hash) (sym same) ∙ some_is (chosen_hash scheme p.hash) hash_refusal hash fourth;
+      answer = ap (λ (q : Parameters). unchanged t (answer_of (Sized (hmac_of hash object.sensitive q.buffer)))) same;
+    }))))))
+
+by_again : (t : Record) (start : HmacStart) (success : Success) (is : IsHmac t start success) (message : List ℕ) → length message ≤ data_limit
+    → hmac_by t start.handle (hmac_parameters start message) ≡ Ok (unchanged t (answer_of (Sized (hmac_of is.hash is.object.sensitive message))))
+by_again t start success is message few =
+    bind_is (loaded_at t start.handle) _ is.object _ (ap (λ (o : Option Object). ok_or o handle_refusal) is.found)
+    (bind_is (parameters_in (hmac_parameters start message)) _ (parameters_of start message) _ (parameters_again start message few)
+    (bind_is (scheme_of is.object.public.parameters) _ is.scheme _ is.kind
+    (bind_is (refused_if (has is.object.public.attributes attribute.Restricted) restricted_refusal) _ tt _ (ap (λ (b : Bool). refused_if b restricted_refusal) is.unrestricted)
+    (bind_is (refused_if (not (has is.object.public.attributes attribute.Sign)) key_refusal) _ tt _ (ap (λ (b : Bool). refused_if b key_refusal) is.signs)
+    (bind_is (ok_or (chosen_hash is.scheme start.hash) hash_refusal) _ is.hash _ (ap (λ (h : Option HashAlg). ok_or h hash_refusal) is.chosen) refl)))))
+
+row_served : (t : Record) (q : Request) → row_of t command.Hmac q ≡ hmac_row t q
+unfolding row_of
+row_served t q = refl
+
+-- ---- the sequence
+
+-- the hash with which the row computes the HMAC is that of the sequence
+key_is : (parameters : PublicParameters) (scheme : KeyedHashScheme) (asked : Option HashAlg) (hash : HashAlg) → scheme_of parameters ≡ Ok scheme → chosen_hash scheme asked ≡ Some hash → key_hash parameters asked ≡ Some hash
+key_is (KeyedHash scheme.Null) one asked hash is chosen = subst (λ (x : KeyedHashScheme). chosen_hash x asked ≡ Some hash) (sym (ok_is {E = Refused} scheme.Null one is)) chosen
+key_is (KeyedHash (scheme.Hmac own)) one asked hash is chosen = own_is asked (subst (λ (x : KeyedHashScheme). chosen_hash x asked ≡ Some hash) (sym (ok_is {E = Refused} (scheme.Hmac own) one is)) chosen)
+  where
+    if_own : (b : Bool) → (if b then Some own else None) ≡ Some hash → Some own ≡ Some hash
+    if_own true e = e
+    if_own false e = absurd cc
+
+    own_is : (o : Option HashAlg) → own_hash own o ≡ Some hash → Some own ≡ Some hash
+    own_is None e = e
+    own_is (Some other) e = if_own (hash_number own == hash_number other) e
+key_is SymCipher one asked hash is chosen = absurd cc
+
+-- time that passes does not change objects
+same_object : (r : Record) (handle : Handle) (elapsed : ℕ) → object_of (ticked r elapsed) handle ≡ object_of r handle
+unfolding object_of
+same_object r handle elapsed = refl
+
+work_is : (r : Record) (start : HmacStart) (object : Object) (hash : HashAlg) → object_of r start.handle ≡ Some object → key_hash object.public.parameters start.hash ≡ Some hash
+    → (start_sent r start).work ≡ Some (Starts start.slot (sequence_object start.auth (hmac_sequence hash object.sensitive)))
+work_is r start object hash found keyed =
+    ap (λ (o : Option Object). option_map (start_work start.slot start.auth) (option_and_then (keyed_sequence start.hash) o)) found
+    ∙ ap (λ (k : Option HashAlg). option_map (start_work start.slot start.auth) (option_map (λ (h : HashAlg). hmac_sequence h object.sensitive) k)) keyed
+
+-- ---- the response
+
+answer_is : (t : Record) (start : HmacStart) (g : Option Grant) (random mac : List ℕ) → ((s : Record) → session_of s start.entry ≡ None)
+    → (answer_to (hmac_whole start) (g ∷ []) (written_of (answer_of (Sized mac))) t random).response ≡ authorized_success [] (sized_text mac) password_answer
+unfolding answer_to success_text
+answer_is t start g random mac none =
+    let e : Entry = start.entry in
+    let after : Record = (entries_rolled t (e ∷ []) (drop 0 random)).after in
+    ap (λ (parameters : List ℕ). framed 0x8002 0 ([] ++ to_be_bytes w32 (length parameters) ++ parameters ++ entries_answer after (OfResponse (code_number command.Hmac) parameters) ((e, g) ∷ [])))
+    (plain_by direction.Encrypt after g e (sized_text mac) (none after))
+    ∙ ap (λ (area : List ℕ). framed 0x8002 0 ([] ++ to_be_bytes w32 (length (sized_text mac)) ++ sized_text mac ++ (area ++ [])))
+    (password_answered after (OfResponse (code_number command.Hmac) (sized_text mac)) g e (none after))
+
+-- ---- the law
+
+accepted_starts : (r : Record) (start : HmacStart) (locality : ℕ) (random : List ℕ) (a : Accepted) → IsStart start → IsAcceptance (ticked r 0) locality random a → a.command ≡ hmac_whole start
+    → StartsLikeTheDevice (ticked r 0) start (start_sent r start).work (success_step a random).response
+accepted_starts r start locality random a begun is same =
+    let t : Record = ticked r 0 in
+    let c : Whole = hmac_whole start in
+    let none : (s : Record) → session_of s start.entry ≡ None = λ s. no_session s.sessions start.entry.session begun.secret.password in
+    let granted : authorize t c locality ≡ Ok a.grants = subst (λ (d : Whole). authorize t d locality ≡ Ok a.grants) same is.granted in
+    let one : IsOneGrant a.grants = ok_at IsOneGrant (authorize t c locality) a.grants (one_grant t start locality) granted in
+    let asked : a.request ≡ hmac_request start locality random [] =
+    is.requested
+    ∙ ap (λ (d : Whole). request_in t d a.grants locality random) same
+    ∙ ap (λ (grants : List (Option Grant)). request_in t c grants locality random) one.1
+    ∙ ap (λ (text : List ℕ). let q : Request = record { handles = start.handle ∷ []; locality = locality; parameters = text; random = random } in q)
+    (plain_by direction.Decrypt t one.0 start.entry (hmac_parameters start []) (none t)) in
+    let row : hmac_by t start.handle (hmac_parameters start []) ≡ Ok a.success =
+    sym (row_by t start locality random [])
+    ∙ sym (row_served t (hmac_request start locality random []))
+    ∙ ap (λ (q : Request). row_of t command.Hmac q) (sym asked)
+    ∙ ap (λ (d : Whole). row_of t d.code a.request) (sym same)
+    ∙ is.row in
+    let keyed : IsHmac t start a.success = ok_at (IsHmac t start) (hmac_by t start.handle (hmac_parameters start [])) a.success (row_is t start) row in
+    let mac : List ℕ = hmac_of keyed.hash keyed.object.sensitive [] in
+    record {
+      hash = keyed.hash;
+      key = keyed.object.sensitive;
+      sequence = hmac_sequence keyed.hash keyed.object.sensitive;
+      work = work_is r start keyed.object keyed.hash (sym (same_object r start.handle 0) ∙ keyed.found) (key_is keyed.object.public.parameters keyed.scheme start.hash keyed.hash keyed.kind keyed.chosen);
+      digest = λ parts. hmac_sequence_is_hmac keyed.hash keyed.object.sensitive parts;
+      answer = λ one_locality drawn message few. row_by t start one_locality drawn message ∙ by_again t start a.success keyed message few;
+      response = ap (λ (d : Whole). (answer_to d a.grants (written_of a.success.answer) a.success.after random).response) same
+          ∙ ap (λ (grants : List (Option Grant)). (answer_to c grants (written_of a.success.answer) a.success.after random).response) one.1
+          ∙ ap (λ (s : Success). (answer_to c (one.0 ∷ []) (written_of s.answer) s.after random).response) keyed.answer
+          ∙ answer_is t start one.0 random mac none;
+    }
+
+-- the number of every check is greater than 0
+check_some : (c : Check) → check_number c ≡ 0 → ⊥
+check_some check.Length zero = absurd cc
+check_some check.Tag zero = absurd cc
+check_some check.Size zero = absurd cc
+check_some check.Code zero = absurd cc
+check_some check.Started zero = absurd cc
+check_some check.Handles zero = absurd cc
+check_some check.Sessions zero = absurd cc
+check_some check.Entries zero = absurd cc
+check_some check.Authorization zero = absurd cc
+check_some check.Others zero = absurd cc
+check_some check.Parameters zero = absurd cc
+check_some (check.Action a) zero = omega (arith, zero)
+check_some check.Memory zero = absurd cc
+
+stepped_starts : (r : Record) (start : HmacStart) (locality : ℕ) (random : List ℕ) (x : Result Accepted RefusedCommand) → IsStart start
+    → IfOk x (IsAcceptance (ticked r 0) locality random) → IfOk x (λ a. a.command ≡ hmac_whole start) → (stepped_of (ticked r 0) random x).row.check ≡ 0
+    → StartsLikeTheDevice (ticked r 0) start (start_sent r start).work (stepped_of (ticked r 0) random x).response
+stepped_starts r start locality random (Ok a) begun is same zero = accepted_starts r start locality random a begun is same
+stepped_starts r start locality random (Err e) begun is same zero = absurd (check_some e.refused.check zero)
+
+pub starts_with_the_key : StartsWithTheKey
+starts_with_the_key r c text start locality fits asked zero =
+    let t : Record = ticked r 0 in
+    let buffer : List ℕ = hmac_command start.handle start.entry start.hash in
+    let random : List ℕ = replicate 256 0 in
+    let begun : IsStart start = ok_at IsStart (hmac_start_in c text) start (start_is c text fits) asked in
+    stepped_starts r start locality random (accepted t buffer locality random) begun (accepted_is t buffer locality random) (accepted_whole t start locality random begun) zero

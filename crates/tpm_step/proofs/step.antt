@@ -1,0 +1,4 @@
+-- The laws about one event.
+pub mod Decoding
+pub mod PowerCycles
+pub mod Placing

@@ -1,0 +1,19 @@
+-- Definitions of what a history determines about a device that follows it.
+pub mod View
+pub mod Views
+pub mod History
+pub mod Executions
+pub mod HandleMap
+pub mod Counters
+pub mod DeviceCounters
+pub mod AuthValues
+pub mod DeviceAuthValues
+pub mod Pcrs
+pub mod DevicePcrs
+pub mod Policies
+pub mod Sessions
+pub mod DeviceSessions
+pub mod Potential
+pub mod Tries
+pub mod Follows
+pub mod FailedRun
