@@ -100,7 +100,7 @@ enum tpmsim_told {
 };
 
 /* A buffer size that is enough for every state text. */
-enum { TPMSIM_STATE_SIZE = 36195 };
+enum { TPMSIM_STATE_SIZE = 36930 };
 
 /* A buffer size that is enough for every record of a journal. */
 enum { TPMSIM_RECORD_ROOM = 9216 };
@@ -176,7 +176,8 @@ uint8_t tpmsim_complete(tpmsim *device, const uint8_t *buffer, size_t size, uint
                         uint32_t elapsed_ms, const uint8_t random[256], uint8_t response[4096],
                         tpmsim_answered *answered);
 
-/* Power-cycles the device: it retains only what it keeps without power, and expects TPM2_Startup.
+/* Power-cycles the device: it retains only what it keeps without power, and expects TPM2_Startup. The
+   completing layer loses its sequences.
 
    Returns TPMSIM_DONE or TPMSIM_NO_DEVICE. */
 uint8_t tpmsim_power_cycle(tpmsim *device);
@@ -234,7 +235,7 @@ size_t tpmsim_journal_begin(tpmsim *device, uint64_t now_ms, uint8_t *buffer, si
    head contains the time of the journal, so that the time since the last command still counts. `now_ms`
    is used only if the device has no journal yet, for example after tpmsim_restore.
 
-   Returns the size of the head, written or not, at most 72,470; 0 without a device. */
+   Returns the size of the head, written or not, at most 73,940; 0 without a device. */
 size_t tpmsim_journal_checkpoint(tpmsim *device, uint64_t now_ms, uint8_t *buffer, size_t size);
 
 /* Opens the device of a journal. The handle's previous device is freed. `taken` is the size of the head
