@@ -5,8 +5,8 @@
 #
 # The device's instructions are those of `Machine::execute_into` and of everything that it calls. The other
 # instructions read the script and print the responses. Of the device's instructions, those in the hash crates,
-# tpm_mac and tpm_aes count as hashing and ciphers, and those in the C library as clearing and copying. Inlined
-# code counts as part of the function into which it is inlined.
+# tpm_mac and tpm_aes count as hashing and ciphers. Those in the C library count as clearing and copying.
+# Inlined code counts as part of the function into which it is inlined.
 set -eu
 
 top=$(CDPATH='' cd "$(dirname "$0")/.." && pwd -P)

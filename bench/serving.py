@@ -2,8 +2,8 @@
 
     python3 serving.py PROGRAM BARE IMAGE
 
-PROGRAM is tpmsim. BARE is a program that reads twelve bytes at a time from a socket, and writes as
-many bytes as a response with 32 random bytes has. IMAGE is the image of a device.
+PROGRAM is tpmsim. BARE is a program that reads twelve bytes at a time from a socket, and then
+writes 44 bytes, the size of a response with 32 random bytes. IMAGE is the image of a device.
 """
 
 import contextlib

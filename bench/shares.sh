@@ -1,8 +1,9 @@
 #!/bin/sh
-# Prints how many instructions of `tpmsim run` each command takes, and how many of them the device and the script's
-# text take. The text's share is for reading lines, decoding hex and printing. The commands are GetRandom lines.
-# Runs a short and a long script under callgrind and subtracts the counts, so that the start and the end of the
-# program are not counted. Needs valgrind, and rt if tpmsim is not built yet. Not part of the gate.
+# Prints the number of instructions that `tpmsim run` executes for a command, and the shares of the device and
+# of the script's text. The text's share is for reading lines, decoding hex and printing. The commands are
+# GetRandom lines. Runs a short and a long script under callgrind and subtracts the counts, so that the start
+# and the end of the program are not counted. Needs valgrind, and rt if tpmsim is not built yet. Not part of the
+# gate.
 #
 # The device's instructions are those of `Machine::execute_into` and of everything that it calls. All other
 # instructions are for the text.

@@ -4,8 +4,8 @@
 export type ModuleSource = BufferSource | WebAssembly.Module;
 
 export interface Making {
-  /** The seed of the random bytes. They are then the same in each run, and in Python's
-   * `Device(seed=..)`. */
+  /** The seed of the random bytes. The same seed results in the same bytes in each run, and in
+   * Python's `Device(seed=..)`. */
   seed?: string | Uint8Array;
   /**
    * The 256 bytes from which the device's secrets are made, instead of bytes from the seed or the system.

@@ -187,8 +187,7 @@ shipped_is_of_sources() (
 )
 
 # is_asked PROGRAM: succeeds if a program is to be tested. A program that was built here is not tested
-# separately if its bytes are the same as those of the program in dist/, and dist/ was built from the current
-# sources.
+# separately if dist/ was built from the current sources and its program has the same bytes.
 is_asked() {
     case $asked,$1 in
     shipped,"$in_dist" | ,*) true ;;

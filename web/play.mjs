@@ -50,12 +50,12 @@ export class Module {
         this.view = new DataView(this.calls.memory.buffer);
     }
 
-    /** @param {string} name a buffer's address, as the calls take it */
+    /** Returns a buffer's address, as the calls take it. @param {string} name */
     to(name) {
         return BigInt(this.at[name]);
     }
 
-    /** @param {string} name @param {number} size the number of first bytes to return */
+    /** @param {string} name @param {number} size the number of bytes to return, from the first one on */
     front(name, size) {
         return this.bytes.slice(this.at[name], this.at[name] + size);
     }

@@ -53,7 +53,7 @@ static void note_cut(struct keeping *keeping, const tpmsim_ask *ask) {
     refuse(&keeping->notice, keeping->folder.path, JOURNAL_NAME ":", said, 0);
 }
 
-/* ---- the tasks. A task that fails sets the reason. If it does not, the reason is made later from
+/* ---- the tasks. A task that fails may set the reason. Otherwise, the reason is made later from
    the keeper's fault and errno. */
 
 static uint8_t look(struct keeping *keeping, struct reason *reason) {

@@ -50,7 +50,7 @@ enum { TPMSIM_KEPT_REASON_SIZE = 4608 };
    are values of tpmsim_told, which concern the journal, the image or the state text. */
 enum { TPMSIM_KEPT_FAILED = 32 };
 
-/* What to open. */
+/* The options of tpmsim_kept_open. */
 typedef struct tpmsim_kept_options {
     /* The folder. */
     const char *folder;

@@ -33,10 +33,9 @@ bool resume_device(uint64_t time);
 /* The time that the host's clock showed at the last command. */
 uint64_t time_of_device(void);
 
-/* Executes a command from a locality of 0 to 4, writes its record if recording was requested, and
-   has the permanent state written if it changed. If the record or the state cannot be written, the
-   reason is reported, there is no response, and no other command is executed until both are
-   written. */
+/* Executes a command from a locality of 0 to 4. Writes its record if recording was requested, and
+   the permanent state if it changed. If the record or the state cannot be written, the reason is
+   reported, there is no response, and no other command is executed until both are written. */
 bool execute(const uint8_t *buffer, size_t size, uint8_t locality, struct response *response);
 
 /* Whether everything has been written: the last command's record if it was requested, and the

@@ -1,6 +1,6 @@
 /* A state text and a tail of 41 bytes: the time (8), whether there was a launch (1), and a SHA-256
-   digest (32) of these fields and of the last 32 bytes of the text, which are themselves the digest
-   of the rest of the text. */
+   digest (32). The digest covers these fields and the last 32 bytes of the text, which are the
+   digest of the rest of the text. */
 #include "volatile.h"
 
 #include "digests.h"

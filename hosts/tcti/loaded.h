@@ -20,8 +20,8 @@ struct loaded {
 
 void loaded_begin(struct loaded *loaded);
 
-/* Updates the list after a command: remembers what the command loaded or started, and forgets what
- * it flushed or ended, and a session that it saved. A saved object or sequence stays loaded. */
+/* Updates the list after a command: adds what the command loaded or started, and removes what it
+ * flushed or ended, and a session that it saved. A saved object or sequence stays loaded. */
 void loaded_follow(struct loaded *loaded, const uint8_t *command, size_t size,
                    const uint8_t *response, size_t response_size);
 

@@ -3,8 +3,8 @@
 import { BadArgument } from "./errors.js";
 
 /**
- * Returns the argument if it is a Uint8Array (as node's Buffer is), from this window or another
- * one.
+ * Returns the argument if it is a Uint8Array, such as node's Buffer. It may come from another
+ * window.
  * @param {string} name
  * @param {unknown} given
  * @returns {Uint8Array}

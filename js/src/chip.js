@@ -177,9 +177,9 @@ export class Chip {
   }
 
   /**
-   * Executes the entries of a later part of the journal, and returns the size of the complete ones.
-   * Throws BadJournal if an entry is damaged or its response differs; the entries before it have
-   * then been executed.
+   * Executes the entries of a later part of the journal, and returns the size of the complete
+   * entries. Throws BadJournal if an entry is damaged or its response differs; the entries before
+   * it have then been executed.
    * @param {Uint8Array} text
    */
   followJournal(text) {

@@ -79,8 +79,8 @@ export class Memory {
   }
 
   /**
-   * Stores bytes for a call, and returns the two parameters that pass them, which are valid until
-   * other bytes are stored.
+   * Stores bytes for a call, and returns their address and size as parameters of the call. The
+   * address is valid until this method stores other bytes.
    * @param {Uint8Array} bytes
    */
   input(bytes) {

@@ -163,8 +163,8 @@ export class Module {
   }
 
   /**
-   * Returns what the report on a script says about the line with this number, with a newline. The
-   * text is empty for a valid line.
+   * Returns the line of a script's report about the script's line with this number, with a
+   * newline. It is empty if the script's line is valid.
    * @param {number} number
    * @param {string | Uint8Array} line
    * @param {number} waited milliseconds since the last command

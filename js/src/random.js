@@ -26,7 +26,7 @@ export class SystemBytes {
     return this.#bytes;
   }
 
-  /** @param {number} drawn from the front */
+  /** @param {number} drawn the number of bytes that were drawn, from the front */
   spend(drawn) {
     if (drawn > 0) crypto.getRandomValues(this.#bytes.subarray(0, drawn));
   }

@@ -31,7 +31,7 @@ function* lines(text) {
 }
 
 /**
- * Repeats a text until it has as many bytes as a command may draw.
+ * Repeats a text up to the number of bytes that a command may draw.
  * @param {Uint8Array} text
  */
 const repeated = (text) => Uint8Array.from({ length: RANDOM_SIZE }, (_, at) => text[at % text.length]);

@@ -113,8 +113,8 @@ def starting(chance):
 
 
 def entries(chance, count):
-    """Returns password entries; rarely one too many or too few, or one with another handle or
-    attribute.
+    """Returns password entries for a command. In rare cases there is one entry too many or too few,
+    or an entry has another handle or attribute.
     """
     count += chance.choice((-1, 1)) if chance.random() < 0.03 else 0
     handles = frames.RS_PW, frames.HMAC_SESSION << 24

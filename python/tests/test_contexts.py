@@ -23,9 +23,9 @@ from tpmsim.standard import aes, CC, command, frames, mac, number, RH_LOCKOUT, R
 from tpmsim.standard import SHA256, sized, TRANSIENT
 from tpmsim.standard.objects import Attribute
 
-# Two HMAC keys, one without and one with stClear, of a device whose proofs consist of the byte
-# PROOF_BYTE; and their contexts, which were computed with `hashlib`, `hmac` and `cryptography`. The
-# same contexts are in crates/tpm_context_tests.
+# Two HMAC keys of a device whose proofs consist of the byte PROOF_BYTE: the first one is without
+# stClear, and the second one has it. Their contexts were computed with `hashlib`, `hmac` and
+# `cryptography`. The same contexts are in crates/tpm_context_tests.
 PROOF_BYTE, START, RESETS, RESTARTS = 7, 0x1122334455667788, 3, 5
 PUBLICS = "00100008000b0004044000000005000b0000", "00100008000b0004044400000005000b0000"
 SENSITIVE = "000f00080001610002736400044a656665"
@@ -386,9 +386,9 @@ class OfLayer(LayerCase):
         self.assertEqual(self.load_code(kept[0]), HANDLE_P1)
 
     def test_lengths(self):
-        """The largest context is that of an HMAC key. The property for the largest context is two
-        bytes larger: it also allows for the public area of a SYMCIPHER, which is larger but goes
-        with a shorter key.
+        """The largest context is that of an HMAC key. The property that reports the largest context
+        is two bytes larger. It is computed from the largest public area, that of a SYMCIPHER, and
+        the largest key, although a SYMCIPHER's key is shorter.
         """
         public = hmac_key(auth_policy=bytes(32))
         largest = self.tpm.create_primary(public, data=b"d" * 128, user_auth=b"v" * 32)

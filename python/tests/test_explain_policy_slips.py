@@ -1,6 +1,6 @@
 """Tests each common mistake in a policy digest. The test computes the digest itself, with one
-change. One mistake is reported as one, two are reported as two, and none is reported if no mistake
-explains the digest.
+change. The explanation reports exactly the mistakes that were made, one or two. It reports none if
+no mistake explains the digest.
 """
 
 import hashlib
@@ -238,8 +238,8 @@ NONE = (
 
 
 def pairs_of(rows, most=60):
-    """Yields some pairs of mistakes. In each pair, a mistake in one digest precedes a mistake in
-    the order of the assertions.
+    """Yields some pairs of mistakes. If one of them changes a single digest and the other changes
+    the order of the assertions, the mistake in the digest comes first.
     """
     pairs = list(itertools.combinations(rows, 2))
     for first, second in random.Random("pairs").sample(pairs, most):

@@ -1,5 +1,6 @@
-"""Tests each common mistake in an HMAC, with a caller that changes one ingredient. One mistake is
-reported as one, two are reported as two, and none is reported if no mistake explains the HMAC.
+"""Tests each common mistake in an HMAC, with a caller that changes one ingredient. The explanation
+reports exactly the mistakes that were made, one or two. It reports none if no mistake explains the
+HMAC.
 """
 
 import base64

@@ -136,8 +136,8 @@ class Computed(unittest.TestCase):
 
     def test_what_is_no_sequence(self):
         """A context with savedHandle 80000001 is refused if its content is not the text of exactly
-        one taken slot, or if its hierarchy is not TPM_RH_NULL, even if its integrity value was made
-        with the proof.
+        one taken slot, or if its hierarchy is not TPM_RH_NULL. This is so even if its integrity
+        value was made with the proof.
         """
         head = contexts.Head(1, contexts.SEQUENCE, RH_NULL)
         of_object = image.object_text(key_of(PUBLICS[0]))

@@ -167,8 +167,8 @@ class Explained(unittest.TestCase):
         return " ".join(" ".join(words).split())
 
     def test_a_key(self):
-        """If the device refuses the command that the layer sends, the device's reason is the
-        reason.
+        """If the device refuses the command that the layer sends, the explanation states the
+        device's reason.
         """
         template = hmac_key(attributes=HERE | Attribute.USER_WITH_AUTH)
         key = self.tpm.create_primary(template, data=b"key", user_auth=b"pin")

@@ -190,8 +190,8 @@ impl Native {
     fn written(&self, call: Write) -> Vec<u8> {
         let mut room = vec![0; TEXT_BYTES];
         let holder = std::ptr::addr_of!(self.0) as *mut Holder;
-        // SAFETY: the handle is one of the library, the two calls of this type do not write to it,
-        // and no other thread uses it, because a `Native` is not `Sync`; and `room` has the passed
+        // SAFETY: the handle is one of the library, and the two calls of this type do not write to
+        // it. No other thread uses it, because a `Native` is not `Sync`. `room` has the passed
         // size.
         let size = unsafe { call(holder, room.as_mut_ptr(), room.len()) };
         room.truncate(size);

@@ -1,7 +1,7 @@
 # Tests the completing layer of a device that is kept in a folder. Until the next power cycle, a process can
-# load a context that another process saved: a session's context once, an object's context any number of times,
-# even after the object was flushed. If a process disables the layer, the device alone answers the process. See
-# attached/ask.c.
+# load a context that another process saved. A session's context can be loaded once, and an object's context
+# any number of times, even after the object was flushed. If a process disables the layer, the device alone
+# answers the process. See attached/ask.c.
 tests=$(cd "$(dirname "$0")/.." && pwd -P)
 . "$tests/common/cases.sh"
 . "$tests/common/library.sh"

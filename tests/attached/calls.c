@@ -113,7 +113,7 @@ static struct outcome outcome_of(const struct trial *trial, struct kept **kept) 
 
 /* Returns whether the device has an expected state after a trial. If the sync of a power cycle or
  * of an extend failed, the file may still contain the change, because the device cannot know
- * whether it reached the disk. */
+ * whether the change reached the disk. */
 static bool is_right(const struct trial *trial, const struct outcome *outcome, long there) {
     if (!trial->has_state) return there == -2;
     if (!outcome->is_done && strcmp(name_of_it, "fdatasync") == 0 && there == EXTENDS + 1)

@@ -187,7 +187,7 @@ static void kill_at_each(const struct values *values) {
     }
 }
 
-/* Executes random commands until a command is not answered. Forks a child that does so too. */
+/* Executes random commands until a command is not answered. Forks a child that does the same. */
 static void run_at_random(void) {
     struct kept *kept = opened_so();
     if (!kept || (!told->is_started && !start_telling(kept))) return;

@@ -1,5 +1,6 @@
 /* Checks that no two commands draw the same random bytes. The test replaces getrandom to count the
- * bytes that are read from the system, which must be exactly as many as the commands drew. */
+ * bytes that are read from the system. Their number must equal the number of bytes that the
+ * commands drew. */
 #include "common.h"
 #include <sys/random.h>
 

@@ -3,9 +3,9 @@
     tools/python.sh tests/common/described_commands.py PROGRAM
 
 The test asks the program about each fact of each command. For each kind of fact it prints the
-number of questions. Lines that begin with DIFFERS report differences. Then the test changes one
-fact of one command in the description at a time, for each kind of fact, and checks that comparing
-the changed description with the program finds the mistake.
+number of questions. Lines that begin with DIFFERS report differences. Then, for each kind of fact,
+the test makes one mistake about one command in the description, and checks that comparing the
+changed description with the program finds it.
 """
 
 import concurrent.futures

@@ -14,8 +14,8 @@ from tpmsim.model.object_commands import OBJECTS
 from tpmsim.records.marks import Mark, sum_from, sum_of, OFFSET_BASIS
 from tpmsim.standard import number
 
-# Sizes in bytes: of the session numbers at the end of the body, and of the object numbers that
-# precede the session numbers in version 1.
+# The size in bytes of the session numbers at the end of the body, and that of the object numbers
+# that precede them in version 1.
 OF_SESSIONS, OF_OBJECTS = 8 * 16, 2 * 8 * OBJECTS
 
 

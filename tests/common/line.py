@@ -5,10 +5,10 @@
 The buffer of each `do` line of tests/ and examples/ is checked twice. If it is parsed, and
 frames.py encodes the parts again, the result must be the same buffer. The line that the Python
 device finds for the buffer must assemble to it. In a script that a program wrote, each `cmd` line
-must be a command that no line in words can encode, unless the script says that its commands are
-bytes. The program must find the same lines as the Python device. The test passes the program the
-first buffers of each command, a tenth of the other buffers, and only a twentieth of the `cmd`
-lines, because altered scripts have many `cmd` lines.
+must be a command that no line in words can encode. This does not apply if the script says that its
+commands are bytes. The program must find the same lines as the Python device. The test passes the
+program the first buffers of each command, and a tenth of the other buffers. Altered scripts have
+many `cmd` lines, so the test passes only a twentieth of those.
 """
 
 import collections

@@ -1,6 +1,6 @@
-"""Makes cut_commands.tpm. Each command is cut to every shorter length: first unchanged otherwise,
-and then with its commandSize corrected. At last it is sent whole. Two commands are refused even
-whole: TPM2_PolicySecret with a wrong password, and TPM2_GetRandom with a password.
+"""Makes cut_commands.tpm. Each command is cut to every shorter length: first without any other
+change, and then with its commandSize corrected. At last it is sent whole. Two commands are
+refused even whole: TPM2_PolicySecret with a wrong password, and TPM2_GetRandom with a password.
 """
 
 from tests.general.cuts import cuts

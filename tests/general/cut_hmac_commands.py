@@ -1,9 +1,9 @@
 """Makes cut_hmac_commands.tpm. Commands that an HMAC authorizes are cut after their authorization
-area to each shorter length, with the right commandSize. The HMAC is the one for the whole
-parameters, so it is wrong; it is compared before the parameters are read. For a protected NV index
-or object, the wrong HMAC is a failed try: TPM_PT_LOCKOUT_COUNTER (20E) shows that the device counts
-it. TPM2_DictionaryAttackLockReset forgives each failed try. A refusal leaves the session unchanged.
-So the whole command is sent at last, with the same HMAC.
+area to each shorter length, with the right commandSize. The HMAC is that of the whole parameters,
+so it is wrong for the cut ones. The device compares it before it reads the parameters. For a
+protected NV index or object, the wrong HMAC is a failed try: TPM_PT_LOCKOUT_COUNTER (20E) shows
+that the device counts it. TPM2_DictionaryAttackLockReset forgives each failed try. A refusal leaves
+the session unchanged. So the whole command is sent at last, with the same HMAC.
 """
 
 from collections.abc import Iterator

@@ -1,6 +1,6 @@
 """Writes startup_state.tpm. TPM2_Startup(STATE) restores PCRs 0 to 15 as TPM2_Shutdown(STATE) saved
-them. It keeps platformAuth and the locks of NV indices, which TPM2_Startup(CLEAR) resets. Objects
-and sessions are removed even so.
+them. It keeps platformAuth and the locks of NV indices, which TPM2_Startup(CLEAR) resets. Even
+TPM2_Startup(STATE) removes objects and sessions.
 """
 
 from tests.common.steps import Steps

@@ -31,9 +31,9 @@ FOLDER, FULL, CLONE_NEWPID, SECONDS_TO_END = "state", "full", 0x20000000, 60
 INTERRUPT_EACH, KILL_EACH = 0.0007, 0.02
 ASKED, DONE, OTHER, WRONG = b"a", b"d", b"o", b"w"
 
-# The kinds of hosts, in the order in which processes begin, and the probability of a power cycle:
-# first for even seeds, with which the journals grow, and then for odd seeds, with which the power
-# is cycled often.
+# The kinds of hosts, in the order in which processes begin, and the probability of a power cycle.
+# The first value is for even seeds, with which the journals grow. The second is for odd seeds, with
+# which the power is cycled often.
 KINDS = ((Module, Python, Run, Module, Python), (Module, Python, Run, Module, Python, Simulator))
 CYCLES = 0.0005, 0.02
 

@@ -1,5 +1,5 @@
 """Writes nv_types.tpm. Each type of index allows one change: an ordinary index is written, a
-counter is incremented, bits are set, and an extended index is extended. Every other change is
+counter is incremented, bits are set, and an extend index is extended. Every other change is
 refused, before and after the first write.
 """
 

@@ -1,6 +1,6 @@
 """Writes policy_locality.tpm. TPM2_PolicyLocality: the policy is only for some localities. Its
-parameter has a bit for each of the localities 0 to 4. The localities that all such parameters have
-in common remain.
+parameter has a bit for each of the localities 0 to 4. After several such commands, only the
+localities that are in all their parameters remain.
 """
 
 from tests.common.policy_teller import PolicyTeller

@@ -1,6 +1,6 @@
-"""Makes policy_nv.tpm. TPM2_PolicyNV: the policy holds while the content of an index compares with
-a value. Its parameters are operandB, offset and operation; the index is on the left of the
-comparison.
+"""Makes policy_nv.tpm. TPM2_PolicyNV: the policy holds while a comparison of an index's content
+with a value is true. Its parameters are operandB, offset and operation; the index is on the left of
+the comparison.
 """
 
 import hashlib

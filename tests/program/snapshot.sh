@@ -34,8 +34,9 @@ same() {
     if cmp "$2" "$3"; then echo "$1: the same"; else echo "$1: NOT THE SAME"; fi
 }
 
-# same_device LABEL FILE FILE: prints whether two state texts are the same, except for the digest at the end and
-# the start number of the completing layer, 176 bytes before the end. A restored device has a new start number.
+# same_device LABEL FILE FILE: prints whether two state texts are the same. It ignores the digest at the end,
+# and the start number of the completing layer, which is 176 bytes before the end. A restored device has a new
+# start number.
 same_device() {
     for text in "$2" "$3"; do
         head -c -176 "$text" >"$text.before"

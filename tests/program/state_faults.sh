@@ -1,5 +1,5 @@
-# Checks that the program refuses to open a device in a folder if one of its paths is not a folder or file of
-# the user, or if the journal is damaged or missing. The program must then change nothing.
+# Checks that the program refuses to open a device in a folder in two cases: one of its paths is not a folder
+# or file of the user, or the journal is damaged or missing. The program must then change nothing.
 tests=$(cd "$(dirname "$0")/.." && pwd -P)
 . "$tests/common/cases.sh"
 needs python3

@@ -18,7 +18,7 @@ from tpmsim.model import image, state_text
 from tpmsim.standard import number
 
 # The sizes of the time, of the whole tail, and of a digest. The tail follows the state text. It
-# consists of the time, the number of launches, and a digest.
+# consists of the time, whether there was a dynamic launch (0 or 1), and a digest.
 TIME_BYTES, TAIL_BYTES, DIGEST_BYTES = 8, 41, 32
 HEAD_BYTES = 10
 

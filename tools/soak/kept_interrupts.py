@@ -6,10 +6,10 @@
 In each folder three processes use one device for half a second. They increment an NV index,
 power-cycle the device, and open it again. Meanwhile KeyboardInterrupt is raised in them: in every
 second folder by a timer, up to three times during a call; in the other folders by a tracer, at a
-random line. Then the folder is opened. A device counts as lost if opening fails, if the value of
-the index is less than the number of answered increments or greater than the number of requested
-ones, or if a process reports damage or waits forever. The last line contains the totals. The status
-is 1 if a device is lost.
+random line. Then the folder is opened. A device counts as lost in these cases: opening fails; the
+value of the index is less than the number of answered increments, or greater than the number of
+requested ones; or a process reports damage or waits forever. The last line contains the totals. The
+status is 1 if a device is lost.
 """
 
 import json

@@ -9,8 +9,8 @@ docs/gate.json names the commit at which they were last tried.
     tools/soak/wrong_bodies.py --apply [CRATE..]     only checks whether each applies; needs no rt
 
 The crates need the libraries that `rt ci` built here. If a source is newer, `rt ci` first proves them
-in a copy without wrong bodies. Then the wrong bodies of each crate are tried, for as many crates at a
-time as there are processors, or as JOBS says.
+in a copy without wrong bodies. Then the wrong bodies of each crate are tried. The number of crates
+that are tried at the same time is JOBS or, by default, the number of processors.
 
 The prover checks each function against the contracts of its callees, and reports which functions
 have failing goals of their own. Therefore wrong bodies of different functions share one check of

@@ -61,8 +61,9 @@ export function areSame(one, other) {
 }
 
 /**
- * Reads numbers and bytes from a text, in order. Missing bytes of a number count as 0; other
- * missing bytes are left out.
+ * Reads numbers and byte strings from a byte array, one after another. If the array ends
+ * within a number, the missing bytes count as 0. If it ends within a byte string, the result
+ * is shorter.
  */
 export class Reader {
   /** @param {Uint8Array} bytes @param {number} [at] */
@@ -102,7 +103,7 @@ export class Reader {
   }
 
   /**
-   * Returns what `read` returns if the next byte is not 0, or else null.
+   * Reads a byte. If it is not 0, returns what `read` returns, and otherwise null.
    * @template T @param {() => T} read
    */
   optional(read) {

@@ -9,7 +9,7 @@ import { handleWords, nvTypeWords, algorithmWords } from "./words.js";
 /**
  * @typedef {import("./state.js").State} State
  * @typedef {import("./facts.js").CommandFact} CommandFact
- * @typedef {{text: string, words: string, isMore: boolean}} Choice `isMore`: more follows it
+ * @typedef {{text: string, words: string, isMore: boolean}} Choice `isMore`: more words follow it
  * @typedef {{text: string, at: number, sort: "name" | "handle" | "entry" | "parameter", field: number}} Token
  * @typedef {{from: number, choices: Choice[]}} Completion
  */
@@ -150,7 +150,7 @@ function entryChoices(command, entries, state) {
 }
 
 /**
- * Returns the names of numbers, by the parameter that has them.
+ * Returns the values that are offered for a parameter, with their names, keyed by the parameter's name.
  * @returns {Record<string, [string, string][]>}
  */
 const namedNumbers = () => ({

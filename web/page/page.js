@@ -147,7 +147,7 @@ export class Page {
     this.run.take(this.script.steps);
   }
 
-  /** Drops the explained log, and the device with which it began. */
+  /** Drops the explained log, and the device with which the log began. */
   leaveLog() {
     if (!this.told.log) return;
     if (this.told.start) this.run.begin(null);
@@ -209,7 +209,7 @@ export class Page {
     this.stepped();
   }
 
-  // What is shown.
+  // Choosing and showing a step.
 
   /** @param {number} step @param {boolean} isRevealed whether the editor goes there */
   choose(step, isRevealed) {

@@ -16,8 +16,8 @@ const PAIRS = /^(?:[0-9a-f]{2})+$/i;
 const OCTAL_DIGITS = 7;
 
 /**
- * @typedef {{offset: number, hex: string, isRepeated: boolean}} Row a row of a dump; `isRepeated` says that a
- *   star after it stands for rows of the same bytes
+ * @typedef {{offset: number, hex: string, isRepeated: boolean}} Row a row of a dump; `isRepeated` is true if
+ *   a line `*` follows, which stands for more rows with the same bytes
  */
 
 /**
@@ -46,7 +46,8 @@ function bytesOfRow({ offset, hex, isRepeated }, next) {
 }
 
 /**
- * Returns a text with each dump in it as one line of hex. A text without a dump is unchanged.
+ * Returns the text with each dump in it replaced by one line of hex. Returns a text unchanged if it contains
+ * anything but dumps.
  * @param {string} text
  */
 function withoutOffsets(text) {
@@ -69,8 +70,8 @@ function withoutOffsets(text) {
 }
 
 /**
- * Returns the buffers in a text, in hex; null if the text contains anything else. A line contains
- * whole buffers, or a buffer continues on the next lines up to its size.
+ * Returns the buffers in a text, in hex; null if the text contains anything else. A line may contain several
+ * buffers, and a buffer may continue on the next lines.
  * @param {string} text
  */
 function buffersIn(text) {
@@ -90,8 +91,9 @@ function buffersIn(text) {
 }
 
 /**
- * Returns whether a buffer that follows a command is its response: it contains no command's number,
- * or the response code of a refusal.
+ * Returns whether a buffer that follows a command is its response: the number at offset 6 is not a command
+ * code of the standard. A buffer of ten bytes is also a response, unless the number is the code of a
+ * supported command without handles and parameters.
  * @param {string} buffer
  */
 function isResponse(buffer) {

@@ -260,7 +260,7 @@ function trimmed(value) {
 }
 
 /**
- * Returns a function from a field's name to its bytes, without its size field.
+ * Returns a function that maps the name of a field to the field's bytes, without its size field.
  * @param {Uint8Array} bytes @param {(bytes: Uint8Array) => import("./fields.js").Field[]} fieldsOf
  */
 function namedFields(bytes, fieldsOf) {

@@ -60,8 +60,8 @@ export function rulesOf(check, buffer, meaning, before) {
 }
 
 /**
- * Returns the rows of the table for a check of all commands, or for the command's own checks: the sentence
- * of each row, by the row's label.
+ * Returns the label and the sentence of each row of the table for a check. For a check of the command's own,
+ * these are the rows of all its own checks.
  * @param {string} check @param {Uint8Array} buffer
  * @returns {[string, string][]}
  */
@@ -79,7 +79,8 @@ export function rowsOf(check, buffer) {
 export const isWrongEntry = (meaning) => meaning !== null && ["AUTH_FAIL", "BAD_AUTH"].includes(meaning.name);
 
 /**
- * Returns a rule with the number of the entry. For a wrong entry it states only the case that happened.
+ * Returns the sentence of a rule with the number of the entry. If the password or HMAC of the entry was
+ * wrong, the sentence states only the case that happened.
  * @param {string} rule @param {Uint8Array} buffer @param {Meaning | null} meaning @param {State} before
  */
 function sentenceOf(rule, buffer, meaning, before) {
@@ -111,8 +112,8 @@ function failedCondition(buffer, meaning, before) {
 const WRITTEN = 1 << 29;
 
 /**
- * Returns the number of the first policy condition that does not hold: conditions 5 and 6 are
- * checked before condition 8.
+ * Returns 6 if the session requires that the index is written, or not written, and this is not the case.
+ * Otherwise returns 8, because policy conditions 5 and 6 are checked before condition 8.
  * @param {import("./state.js").Session} session
  * @param {import("./state.js").Index | undefined} index
  */

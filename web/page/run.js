@@ -1,6 +1,6 @@
 // Plays a script, and stores the responses and states by their events. An event before the first
-// edited line is not played again: the state before each 64th event is stored as a state text, and
-// playing continues from such a text.
+// edited line is not played again. For this, the state before each 64th event is stored as a state
+// text, from which playing can continue.
 
 import { decoded } from "./bytes.js";
 import { responseCode } from "./fields.js";

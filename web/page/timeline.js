@@ -63,7 +63,7 @@ function drawKind(pen, marks, mark, { width, half, middle }) {
   }
 }
 
-/** What is drawn now, in words. */
+/** A text that describes what is drawn now. */
 let drawn = "";
 
 /** @param {import("./script.js").Step[]} steps @param {number[]} refusals */

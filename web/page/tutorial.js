@@ -4,7 +4,7 @@ import { byId, make } from "./dom.js";
 
 /**
  * A lesson. Its task is done when the text matches `matches`, and at least `least` events have this
- * command and this response code. `after` then says where to look.
+ * command and this response code. The page then shows `after`, which says where to look.
  * @typedef {{
  *   title: string, text: string[], task: string, script: string[], line: number,
  *   done: {name: string, code: string, least?: number, matches?: string}, after?: string, show: Show,

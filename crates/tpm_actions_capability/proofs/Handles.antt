@@ -1,4 +1,4 @@
--- The code encodes a list of handles as the definition says.
+-- The code's encoding of a list of handles matches the definition.
 use Rattle.std.proofs.Common.{◌≡◌, ℕ, List, Result, Ok, Err, ap, ◌∙◌}
 use Rattle.tpm_bytes.specs.Reading.{◌>>=◌}
 use Rattle.tpm_types.specs.declared.refused.Refused.{Refused}

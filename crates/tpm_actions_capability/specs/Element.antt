@@ -27,7 +27,8 @@ is_from from e = nat_le from e.number
 abbrev pub found_count : ℕ → List Element → ℕ
 found_count from elements = count_by (is_from from) elements
 
--- the number of elements that are listed: as many as requested, but at most 64
+-- how many elements are listed: all elements whose number is at least `from`, but no more than
+-- `count`, and no more than 64
 abbrev pub told_count : (from count : ℕ) → List Element → ℕ
 told_count from count elements = min (found_count from elements) (min count 64)
 

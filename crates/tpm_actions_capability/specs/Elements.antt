@@ -31,8 +31,8 @@ pcr_elements = map by_itself (numbers_below 24)
 abbrev pub index_elements : Record → List Element
 index_elements r = map (λ e. by_itself e.0) (heads_of r.nv)
 
--- the handles of type 40, each of which always names an entity: the hierarchies, TPM_RH_NULL,
--- lockout and the password session
+-- the handles of type 40, which always name an entity: the hierarchies, TPM_RH_NULL, lockout and
+-- the password session
 abbrev pub permanent_elements : List Element
 permanent_elements =
     by_itself owner_handle.number
@@ -43,7 +43,7 @@ permanent_elements =
     ∷ by_itself platform_handle.number
     ∷ []
 
--- the session in this slot, if there is one. The slot number is compared with the requested
+-- the session in this slot, if the slot is taken. The slot number is compared with the requested
 -- property, but the listed value is the handle
 abbrev pub session_element : Record → (place : ℕ) → List Element
 session_element r place =
@@ -54,7 +54,7 @@ session_element r place =
 abbrev pub session_elements : Record → List Element
 session_elements r = flat_map (session_element r) (numbers_below session_limit)
 
--- the transient object in this slot, if there is one
+-- the transient object in this slot, if the slot is taken
 abbrev pub object_element : Record → ℕ → List Element
 object_element r place =
     let handle : Handle = numbered (number_of 0x80 place) in

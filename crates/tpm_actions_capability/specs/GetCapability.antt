@@ -85,8 +85,8 @@ get_capability_row r q = do
   text ← told_of r p capability
   Ok (unchanged r (answer_of (Plain text)))
 
--- The code wrote the bytes or the elements that the definition returns, or it refused with the
--- definition's refusal.
+-- The code wrote the bytes or elements that the definition returns, or it returned the same refusal
+-- as the definition.
 abbrev pub Tells : {X : Type 0} → Result X Refused → Result (Unit {0}) Refused → X → Type 0
 Tells (Ok wanted) (Ok done) new = new ≡ wanted
 Tells (Ok wanted) (Err e) new = ⊥

@@ -100,7 +100,7 @@ fn tell_elements(
     }
 }
 
-/// Lists the requested number of elements of a capability, starting at a number.
+/// Lists the requested number of a capability's elements, starting at a given number.
 pub(crate) fn list(
     elements: &[Element],
     telling: Telling,

@@ -28,7 +28,7 @@ pub(crate) fn pcrs(elements: &mut Elements)
     }
 }
 
-/// Lists the permanent handles, each of which always names an entity.
+/// Lists the permanent handles, which always name an entity.
 pub(crate) fn permanent(elements: &mut Elements)
     requires { elements.old.items ≡ [] }
     ensures { elements.new.items ≡ permanent_elements }
@@ -41,7 +41,7 @@ pub(crate) fn permanent(elements: &mut Elements)
     elements.push(Element::by_itself(Handle::PLATFORM.number));
 }
 
-/// Lists the session in this slot, if there is one.
+/// Lists the session in this slot, if the slot is taken.
 fn session<K: Keep>(keep: &K, place: u32, elements: &mut Elements)
     requires place { place < session_limit }
     requires room { length elements.old.items < 64 }
@@ -68,7 +68,7 @@ pub(crate) fn sessions<K: Keep>(keep: &K, elements: &mut Elements)
     }
 }
 
-/// Lists the transient object in this slot, if there is one.
+/// Lists the transient object in this slot, if the slot is taken.
 fn object<K: Keep>(keep: &K, place: u32, elements: &mut Elements)
     requires place { place < object_limit }
     requires room { length elements.old.items < 64 }
@@ -95,7 +95,7 @@ pub(crate) fn objects<K: Keep>(keep: &K, elements: &mut Elements)
     }
 }
 
-/// Lists the handles of a container, which is sorted by handle in ascending order.
+/// Lists the handles in a container, which is sorted in ascending order of handles.
 #[tactic(auto, using(crate::proofs::Listing::one_more))]
 fn kept<T>(things: &[(u32, T)], elements: &mut Elements)
     requires empty { elements.old.items ≡ [] }
@@ -134,7 +134,7 @@ fn command_attributes(code: CommandCode) -> u32
     code.number() + (1 << 25) * shape.handles.len() as u32 + answered
 }
 
-/// The element of a command, with its attributes.
+/// The list element for a command, with the command's attributes as its value.
 fn command(code: CommandCode) -> Element
     ensures { result ≡ command_element code }
 {
@@ -164,7 +164,7 @@ pub(crate) fn commands(elements: &mut Elements)
     list_commands(CommandCode::ALL, elements);
 }
 
-/// The element of a property, with its value.
+/// The list element for a property, with this value.
 fn property(number: u32, told: u32) -> Element
     ensures { result ≡ record { number = number; told = told } }
 {

@@ -5,8 +5,8 @@
 //!
 //! [`get_capability`] is the command, [`elements`] lists the elements of each capability, and
 //! [`element`] returns part of a list. The crate uses `tpm_record::rows`, and `tpm_commands` for
-//! the listed commands. The command is proved to do what its row in `specs/GetCapability`
-//! specifies, for every implementation of the record, which it only reads.
+//! the listed commands. The command only reads the record. It is proved to do what its row in
+//! `specs/GetCapability` specifies, for every implementation of the record.
 
 pub mod element;
 mod elements;

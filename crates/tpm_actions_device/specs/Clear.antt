@@ -1,4 +1,5 @@
--- TPM2_Clear. TPM 2.0 Library, Part 3, section 24.6. It prepares the computer for a new owner.
+-- TPM2_Clear. TPM 2.0 Library, Part 3, section 24.6. The command prepares the computer for a new
+-- owner.
 use Rattle.tpm_types.specs.declared.action_check.ActionCheck.TheVariants as action
 use Rattle.std.specs.Prelude.{ℕ, false, List, Result, Ok}
 use Rattle.tpm_bytes.specs.Reading.{◌>>=◌, refused_if}
@@ -25,9 +26,9 @@ use Rattle.tpm_record.specs.rows.Rows.{Success, all_read}
 abbrev pub cleared_lockout : LockoutState → LockoutState
 cleared_lockout s = with_closed false (with_tries 0 s)
 
--- the fixed part of the record after TPM2_Clear: the hierarchies and lockout are cleared, Clock,
--- resetCount and restartCount are 0, and the PCR update counter is incremented; Time is unchanged,
--- and TPM2_Clear remains enabled or disabled
+-- the fixed part of the record after TPM2_Clear. The hierarchies and lockout are cleared; Clock,
+-- resetCount and restartCount are 0; the PCR update counter is incremented. Time and disableClear
+-- are unchanged
 abbrev pub cleared_fixed : BankValues → List ℕ → Fixed → Fixed
 cleared_fixed banks random f = record f {
   hierarchies = cleared_hierarchies f.hierarchies random;

@@ -18,7 +18,7 @@ use Rattle.tpm_record.specs.rows.Rows.{Success, only}
 abbrev pub with_disable_clear : Record → Bool → Record
 with_disable_clear r disables = record r { fixed = record r.fixed { disable_clear = disables } }
 
--- whether TPM_RH_LOCKOUT is used to enable TPM2_Clear, which only the platform may do
+-- whether TPM_RH_LOCKOUT is used to enable TPM2_Clear; only the platform may enable it
 abbrev pub is_enabled_by_lockout : Handle → (disables : Bool) → Bool
 is_enabled_by_lockout handle disables = handle.number == lockout_handle.number && not disables
 

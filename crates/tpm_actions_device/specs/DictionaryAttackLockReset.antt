@@ -9,7 +9,8 @@ use Rattle.tpm_record.specs.rows.Request.{Request}
 use Rattle.tpm_record.specs.rows.Rows.{Success, all_read}
 
 -- the row of TPM2_DictionaryAttackLockReset. Handle: lockHandle, with authorization. Parameters:
--- none. Effect: sets failedTries to 0; both running times of the lockout state are unchanged
+-- none. Effect: sets failedTries to 0; the elapsed parts of recoveryTime and lockoutRecovery are
+-- unchanged
 unfoldable pub dictionary_attack_lock_reset_row : Record → Request → Result Success Refused
 dictionary_attack_lock_reset_row r q = do
   ended ← all_read q.parameters

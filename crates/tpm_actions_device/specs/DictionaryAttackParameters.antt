@@ -27,7 +27,7 @@ lockout_parameters text = do
   })
 
 -- the row of TPM2_DictionaryAttackParameters. Handle: lockHandle, with authorization. Effect: sets
--- the three parameters, and restarts both running times of the lockout state
+-- the three parameters, and sets the elapsed parts of recoveryTime and lockoutRecovery to 0
 unfoldable pub dictionary_attack_parameters_row : Record → Request → Result Success Refused
 dictionary_attack_parameters_row r q = do
   p ← lockout_parameters q.parameters

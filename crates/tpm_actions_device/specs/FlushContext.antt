@@ -16,7 +16,8 @@ use Rattle.tpm_record.specs.rows.Answer.{nothing}
 use Rattle.tpm_record.specs.rows.Refusals.{parameter_refusal}
 use Rattle.tpm_record.specs.rows.Rows.{Success, only}
 
--- whether a handle has a type that can be flushed: a session (02, 03) or a transient object (80)
+-- whether a handle has one of the types that can be flushed: a session (02, 03) or a transient
+-- object (80)
 abbrev pub can_be_flushed : Handle → Bool
 can_be_flushed handle = is_session handle || is_transient handle
 

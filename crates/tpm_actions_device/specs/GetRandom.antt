@@ -15,8 +15,8 @@ abbrev pub random_answer : ℕ → List ℕ → AnswerParts
 random_answer count random =
     record { handle = None; body = Sized (take count random); drawn = count }
 
--- the row of TPM2_GetRandom. Parameter: bytesRequested. Answer: the first of the event's 256 random
--- bytes, as many as requested but at most 32
+-- the row of TPM2_GetRandom. Parameter: bytesRequested. Answer: as many of the event's first random
+-- bytes as are requested, but at most 32
 unfoldable pub get_random_row : Record → Request → Result Success Refused
 get_random_row r q = do
   requested ← only (or_fault (number_at w16 q.parameters) (plain code.Insufficient))

@@ -61,14 +61,14 @@ parameters_in text = do
     hash = hash.0;
   })
 
--- whether the session encrypts by XOR and its masks use a hash algorithm other than the session's
+-- whether the session encrypts by XOR, with masks whose hash algorithm is not the session's
 abbrev pub has_other_mask : SymmetricDefinition → HashAlg → Bool
 has_other_mask (symmetric.Xor mask) hash = not (hash_number mask == hash_number hash)
 has_other_mask other hash = false
 
 -- the command's own checks of its parameters. Refused by check A1 if nonceCaller is shorter than 16
--- bytes, or longer than a digest; by A2 if there is a salt, because there is no key to decrypt it;
--- by A3 if the hash of XOR is not authHash
+-- bytes, or longer than a digest; by A2 if encryptedSalt is not empty, because there is no key to
+-- decrypt it; by A3 if the session encrypts by XOR with a hash other than authHash
 unfoldable pub parameters_pass : Parameters → Result (Unit {0}) Refused
 parameters_pass p = do
   a1 ← refused_if (not (is_nonce_size p.hash (length p.nonce_caller)))
@@ -76,8 +76,8 @@ parameters_pass p = do
   a2 ← refused_if (not (length p.salt == 0)) (parameter_refusal action.Second 2 code.Value)
   refused_if (has_other_mask p.symmetric p.hash) (parameter_refusal action.Third 4 code.Hash)
 
--- the binding of a session to the entity of the handle bind, as the entity is now; None if bind is
--- TPM_RH_NULL
+-- the binding of a new session to the entity that the handle `bind` names, with the entity's
+-- current Name, authorization value and protection; None if `bind` is TPM_RH_NULL
 unfoldable pub binding_of : Record → Handle → Option Binding
 binding_of r bind =
     if bind.number == null_handle.number then None
@@ -96,8 +96,8 @@ abbrev pub session_place : List (Option Session) → Result ℕ Refused
 session_place sessions =
     ok_or (lowest_free sessions) (action_refusal action.Fourth (plain code.SessionMemory))
 
--- the answer: the handle of the new session in its slot, and its nonceTPM, drawn from the random
--- bytes
+-- the answer: the new session's handle, which depends on its slot, and its nonceTPM, which is drawn
+-- from the random bytes
 abbrev pub start_answer : Parameters → Session → ℕ → AnswerParts
 start_answer p s place = record {
   handle = Some (handle_of s.kind place);

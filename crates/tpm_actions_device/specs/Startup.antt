@@ -38,7 +38,7 @@ start_of type.State saved.State = Ok Resume
 
 -- ---- the effects of every startup
 
--- a count of startups after one more startup; it stays at 2^32 - 1
+-- a count of startups, incremented by one, but never above 2^32 - 1
 abbrev pub counted_up : ℕ → ℕ
 counted_up count = min (count + 1) (2 ^ 32 - 1)
 
@@ -89,22 +89,23 @@ resume_fixed f = record (begun_with (restored_from f.saved f.banks) f) {
 
 -- ---- the row of TPM2_Startup
 
--- the record after a startup: CLEAR changes NV indices, and a resume does not
+-- the record after a startup; a startup with CLEAR changes NV indices, and a TPM Resume does not
 abbrev pub started_record : Start → Record → List ℕ → Record
 started_record Reset r random =
     record r { fixed = reset_fixed r.fixed random; nv = started r.nv }
 started_record Restart r random = record r { fixed = restart_fixed r.fixed; nv = started r.nv }
 started_record Resume r random = record r { fixed = resume_fixed r.fixed }
 
--- the number of random bytes that a startup draws: a reset draws a seed and a proof
+-- the number of random bytes that a startup draws; only a TPM Reset draws some, for a seed and a
+-- proof
 abbrev pub start_draws : Start → ℕ
 start_draws Reset = 64
 start_draws Restart = 0
 start_draws Resume = 0
 
 -- the row of TPM2_Startup. Parameter: startupType, from any locality. Refused by check A1 if STATE
--- is requested, but TPM2_Shutdown(STATE) saved no state. Effect: starts the device. The saved state
--- is then discarded, as after every success of a command that does not preserve it
+-- is requested, but TPM2_Shutdown(STATE) saved no state. Effect: starts the device. Like every
+-- successful command that does not preserve the saved state, a successful TPM2_Startup discards it
 unfoldable pub startup_row : Record → Request → Result Success Refused
 startup_row r q = do
   type ← only (startup_type_at q.parameters)

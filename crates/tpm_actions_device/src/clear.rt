@@ -16,7 +16,7 @@ use tpm_record::rows::refusals::action_refusal;
 use tpm_record::{Fixed, Keep, PersistentObjects};
 use tpm_types::{ActionCheck, Refused, ResponseCode};
 
-/// The number of random bytes that TPM2_Clear draws: the owner's seed and proof, and the
+/// The number of random bytes that TPM2_Clear draws: for the owner's seed and proof, and for the
 /// endorsement hierarchy's proof.
 const CLEAR_DRAWS: usize = 3 * 32;
 

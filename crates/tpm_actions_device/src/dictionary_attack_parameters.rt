@@ -38,8 +38,8 @@ fn read_parameters(parameters: &[u8]) -> Result<AttackParameters, Refused>
     })
 }
 
-/// TPM2_DictionaryAttackParameters: sets how many failed tries cause lockout, after which time a
-/// failed try is forgiven, and for how long a failed attempt disables lockoutAuth.
+/// TPM2_DictionaryAttackParameters: sets how many failed tries cause lockout, how long it takes
+/// until a failed try is forgiven, and for how long a failed attempt disables lockoutAuth.
 #[tactic(auto, unfolding(crate::specs::DictionaryAttackParameters::dictionary_attack_parameters_row))]
 pub fn dictionary_attack_parameters<K: Keep>(
     keep: &mut K,

@@ -7,7 +7,7 @@ use tpm_pcr::ChangeFault;
 use tpm_record::rows::refusals::action_refusal;
 use tpm_types::{ActionCheck, Refused, ResponseCode};
 
-/// The refusal of a command whose change of a PCR failed with this fault.
+/// The refusal of a command that could not change a PCR because of this fault.
 pub fn change_refusal(fault: ChangeFault) -> Refused
     ensures { result ≡ change_refusal fault }
 {

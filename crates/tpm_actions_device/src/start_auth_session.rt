@@ -53,7 +53,7 @@ fn read_parameters(parameters: &[u8]) -> Result<SessionParameters, Refused>
     })
 }
 
-/// Whether the session encrypts by XOR and its masks use a hash algorithm other than the session's.
+/// Whether the session encrypts by XOR, with masks whose hash algorithm is not the session's.
 fn has_other_mask(symmetric: SymmetricDefinition, hash: HashAlg) -> bool
     ensures { result ≡ has_other_mask symmetric hash }
 {
@@ -81,7 +81,7 @@ fn check_parameters(asked: &SessionParameters) -> Result<(), Refused>
     Ok(())
 }
 
-/// The binding of a session to the entity of this handle; None for TPM_RH_NULL.
+/// The binding of a session to the entity that this handle names; None for TPM_RH_NULL.
 #[tactic(auto, unfolding(crate::specs::StartAuthSession::binding_of, tpm_record::specs::Entity::name_of, tpm_record::specs::Entity::auth_value_of, tpm_record::specs::Entity::protection_of))]
 fn binding_of<K: Keep>(keep: &K, bind: Handle) -> Option<Binding>
     ensures { result ≡ binding_of (K.record_of keep.now) bind }

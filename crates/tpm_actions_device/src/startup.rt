@@ -1,4 +1,4 @@
-//! TPM2_Startup: starts the device by a TPM Reset, a TPM Restart or a TPM Resume (specified in
+//! TPM2_Startup: starts the device with a TPM Reset, a TPM Restart or a TPM Resume (specified in
 //! `specs/Startup`).
 
 ghost use Rattle.std.specs.Prelude.{◌≡◌};
@@ -18,7 +18,7 @@ use tpm_record::rows::refusals::parameter_refusal;
 use tpm_record::{Fixed, Hierarchies, Keep, SavedKind, Secrets};
 use tpm_types::{ActionCheck, AuthValue, HierarchyAuth, Refused, ResponseCode, StartupType};
 
-/// The number of random bytes that a TPM Reset draws: a seed and a proof.
+/// The number of random bytes that a TPM Reset draws, for a seed and a proof.
 const RESET_DRAWS: usize = 64;
 
 /// Empties platformAuth.

@@ -15,15 +15,14 @@ use Rattle.tpm_types.specs.declared.rc.ResponseCode.TheVariants as code
 use Rattle.tpm_types.specs.declared.refused.Refused.{Refused}
 use Rattle.tpm_record.specs.rows.Refusals.{or_refusal, parameter_refusal}
 
--- the refusal if a check of a template, or of a public area to be loaded, fails; `before` is the
--- number of the command's own checks before the template's checks. The template is the second
--- parameter
+-- the refusal if a template, or a public area to be loaded, fails a check; `before` is the number
+-- of the command's own checks before the template's checks. The template is the second parameter
 abbrev pub template_refusal : (before : ℕ) → TemplateFault → Refused
 template_refusal before template.AuthPolicySize = parameter_refusal (action_named (before + 1)) 2 code.Size
 template_refusal before template.Attributes = parameter_refusal (action_named (before + 2)) 2 code.Attributes
 template_refusal before template.Scheme = parameter_refusal (action_named (before + 3)) 2 code.Scheme
 
--- the refusal if a check of inSensitive, the first parameter, fails. A conflict with the template's
+-- the refusal if inSensitive, the first parameter, fails a check. A conflict with the template's
 -- attributes is reported as an error of the attributes
 abbrev pub creation_refusal : (before : ℕ) → CreationFault → Refused
 creation_refusal before creation.AuthValueSize = parameter_refusal (action_named (before + 1)) 1 code.Size

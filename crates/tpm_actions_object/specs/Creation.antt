@@ -107,8 +107,8 @@ ticket_text hierarchy proof name hash =
     creation_tag ++ to_be_bytes w32 (hierarchy_handle hierarchy).number
     ++ sized_text (hmac_of Sha256 proof (creation_tag ++ name ++ hash))
 
--- the part of a creation's answer after the public area: the creation data, its hash, and the
--- ticket
+-- the part of the answer of TPM2_CreatePrimary or TPM2_Create after the public area: the creation
+-- data, their hash, and the ticket
 unfoldable pub creation_rest : Record → (locality : ℕ) → Parent → Parameters → Public → List ℕ
 creation_rest r locality parent p public =
     let creation : CreationData = creation_data r locality parent p public in
@@ -117,7 +117,7 @@ creation_rest r locality parent p public =
     sized_text (creation_data_text creation) ++ sized_text hash
     ++ ticket_text parent.hierarchy proof (object_name public) hash
 
--- the public area in a creation's answer, and everything after it
+-- the public area in the answer of TPM2_CreatePrimary or TPM2_Create, and everything after it
 abbrev pub creation_text : Record → (locality : ℕ) → Parent → Parameters → Public → List ℕ
 creation_text r locality parent p public =
     sized_text (public_text public) ++ creation_rest r locality parent p public

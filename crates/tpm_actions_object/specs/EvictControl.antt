@@ -65,8 +65,8 @@ eviction_passes by_platform removes object wanted = do
       (action_refusal action.Second (at (place.Handle 2) (plain code.Attributes)))
   refused_if (not (may_name by_platform removes wanted)) (parameter_refusal action.Third 1 code.Range)
 
--- the persistent objects without the object with this handle. Refused by check A4 if
--- persistentHandle is a different handle
+-- the persistent objects, except the one with this handle. Refused by check A4 if persistentHandle
+-- is a different handle
 abbrev pub removed : Entries Object → Handle → Handle → Result (Entries Object) Refused
 removed objects handle wanted = do
   a4 ← refused_if (not (wanted.number == handle.number))

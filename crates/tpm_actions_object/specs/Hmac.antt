@@ -35,8 +35,8 @@ abbrev pub own_hash : HashAlg → Option HashAlg → Option HashAlg
 own_hash own None = Some own
 own_hash own (Some asked) = if hash_number own == hash_number asked then Some own else None
 
--- the hash with which an HMAC is computed, if there is one; if a key's scheme is NULL, it is the
--- hash that the command requests
+-- the hash with which an HMAC is computed, or None. If the key's scheme is NULL, it is the hash
+-- that the command requests; otherwise, `own_hash` defines it
 abbrev pub chosen_hash : KeyedHashScheme → Option HashAlg → Option HashAlg
 chosen_hash scheme.Null asked = asked
 chosen_hash (scheme.Hmac own) asked = own_hash own asked

@@ -29,8 +29,8 @@ parent_passes parent =
     refused_if (not (is_storage_parent parent.public))
     (action_refusal action.First (at (place.Handle 1) (plain code.Type)))
 
--- whether an object has fixedTPM; if it has, each child has fixedTPM if and only if the child has
--- fixedParent
+-- whether an object has fixedTPM. If it does, each of its children has fixedTPM exactly if the
+-- child has fixedParent
 abbrev pub is_fixed : Object → Bool
 is_fixed parent = has parent.public.attributes attribute.FixedTpm
 

@@ -10,7 +10,7 @@ use tpm_record::rows::refusals::parameter_refusal;
 use tpm_types::{ActionCheck, Refused, ResponseCode};
 use tpm_types_object::{Public, SensitiveCreate};
 
-/// The refusal if a check of a template fails. `before` is the number of the command's own checks
+/// The refusal if a template fails a check. `before` is the number of the command's own checks
 /// before the template's checks.
 fn template_refusal(before: u8, fault: TemplateFault) -> Refused
     requires { before ≤ 4 }
@@ -35,7 +35,7 @@ fn template_refusal(before: u8, fault: TemplateFault) -> Refused
     }
 }
 
-/// The refusal if a check of inSensitive fails. `before` is the number of the command's own checks
+/// The refusal if inSensitive fails a check. `before` is the number of the command's own checks
 /// before the checks of inSensitive.
 fn creation_refusal(before: u8, fault: CreationFault) -> Refused
     requires { before ≤ 4 }

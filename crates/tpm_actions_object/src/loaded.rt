@@ -43,14 +43,14 @@ pub fn is_fixed(parent: &Object) -> bool
     parent.public.attributes.has(ObjectAttribute::FixedTpm)
 }
 
-/// The refusal by one of a command's own checks if all object slots are taken.
+/// The refusal by this check, one of the command's own checks, if all object slots are taken.
 fn no_place(check: ActionCheck) -> Refused
     ensures { result ≡ no_place check }
 {
     action_refusal(check, ResponseCode::ObjectMemory.anywhere())
 }
 
-/// Loads a new object. `check` is the check that refuses it if all slots are taken.
+/// Loads a new object. If all slots are taken, `check` refuses the command.
 pub fn load_object<K: Keep>(
     keep: &mut K,
     object: Object,

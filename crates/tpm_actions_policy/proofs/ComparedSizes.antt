@@ -1,4 +1,4 @@
--- TPM2_PolicyNV compares exactly as many bytes of the index as its operand has.
+-- TPM2_PolicyNV compares exactly as many bytes of the index's data as operandB has.
 use Rattle.std.proofs.Common.{◌≡◌, ℕ, ◌+◌, ◌≤◌, Bool, true, false, List, [], ◌∷◌, length, take, drop, Option, Some, Result, Ok, Err, IfOk, ap, arith, refl, subst, ◌∙◌}
 use Rattle.std.specs.Prelude.{◌==◌, nat_lt, not, if◌then◌else◌}
 use Rattle.std.proofs.lemmas.Bool.{ltb-false}

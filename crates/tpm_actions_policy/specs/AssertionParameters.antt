@@ -1,4 +1,5 @@
--- Converts the parameters of an assertion in the code to the assertion of the definitions.
+-- Converts the parameters of an assertion, as the code represents them, to the assertion of the
+-- definitions.
 use Rattle.std.specs.Prelude.{◌≡◌, Result, Ok, Err}
 use Rattle.tpm_policy.specs.Assertion as assertion
 use Rattle.tpm_policy.specs.Assertion.{Assertion}

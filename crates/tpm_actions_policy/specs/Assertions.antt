@@ -1,5 +1,6 @@
--- The parts of the commands that make an assertion on a session's policy: their session, their
--- assertion, and the row that all of them share. TPM 2.0 Library, Part 3, section 23.
+-- The commands that make an assertion on a session's policy share one row. This file defines that
+-- row, and the session and the assertion that each of these commands uses. TPM 2.0 Library, Part 3,
+-- section 23.
 use Rattle.std.specs.Prelude.{◌≡◌, Bool, true, false, List, [], Option, Result, Ok, Err, ok_or}
 use Rattle.std.specs.Borrow.{Bor}
 use Rattle.tpm_bytes.specs.Reading.{◌>>=◌}
@@ -43,13 +44,14 @@ asserts command.PolicyNv = true
 asserts _ = false
 
 -- the handle of the session on which a command makes its assertion. It follows the handles of the
--- authorizing entity and of the compared index, if the command has them
+-- authorizing entity and of the compared index, if the command has such handles
 abbrev pub session_handle : CommandCode → List Handle → Result Handle Refused
 session_handle command.PolicySecret handles = second_handle handles
 session_handle command.PolicyNv handles = third_handle handles
 session_handle _ handles = first_handle handles
 
--- the assertion of a command on a session; a command that makes no assertion has a different row
+-- the assertion that a command makes on a session; a command that makes no assertion has a
+-- different row
 abbrev pub assertion_in : CommandCode
     → Record → Request → Result (Session → Assertion) Refused
 assertion_in command.PolicyPcr r q = pcr_assertion r q

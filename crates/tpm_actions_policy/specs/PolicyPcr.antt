@@ -33,8 +33,8 @@ pcr_parts_of r p s = record {
   update_count = r.fixed.banks.update_count;
 }
 
--- the assertion of TPM2_PolicyPCR: the selected PCRs have their values in this record, and no PCR
--- changes before the session authorizes a command
+-- the assertion of TPM2_PolicyPCR: the selected PCRs have the values that this record contains, and
+-- no PCR changes before the session authorizes a command
 abbrev pub pcr_assertion : Record → Request → Result (Session → Assertion) Refused
 pcr_assertion r q = do
   p ← pcr_parameters q.parameters

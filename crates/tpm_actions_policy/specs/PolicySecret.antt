@@ -48,8 +48,8 @@ secret_of p name s = record {
   expiration = p.expiration;
 }
 
--- the assertion of TPM2_PolicySecret: the entity of the command's first handle authorized this
--- command
+-- the assertion of TPM2_PolicySecret: the entity that the command's first handle names has
+-- authorized this command
 abbrev pub secret_assertion : Record → Request → Result (Session → Assertion) Refused
 secret_assertion r q = do
   entity ← first_handle q.handles

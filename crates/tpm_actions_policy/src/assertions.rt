@@ -1,5 +1,5 @@
-//! The common part of the assertion commands: each assertion is made on a copy of the session's
-//! policy, which replaces the policy only if the assertion is not refused.
+//! The common part of the assertion commands. Each assertion is made on a copy of the session's
+//! policy, and the copy replaces the policy only if the assertion is not refused.
 
 ghost use Rattle.tpm_bytes.specs.Reading.{Gives};
 ghost use Rattle.std.specs.Prelude.{◌≡◌, Err};
@@ -79,8 +79,8 @@ pub fn policy_session<K: Keep>(keep: &K, handle: Handle) -> Result<&Session, Ref
     }
 }
 
-/// Makes the assertion on a copy of the policy of this handle's session; the copy becomes the
-/// session's policy unless the assertion is refused.
+/// Makes the assertion on a copy of the policy of the session with this handle. The copy becomes
+/// the session's policy unless the assertion is refused.
 #[tactic(auto, using(tpm_policy::proofs::Sizes::made_sized))]
 pub fn make_assertion<K: Keep>(
     keep: &mut K,

@@ -1,5 +1,5 @@
-//! The NV index whose data TPM2_PolicyNV compares. Reads the data, or returns the reason why it
-//! cannot be read, and asserts that the comparison holds.
+//! The NV index whose data TPM2_PolicyNV compares. The calls read the data, or return the reason
+//! why it cannot be read, and assert that the comparison holds.
 
 ghost use Rattle.std.specs.Prelude.{◌≡◌, ◌≤◌, length};
 ghost use Rattle.tpm_policy.specs.Assertion as assertion;
@@ -14,7 +14,7 @@ use tpm_record::{Keep, name_of};
 use tpm_session::Session;
 use tpm_types::{ActionCheck, ActionFault, Operation, ResponseCode};
 
-/// The index whose data is compared, with an operand, an offset and an operation.
+/// The comparison that TPM2_PolicyNV asserts: the index, the operand, the offset and the operation.
 #[derive(Clone, Copy)]
 pub struct ComparedIndex<'a> {
     pub(crate) target: Target,
@@ -27,8 +27,8 @@ pub struct ComparedIndex<'a> {
 impl ComparedIndex<'_> {
     ghost use Rattle.tpm_actions_policy.specs.AssertionParameters.{nv_asked};
 
-    /// The bytes of the index to compare, of the same size as the operand, or the reason why they
-    /// cannot be read.
+    /// The bytes of the index's data that are compared (as many as the operand has), or the reason
+    /// why they cannot be read.
     fn compared<'k, K: Keep>(&self, keep: &'k K) -> Result<&'k [u8], ActionFault>
         ensures { compared_bytes result
             ≡ compared (K.record_of keep.now) self.now.target (nv_asked self.now) }

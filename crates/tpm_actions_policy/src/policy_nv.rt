@@ -53,9 +53,9 @@ pub fn policy_nv<K: Keep>(keep: &mut K, call: &Call, _answer: &mut Answer) -> Re
     make_assertion(keep, handle, &AssertionParameters::Nv(index))
 }
 
-/// TPM2_PolicyNV compares exactly as many bytes as its operand has. This requires that the data of
-/// each NV index has the size stated in its public area, as it does on every device. Therefore no
-/// comparison fails because the two sizes differ. A proof only: it has no effect at run time.
+/// If the data of each NV index has the size stated in its public area, as on every device, then
+/// TPM2_PolicyNV compares exactly as many bytes as operandB has. Therefore no comparison fails
+/// because the two sizes differ. This function is only a proof: it has no effect at run time.
 #[inline(always)]
 #[tactic(auto, using(crate::proofs::ComparedSizes::compared_whole))]
 pub fn compared_size_laws()

@@ -28,7 +28,7 @@ use tpm_types::{ActionFault, DIGEST_LIMIT, Handle, Refused, read_buffer};
 /// An empty timeout, and the null ticket: TPM_ST_AUTH_SECRET, TPM_RH_NULL, an empty digest.
 const NO_TICKET: [u8; 10] = [0, 0, 0x80, 0x23, 0x40, 0, 0, 7, 0, 0];
 
-/// The entity that authorizes the command, and the other parameters of TPM2_PolicySecret.
+/// The parameters of TPM2_PolicySecret, with the entity that authorizes the command.
 #[derive(Clone, Copy)]
 pub struct ShownSecret<'a> {
     entity: Handle,

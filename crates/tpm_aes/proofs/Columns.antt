@@ -29,8 +29,8 @@ columns_made : (g : List ℕ → List ℕ) (p q r s : ℕ)
 unfolding shift_rows
 columns_made g p q r s = refl
 
--- A function g can be applied to the state after SubBytes and ShiftRows column by column: v, w, x
--- and y are the results for the four columns.
+-- A function g can be applied to the state after SubBytes and ShiftRows one column at a time: v, w,
+-- x and y are the results for the four columns.
 columns_words : (g : List ℕ → List ℕ) (state a b c d : List ℕ) (v w x y : ℕ) → length state ≡ 4
     → a ≡ to_le_bytes w32 (slice_index_or state 0 0) → b ≡ to_le_bytes w32 (slice_index_or state 1 0)
     → c ≡ to_le_bytes w32 (slice_index_or state 2 0) → d ≡ to_le_bytes w32 (slice_index_or state 3 0)

@@ -11,7 +11,7 @@ pub words_mixed : (state : List ℕ) → mix_columns state
 unfolding mix_columns
 words_mixed state = rw (append-nil (mix_column (word_of state 3))) refl
 
--- the key for round 0 is the cipher key itself
+-- The key for round 0 is the cipher key itself.
 pub round_key_first : (key : List ℕ) → round_key key 0 ≡ key
 unfolding round_key
 round_key_first key = refl
@@ -21,7 +21,7 @@ pub round_key_more : (key : List ℕ) (n : ℕ) → round_key key (n + 1) ≡ ne
 unfolding round_key
 round_key_more key n = rw (add-one n) refl
 
--- before round 1, the state is the block XORed with the key for round 0
+-- Before round 1, the state is the block XORed with the key for round 0.
 pub state_after_none : (key block : List ℕ) → state_after key block 0 ≡ xor_of block (round_key key 0)
 unfolding state_after
 state_after_none key block = refl
@@ -69,7 +69,7 @@ round_keys_more keys key next n low within so_far is_next =
     (λ k h. let other : k ≢ n = omega arith in rw get_or-set_other (so_far k h))
     (rw get_or-set_same value)
 
--- Entry n of an expanded key has the bytes of the key for round n.
+-- Entry n of an expanded key contains the bytes of the key for round n.
 pub round_key_at : (keys : List (List ℕ)) (key : List ℕ) → length keys ≡ 11
     → bytes_of (slice_index_or keys 0 []) ≡ key
     → map bytes_of keys ≡ expanded_key (bytes_of (slice_index_or keys 0 [])) → (n : ℕ) → n < 11

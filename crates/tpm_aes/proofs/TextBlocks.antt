@@ -1,5 +1,5 @@
--- If the blocks of a list are replaced one after another, from the start, the result is the
--- concatenation of the replacements.
+-- If the blocks of a list are replaced one after another, starting with the first, the result is
+-- the concatenation of the replacements.
 use Rattle.std.proofs.Common.{◌≡◌, ℕ, zero, suc, ◌+◌, ◌-◌, ◌*◌, ◌<◌, ◌≤◌, List, [], ◌∷◌, ◌++◌, add-one, add-zero, ap, append_assoc, arith, drop, length, length-append, length-drop, min, refl, sym, take, ◌∙◌, inl, inr}
 use Rattle.std.proofs.lemmas.Bool.{cases_lt}
 use Rattle.std.proofs.lemmas.Grind.{div_ceil_times, flat_map-append}
@@ -19,7 +19,7 @@ range_with_len-suc a (suc n) =
 unfoldable pub pieces_to : (ℕ → List ℕ) → ℕ → List ℕ
 pieces_to piece n = flat_map piece (range_with_len 0 n)
 
--- the concatenation of no pieces is empty
+-- The concatenation of no pieces is empty.
 pub pieces_to-zero : (piece : ℕ → List ℕ) → pieces_to piece 0 ≡ []
 unfolding pieces_to
 pieces_to-zero piece = refl
@@ -83,8 +83,8 @@ block_left piece old now i start end done at within stop =
     let size : end - start ≡ min 16 (length rest) = omega (arith, length-drop (16 * i) old) in
     ap (take (end - start)) left ∙ ap (λ (k : ℕ). take k rest) size ∙ take_min 16 rest
 
--- Once the first i blocks are replaced, replacing block i by its piece completes the first i + 1
--- blocks.
+-- If the first i blocks have been replaced, and block i is then replaced by its piece, the first i
+-- + 1 blocks have been replaced.
 pub done_to_more : (piece : ℕ → List ℕ) (old now new part : List ℕ) (i start end : ℕ) → IsDoneTo piece old now i
     → start ≡ 16 * i → start ≤ length old → end ≡ start + min 16 (length old - start)
     → part ≡ piece i → length part ≡ end - start

@@ -1,5 +1,4 @@
--- The bytes of the XOR of two words are the XORs of their bytes. XORing a list byte by byte gives
--- the XOR of the whole list.
+-- XORing two words XORs their bytes. XORing a list byte by byte yields the XOR of the whole list.
 use Rattle.std.proofs.Common.{◌≡◌, ℕ, suc, zero, ◌+◌, ◌/◌, ◌%◌, ◌^◌, ◌<◌, ◌≤◌, List, [], ◌∷◌, ◌++◌, add-one, ap, ap₂, arith, bit_xor, drop, length, refl, slice_index_or, slice_set, sym, take, ◌∙◌}
 use Rattle.std.proofs.lemmas.Nat.{xor_mod, xor_shr}
 use Rattle.std.specs.Int.{to_le_bytes, w32}
@@ -10,12 +9,12 @@ use Rattle.tpm_aes.specs.Words.{bytes_of}
 byte-xor : (a b k : ℕ) → bit_xor a b / 2 ^ k % 256 ≡ bit_xor (a / 2 ^ k % 256) (b / 2 ^ k % 256)
 byte-xor a b k = ap (λ (n : ℕ). n % 256) (xor_shr a b k) ∙ xor_mod (a / 2 ^ k) (b / 2 ^ k) 8
 
--- The bytes of the XOR of two words are the XORs of their bytes.
+-- XORing two words XORs their bytes.
 pub bytes-xor : (a b : ℕ)
     → to_le_bytes w32 (bit_xor a b) ≡ xor_of (to_le_bytes w32 a) (to_le_bytes w32 b)
 bytes-xor a b = rw (xor_mod a b 8, byte-xor a b 8, byte-xor a b 16, byte-xor a b 24) refl
 
--- The bytes of the XORs of two lists of words are the XORs of their bytes.
+-- XORing two lists of words XORs their bytes.
 pub bytes_of-xor_of : (xs ys : List ℕ) → bytes_of (xor_of xs ys) ≡ xor_of (bytes_of xs) (bytes_of ys)
 bytes_of-xor_of [] ys = refl
 bytes_of-xor_of (x ∷ xs) [] = refl
@@ -33,14 +32,14 @@ pub four_words : (words : List ℕ) → length words ≡ 4 → words ≡ by_inde
 four_words (a ∷ b ∷ c ∷ d ∷ []) size = refl
 four_words words size = absurd (omega arith)
 
--- For lists of four words, the bytes of the XORs are the XORs of the bytes.
+-- XORing two lists of four words XORs their bytes.
 pub bytes_of-sums : (xs ys : List ℕ) → length xs ≡ 4 → length ys ≡ 4
     → bytes_of (xor_of (by_index xs) (by_index ys)) ≡ xor_of (bytes_of xs) (bytes_of ys)
 bytes_of-sums xs ys x4 y4 =
     bytes_of-xor_of (by_index xs) (by_index ys)
     ∙ sym (ap₂ (λ (vs ws : List ℕ). xor_of (bytes_of vs) (bytes_of ws)) (four_words xs x4) (four_words ys y4))
 
--- The first byte of a word below 256 is its value, and the other bytes are zeros.
+-- If a word is below 256, its first byte is the word's value, and its other bytes are zeros.
 pub bytes-byte : (a : ℕ) → a < 256 → to_le_bytes w32 a ≡ a ∷ 0 ∷ 0 ∷ 0 ∷ []
 bytes-byte a small =
     let first : a % 256 ≡ a = omega arith in
@@ -62,7 +61,8 @@ get_or-xored_front (x ∷ xs) (y ∷ ys) zero within fits = refl
 get_or-xored_front (x ∷ xs) (y ∷ ys) (suc i) within fits =
     get_or-xored_front xs ys i (omega arith) (omega arith)
 
--- XORing byte i after the first i bytes XORs the first i + 1 bytes.
+-- If the first i bytes have been XORed, and byte i (counted from 0) is then XORed, the first i + 1
+-- bytes have been XORed.
 set-xored_front : (old other : List ℕ) (i : ℕ) → i < length old → length old ≤ length other
     → slice_set (xored_front old other i) i (bit_xor (slice_index_or old i 0) (slice_index_or other i 0))
     ≡ xored_front old other (suc i)

@@ -15,7 +15,7 @@ unfoldable pub times_power : ℕ → ℕ → ℕ
 times_power a zero = a
 times_power a (suc n) = times_x (times_power a n)
 
--- a times the terms of b below x^n: the sum of a times x^i, for each of these terms x^i
+-- a times the terms of b whose degree is below n: the sum of a times x^i over these terms x^i
 unfoldable pub times_terms : ℕ → ℕ → ℕ → ℕ
 times_terms a b zero = 0
 times_terms a b (suc n) = bit_xor (times_terms a b n) (bit_at b n * times_power a n)
@@ -24,8 +24,8 @@ times_terms a b (suc n) = bit_xor (times_terms a b n) (bit_at b n * times_power 
 abbrev pub times : ℕ → ℕ → ℕ
 times a b = times_terms a b 8
 
--- the inverse of a: the b for which a times b is 1. Only 0 has no inverse; its result is 0 (FIPS
--- 197, 4.2 and 5.1.1)
+-- the inverse of a: the b for which a times b is 1. Only 0 has no inverse; for 0, the result is 0
+-- (FIPS 197, 4.2 and 5.1.1)
 unfoldable pub inverse : ℕ → ℕ
 inverse a = unwrap_or (find (λ b. times a b == 1) (range_with_len 0 256)) 0
 

@@ -1,4 +1,4 @@
--- The required entries of the lookup tables for rounds: the S-box (FIPS 197, 5.1.1), and the
+-- The entries that the lookup tables for the rounds must have: the S-box (FIPS 197, 5.1.1), and the
 -- columns that MixColumns computes from one S-box value (5.1.3).
 use Rattle.std.specs.Prelude.{◌≡◌, ℕ, ◌<◌, List, [], ◌∷◌, slice_index, slice_index_or, slice_set}
 use Rattle.std.specs.Int.{to_le_bytes, w32}

@@ -4,7 +4,8 @@
 //! The crate has no dependencies. The result of each function equals its definition in `specs/` for
 //! data of any length. Encryption and decryption undo each other. No function allocates memory or
 //! fails. The rounds use lookup tables, and every table entry is proved correct (`table_laws`).
-//! Which entries are read depends on the key and the data. The time of a call is unspecified.
+//! Which entries are read depends on the key and the data, and the time that a call takes is
+//! unspecified.
 
 #![tactic(auto)]
 

@@ -1,4 +1,4 @@
--- The code looked up the entity of the handle at each position, and computes the Names from these
+-- The code looks up the entity of the handle at each position, and computes the Names from these
 -- entities.
 use Rattle.std.proofs.Common.{◌≡◌, ℕ, zero, suc, ◌<◌, ◌≤◌, List, [], ◌∷◌, ◌++◌, length, map, take, slice_get, slice_index_or, Some, None, option_map, refl, sym, subst, ap, ◌∙◌, arith}
 use Rattle.std.specs.Option.{ForSome}
@@ -54,7 +54,7 @@ pub used_in : (r : Record) (handles : List Handle) (resolved : List Resolved) (n
 used_in r handles resolved n place used are is =
     let both = found_in r (take n resolved) (take n handles) place used (taken_found r n resolved handles are) is in (both.0, record { found = both.1 })
 
--- At a position without a handle, nothing is found.
+-- If there is no handle at a position, no entity is found there.
 none_in : (r : Record) (resolved : List Resolved) (handles : List Handle) (place : ℕ) → AreFound r resolved handles → slice_get resolved place ≡ None → slice_get handles place ≡ None
 none_in r [] [] place are is = refl
 none_in r [] (h ∷ hs) place are is = absurd cc
@@ -83,7 +83,7 @@ head_of_map f [] n x y at is = absurd cc
 head_of_map f (z ∷ zs) zero x y at is = absurd cc
 head_of_map f (z ∷ zs) (suc n) x y at is = cc
 
--- A handle that equals the first handle has the first Name.
+-- If a handle equals the first handle, its Name is the first Name.
 pub next_again : (r : Record) (resolved : List Resolved) (handles : List Handle) (names : List (List ℕ)) (place : ℕ) (first x : Resolved) (name : List ℕ) → AreFound r resolved handles → names ≡ map (name_of r) (take (length names) handles) → slice_get resolved 0 ≡ Some first → slice_get resolved place ≡ Some x → slice_get names 0 ≡ Some name → first.handle.number ≡ x.handle.number → Some name ≡ option_map (name_of r) (slice_get handles place)
 next_again r resolved handles names place first x name are names_are at_first at_x at_name same =
     let one = found_in r resolved handles 0 first are at_first in
@@ -92,7 +92,8 @@ next_again r resolved handles names place first x name are names_are at_first at
     let again : name ≡ name_of r x.handle = named ∙ ap (name_of r) (same_handle first.handle x.handle same) in
     sym (ap (option_map (name_of r)) other.0 ∙ ap Some (sym again))
 
--- Adding the next mapped element to a prefix of a mapped list gives the next longer prefix.
+-- Appending the mapped element at index n to the first n elements of a mapped list gives its first
+-- n + 1 elements.
 one_more : {X Y : Type 0} (f : X → Y) (xs : List X) (n m : ℕ) (y : Y) → m ≡ suc n → Some y ≡ option_map f (slice_get xs n) → map f (take n xs) ++ y ∷ [] ≡ map f (take m xs)
 one_more f [] n m y next is = absurd cc
 one_more f (x ∷ xs) zero m y next is =

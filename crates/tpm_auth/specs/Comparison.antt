@@ -17,7 +17,7 @@ use Rattle.tpm_types.specs.declared.refused.Counted.TheVariants as counted
 use Rattle.tpm_types.specs.declared.refused.Refused.{Refused}
 use Rattle.tpm_auth.specs.declared.session_grant.Grant.{Grant}
 
--- whether a password equals an authorization value. Trailing zeros of both are ignored
+-- whether a password equals an authorization value, apart from trailing zeros
 abbrev pub is_password_of : List ℕ → List ℕ → Bool
 is_password_of value password = bytes_eq (trimmed password) (trimmed value)
 

@@ -11,8 +11,8 @@ use Rattle.tpm_types.specs.AuthValue.{trimmed}
 use Rattle.tpm_auth.specs.SessionGrant.{demands_password, granted_value, session_grant, used_auth_value}
 use Rattle.tpm_auth.specs.declared.session_grant.Grant.{Grant}
 
--- An accepted entry of a session has an empty HMAC only in two cases. Either its HMAC key is empty:
--- it contains neither a session key nor an authorization value. Or the entry authorizes an entity
+-- An accepted session entry has an empty HMAC in only two cases. Either its HMAC key is empty: it
+-- contains neither a session key nor an authorization value. Or the entry authorizes an entity
 -- whose authorization value is empty, by a policy that requires a password.
 abbrev pub EmptyHmacHasNoKey : Type 0
 EmptyHmacHasNoKey =

@@ -54,9 +54,10 @@ is_misplaced c n before e =
     if is_password e then nat_lt (authorized_handles c) n
     else list_any (λ earlier. earlier.session.number == e.session.number) before
 
--- whether an entry has a wrong attribute. audit is not supported. decrypt and encrypt are wrong in
--- a password entry, after another entry with the same attribute, and if the first parameter of the
--- command (decrypt) or of its response (encrypt) is not a sized buffer
+-- whether an entry has an attribute that is not allowed. audit is not supported. decrypt and
+-- encrypt are not allowed in a password entry, if an earlier entry has the same attribute, or if
+-- the first parameter of the command (for decrypt) or of its response (for encrypt) is not a sized
+-- buffer
 abbrev pub has_wrong_attributes : CommandCode → List Entry → Entry → Bool
 has_wrong_attributes c before e =
     audits e.attributes

@@ -49,7 +49,7 @@ used_protection r used = option_map_or (protection_of r) used protection.None
 
 -- the grant of entry n, if it is a password entry. The entity that the entry has to authorize must
 -- allow authorization with its authorization value, and must not be locked out. The password must
--- be right
+-- be correct
 unfoldable pub password_grant : Record
     → CommandCode → (n : ℕ) → Option Handle → Entry → Result (Option Grant) Refused
 password_grant state command number used entry = do
@@ -88,7 +88,7 @@ grant state command locality number used entry =
 abbrev pub authorized : Whole → List Handle
 authorized c = take (authorized_handles c.code) c.handles
 
--- the grants of all entries, in order, after the grants of the entries before them. Entry n has to
+-- the earlier grants `before`, followed by the grants of these entries, in order. Entry n has to
 -- authorize the nth handle that needs authorization. If there is no such handle, the entry has
 -- nothing to authorize
 abbrev pub grants_pass : Record → Whole → (locality : ℕ)
@@ -101,7 +101,7 @@ grants_pass state command locality before (entry ∷ entries) = do
 
 -- the authorization of a whole command, after the check of the area's size. It returns what each
 -- entry authorizes. G8 checks each entry on its own, and then whether there is an entry for each
--- handle that needs authorization. G9 checks the entries of these handles. G10 checks the other
+-- handle that needs authorization. G9 checks the entries for these handles. G10 checks the other
 -- entries, and whether the parameter that a session decrypts is complete
 unfoldable pub authorize : Record → Whole → (locality : ℕ) → Result (List (Option Grant)) Refused
 authorize r c locality = do

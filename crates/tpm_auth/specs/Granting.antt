@@ -12,9 +12,9 @@ use Rattle.tpm_auth.specs.Entries.{decrypts, entries_pass}
 use Rattle.tpm_auth.specs.Grant.{authorized, grant}
 use Rattle.tpm_auth.specs.declared.session_grant.Grant.{Grant}
 
--- The entry at a position, counted from 0, is accepted with this grant. It has to authorize the
--- handle at the same position among the handles that need authorization, if there is one. Entries
--- are numbered from 1.
+-- The entry at a position, counted from 0, is accepted with this grant. If a handle that needs
+-- authorization is at the same position, the entry has to authorize this handle. Entries are
+-- numbered from 1.
 abbrev pub IsGranted : Record → Whole → (locality place : ℕ) → Entry → Option Grant → Type 0
 IsGranted r c locality place e granted =
     grant r c locality (place + 1) (slice_get (authorized c) place) e ≡ Ok granted

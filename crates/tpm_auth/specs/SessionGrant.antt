@@ -79,11 +79,11 @@ unfoldable pub nonce_where : Record → (Entry → Bool) → List Entry → List
 nonce_where r test entries = option_map_or (entry_nonce r) (find test entries) []
 
 -- the entries whose sessions' nonces may be covered by the HMAC of entry n. If entry n is the first
--- and authorizes a handle, these are the later entries; otherwise there are none
+-- and authorizes a handle, these are the later entries; otherwise, there are no such entries
 abbrev pub other_entries : Whole → ℕ → List Entry
 other_entries c n = if n == 1 && nat_lt 0 (authorized_handles c.code) then drop 1 c.entries else []
 
--- whether an entry encrypts and does not decrypt
+-- whether an entry's session encrypts the response, but does not decrypt the command
 abbrev pub only_encrypts : Entry → Bool
 only_encrypts e = encrypts e && not (decrypts e)
 
@@ -103,7 +103,7 @@ entry_parts state command number entry session = record {
   attributes = entry.attributes;
 }
 
--- whether the HMAC of an entry is right: it equals the HMAC that is computed from the key and the
+-- whether the HMAC of an entry is correct: it equals the HMAC that is computed from the key and the
 -- covered data, or both the key and the HMAC are empty
 unfoldable pub is_authentic : Record → Whole → ℕ → Option Grant → Entry → Session → Bool
 is_authentic state command number grant entry session =
@@ -117,13 +117,14 @@ abbrev pub demands_password : Option Grant → Bool
 demands_password None = false
 demands_password (Some grant) = is_password_demand grant.demand
 
--- the authorization value of the entity that an entry authorizes, or empty if there is none
+-- the authorization value of the entity that an entry authorizes; empty if the entry authorizes
+-- nothing
 abbrev pub granted_value : Record → Option Grant → List ℕ
 granted_value r None = []
 granted_value r (Some grant) = auth_value_of r grant.handle
 
--- whether the HMAC field of entry n is right: if the policy requires a password, the field must
--- contain the authorization value; otherwise, it must contain the right HMAC
+-- whether the HMAC field of entry n is correct: if the policy requires a password, the field must
+-- contain the authorization value; otherwise, it must contain the correct HMAC
 unfoldable pub comparison_holds : Record → Whole → ℕ → Option Grant → Entry → Session → Bool
 comparison_holds state command number grant entry session =
     if demands_password grant then is_password_of (granted_value state grant) entry.hmac
@@ -206,8 +207,8 @@ comparison state command number grant entry session = do
   Ok grant
 
 -- the grant of entry n, whose handle names a session. If the entry has a handle to authorize, the
--- session must be able to authorize it. If it has none, even a trial session may be used, for
--- example to encrypt a parameter (a choice of this implementation)
+-- session must be able to authorize it. If it has no handle to authorize, even a trial session may
+-- be used, for example to encrypt a parameter (a choice of this implementation)
 unfoldable pub session_grant : Record
     → Whole → (locality n : ℕ) → Option Handle → Entry → Session → Result (Option Grant) Refused
 session_grant state command locality number None entry session =

@@ -1,5 +1,5 @@
-//! Caches the key of the latest HMAC and the latest Name, which may be needed again. No contract
-//! mentions the cache, because it changes no result.
+//! Caches the latest HMAC key and the latest Name, which may be needed again. No contract mentions
+//! the cache, because it changes no result.
 
 ghost use Rattle.std.specs.Prelude.{◌≡◌, ◌≤◌, length};
 ghost use Rattle.std.specs.Str.{bytes_eq};
@@ -13,7 +13,7 @@ use tpm_mac::{HashAlg, KeyedMac};
 use tpm_record::{Entity, Resolved};
 use tpm_types_name::Name;
 
-/// The key of the latest HMAC and the latest Name of an object or NV index. It is not part of the
+/// The latest HMAC key, and the latest Name of an object or NV index. The cache is not part of the
 /// device's state.
 #[derive(Drop)]
 pub struct Cache {
@@ -52,7 +52,7 @@ impl Model for LatestName {
 }
 
 impl LatestName {
-    /// Starts with the Name of an empty public area.
+    /// Creates a cache that contains an empty public area and its Name.
     pub fn new() -> LatestName {
         LatestName {
             alg: HashAlg::Sha256,

@@ -12,7 +12,7 @@ use tpm_lockout::Lockout;
 use tpm_session::Protection;
 use tpm_types::{Check, Counted, Refused, ResponseCode, trimmed};
 
-/// Whether a password equals this authorization value. Trailing zeros of both are ignored.
+/// Whether a password equals this authorization value, apart from trailing zeros.
 pub fn is_password_of(value: &[u8], password: &[u8]) -> bool
     ensures { result ≡ is_password_of value.now password.now }
 {

@@ -116,7 +116,8 @@ fn nonce_of<'a, K: Keep>(keep: &'a K, entry: &AuthEntry) -> &'a [u8]
     }
 }
 
-/// The nonceTPM of the first entry that decrypts, or empty if there is none.
+/// The nonceTPM of the first entry whose session decrypts the command, or empty if there is no such
+/// entry.
 #[tactic(auto, unfolding(crate::specs::SessionGrant::nonce_where))]
 fn decrypting_nonce<'a, K: Keep>(keep: &'a K, entries: &[AuthEntry]) -> &'a [u8]
     ensures { result.now ≡ nonce_where (K.record_of keep.now) decrypts (map entry_of entries.now) }
@@ -128,7 +129,8 @@ fn decrypting_nonce<'a, K: Keep>(keep: &'a K, entries: &[AuthEntry]) -> &'a [u8]
     }
 }
 
-/// The nonceTPM of the first entry that encrypts and does not decrypt, or empty if there is none.
+/// The nonceTPM of the first entry whose session encrypts the response, but does not decrypt the
+/// command. It is empty if there is no such entry.
 #[tactic(auto, unfolding(crate::specs::SessionGrant::nonce_where))]
 fn encrypting_nonce<'a, K: Keep>(keep: &'a K, entries: &[AuthEntry]) -> &'a [u8]
     ensures { result.now

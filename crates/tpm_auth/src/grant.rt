@@ -71,8 +71,8 @@ fn check_value<K: Keep>(
     }
 }
 
-/// Checks the password in the entry with this number. It has to authorize the handle at the entry's
-/// position or, if there is no such handle, be empty.
+/// Checks the password in the entry with this number. If there is a handle at the entry's position,
+/// the password has to authorize it; otherwise, the password must be empty.
 #[tactic(auto, unfolding(crate::specs::Grant::password_grant))]
 fn check_password<K: Keep>(
     keep: &K,
@@ -93,8 +93,8 @@ fn check_password<K: Keep>(
     }
 }
 
-/// Checks the entry with this number, which has to authorize the handle at its position, if there
-/// is one. Returns what the entry authorizes.
+/// Checks the entry with this number. If there is a handle at the entry's position, the entry has
+/// to authorize it. Returns what the entry authorizes.
 #[tactic(auto, unfolding(crate::specs::Grant::grant))]
 fn check_grant<K: Keep>(
     keep: &K,
@@ -215,8 +215,8 @@ fn make_names<K: Keep>(
     }
 }
 
-/// Checks that the entry at each position authorizes the handle at this position, and then checks
-/// the remaining entries. Returns what each entry authorizes.
+/// Checks that the entry at each position authorizes the handle at the same position, and then
+/// checks the remaining entries. Returns what each entry authorizes.
 fn check_resolved<K: Keep>(keep: &K, sent: &Sent, cache: &mut Cache) -> Result<Grants, Refused>
     requires { IsResolved (K.record_of keep.now) sent.now }
     ensures { Gives granted_by (grants_pass (K.record_of keep.now) (whole_of sent.now.command.now)
@@ -265,7 +265,8 @@ fn check_sessions<K: Keep>(
     check_resolved(keep, sent, cache)
 }
 
-/// The handle that the first entry of a command has to authorize, if there is one.
+/// The handle that the first entry of a command has to authorize, or None if that entry has nothing
+/// to authorize.
 fn first_used<'a, K: Keep>(keep: &'a K, command: &Command) -> Option<Resolved<'a>>
     ensures handle { option_map used_handle result
         ≡ slice_get (authorized (whole_of command.now)) 0 }

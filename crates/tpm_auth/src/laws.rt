@@ -7,7 +7,7 @@ ghost use Rattle.tpm_auth.specs.Grant.{authorize};
 ghost use Rattle.tpm_auth.specs.Granting.{IsGranting};
 
 /// If an authorization is accepted, every check has passed, and each entry that authorizes a handle
-/// has a grant. A proof only: it has no effect at run time.
+/// has a grant. This function is only a proof: it has no effect at run time.
 #[inline(always)]
 #[tactic(auto, using(crate::proofs::Granting::granting))]
 pub fn granting_laws()

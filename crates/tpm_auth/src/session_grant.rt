@@ -1,6 +1,6 @@
 //! Decides what a session's entry authorizes, by its HMAC or by its policy. Checks whether the
 //! session may authorize the handle, whether the entity whose authorization value the entry uses is
-//! locked out, and whether the password or HMAC is right.
+//! locked out, and whether the password or HMAC is correct.
 
 ghost use Rattle.std.specs.Prelude.{◌≡◌, ◌≤◌, length, option_map};
 ghost use Rattle.std.specs.Option.{ForSome};
@@ -53,8 +53,9 @@ fn or_protection(protection: Protection, other: Protection) -> Protection
     }
 }
 
-/// The dictionary-attack protection for a session's entry that has to authorize this handle: the
-/// protection of the entity whose authorization value the entry uses.
+/// The dictionary-attack protection for a session's entry that has to authorize this handle. If the
+/// entry uses the authorization value of a protected entity, this is that entity's protection;
+/// otherwise, it is the protection of the entity to which the session was bound.
 #[tactic(auto, unfolding(crate::specs::SessionGrant::entry_protection, tpm_record::specs::Entity::protection_of))]
 fn granted_protection<K: Keep>(keep: &K, session: &Session, granted: &Granted) -> Protection
     requires { IsToGrant (K.record_of keep.now) session.now granted.now }
@@ -69,8 +70,9 @@ fn granted_protection<K: Keep>(keep: &K, session: &Session, granted: &Granted) -
     }
 }
 
-/// The dictionary-attack protection for a session's entry: the protection of the entity whose
-/// authorization value the entry uses.
+/// The dictionary-attack protection for a session's entry. If the entry uses the authorization
+/// value of a protected entity, this is that entity's protection; otherwise, it is the protection
+/// of the entity to which the session was bound.
 #[tactic(auto, unfolding(crate::specs::SessionGrant::entry_protection))]
 fn entry_protection<K: Keep>(keep: &K, session: &Session, granted: Option<Granted>) -> Protection
     requires { ForSome granted (IsToGrant (K.record_of keep.now) session.now) }
@@ -197,7 +199,8 @@ fn demand_of<K: Keep>(
     }
 }
 
-/// The authorization value of the entity that an entry authorizes, or empty if there is none.
+/// The authorization value of the entity that an entry authorizes; empty if the entry authorizes
+/// nothing.
 pub fn granted_value<'a, K: Keep>(keep: &'a K, grant: Option<Grant>) -> &'a [u8]
     ensures value { result.now ≡ granted_value (K.record_of keep.now) grant }
     ensures fits { length result.now ≤ 32 }
@@ -208,8 +211,8 @@ pub fn granted_value<'a, K: Keep>(keep: &'a K, grant: Option<Grant>) -> &'a [u8]
     }
 }
 
-/// Whether the HMAC field of an entry is right. It must contain the password if the session's
-/// policy requires one, and otherwise the HMAC.
+/// Whether the HMAC field of an entry is correct. If the session's policy requires a password, the
+/// field must contain the password; otherwise, it must contain the HMAC.
 #[tactic(auto, unfolding(crate::specs::SessionGrant::comparison_holds, tpm_record::specs::Entity::auth_value_of))]
 fn comparison_holds<K: Keep>(
     keep: &K,
@@ -245,7 +248,7 @@ fn grant_of(granted: Option<Granted>) -> Option<Grant>
 }
 
 /// Checks the password or HMAC of a session's entry, unless the entity is locked out. Returns the
-/// entry's grant, if it has a handle to authorize.
+/// entry's grant, if the entry has a handle to authorize.
 #[inline(always)]
 fn compare<K: Keep>(
     keep: &K,
@@ -273,8 +276,8 @@ fn compare<K: Keep>(
     Err(failure(check_of(grant), by.number, protection))
 }
 
-/// Checks whether a session can authorize the handle, if there is one, and whether the password or
-/// HMAC in its entry is right. Returns the entry's grant, if any.
+/// Checks whether a session can authorize the entry's handle, if the entry has one to authorize,
+/// and whether the password or HMAC in the entry is correct. Returns the entry's grant, if any.
 #[tactic(auto, unfolding(crate::specs::SessionGrant::session_grant))]
 pub fn check_session<K: Keep>(
     keep: &K,
@@ -307,7 +310,7 @@ pub fn check_session<K: Keep>(
 }
 
 /// If a session's entry is accepted with an empty HMAC, then the HMAC key was empty or a policy
-/// required a password. A proof only: it has no effect at run time.
+/// required a password. This function is only a proof: it has no effect at run time.
 #[inline(always)]
 #[tactic(auto, using(crate::proofs::EmptyHmac::no_key))]
 pub fn empty_hmac_laws()

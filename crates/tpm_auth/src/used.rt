@@ -62,7 +62,8 @@ fn authorized<'a>(sent: &Sent<'a, '_>) -> &'a [Resolved<'a>]
     &sent.resolved[..sent.command.code.authorized_handles()]
 }
 
-/// The handle that the entry at a position has to authorize, if there is one.
+/// The handle that the entry at a position has to authorize, or None if that entry has nothing to
+/// authorize.
 #[tactic(auto, using(crate::proofs::Resolving::used_in, crate::proofs::Resolving::nothing_in))]
 pub fn used_at<'a>(sent: &Sent<'a, '_>, place: usize) -> Option<Resolved<'a>>
     requires { length sent.now.resolved.now ≡ length (whole_of sent.now.command.now).handles }

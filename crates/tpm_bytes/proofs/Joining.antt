@@ -10,8 +10,8 @@ behind front read = do
   others ← read
   Ok (front ++ others.0, others.1)
 
--- The whole list is the same, no matter whether an item counts as the last item already read or as
--- the first item still to be read.
+-- An item can be counted either as the last item already read or as the first item still to be
+-- read: the whole list is the same in both cases.
 pub moved : {A E : Type 0} (front : List A) (x : A) (read : Result (List A × List ℕ) E) → behind (front ++ x ∷ []) read ≡ behind front (read >>= λ others. Ok (x ∷ others.0, others.1))
 moved front x (Err e) = refl
 moved front x (Ok y) = ap (λ l. Ok (l, y.1)) (append_assoc front (x ∷ []) y.0)

@@ -1,10 +1,12 @@
--- A loop appends several byte strings, one after another, to a buffer of fixed capacity.
+-- Lemmas about a loop that appends several byte strings, one after another, to a buffer of fixed
+-- capacity.
 use Rattle.std.proofs.lemmas.List.{take_more, flat_map_more}
 use Rattle.std.proofs.lemmas.List.Folds.{length-flat_map-take}
 use Rattle.std.proofs.Common.{◌≡◌, ℕ, ◌+◌, ◌<◌, ◌≤◌, List, [], ◌∷◌, ◌++◌, length, take, get_or, arith, ap, sym, subst, ◌∙◌, length-append}
 use Rattle.std.specs.List.{flat_map}
 
--- If the next byte string is appended after the first i, the first i + 1 have been appended.
+-- If the first i byte strings have been appended, and the next one is then appended, the first i +
+-- 1 byte strings have been appended.
 pub written_more : {X : Type 0} (text : X → List ℕ) (xs : List X) (i : ℕ) (d x : X) (start so_far new : List ℕ) → i < length xs → x ≡ get_or xs i d → so_far ≡ start ++ flat_map text (take i xs) → new ≡ so_far ++ text x → new ≡ start ++ flat_map text (take (i + 1) xs)
 written_more {X} text xs i d x start so_far new below is so wrote =
     let next : take i xs ++ x ∷ [] ≡ take (i + 1) xs = ap (λ (y : X). take i xs ++ y ∷ []) is ∙ sym (take_more xs i d below) in

@@ -13,7 +13,7 @@ abbrev pub ◌>>=◌ : {A B E : Type 0} → Result A E → (A → Result B E) �
 (Ok x) >>= f = f x
 (Err e) >>= f = Err e
 
--- the same result, but with this fault instead of any other fault
+-- the same result, except that every fault is replaced by this fault
 abbrev pub or_fault : {A E F : Type 0} → Result A E → F → Result A F
 or_fault (Ok x) fault = Ok x
 or_fault (Err e) fault = Err fault

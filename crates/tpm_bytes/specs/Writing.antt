@@ -1,4 +1,4 @@
--- Writes to a buffer of fixed capacity: a write appends all its bytes or nothing.
+-- Writes to a buffer of fixed capacity: a write appends either all of its bytes or none.
 use Rattle.std.specs.Prelude.{◌≡◌, ℕ, ◌+◌, ◌≤◌, ◌<◌, ◌^◌, ◌↔◌, List, ◌++◌, length}
 use Rattle.std.specs.Prelude.{Result, IsOk, OnOk, OnErr}
 use Rattle.std.specs.Int.{w16, to_be_bytes}
@@ -14,8 +14,8 @@ Puts capacity text old result new =
     × OnOk result (new ≡ old ++ text)
     × OnErr result (new ≡ old)
 
--- A write of bytes as a sized buffer appends the whole buffer if the size of the bytes fits in two
--- bytes and the buffer fits. Otherwise it appends nothing.
+-- Writing bytes as a sized buffer appends the whole sized buffer if the number of bytes fits in the
+-- two-byte size and the capacity is sufficient. Otherwise it appends nothing.
 abbrev pub PutsSized : {E : Type 0} → ℕ → List ℕ → List ℕ → Result (Unit {0}) E → List ℕ → Type 0
 PutsSized capacity bytes old result new =
     (IsOk result ↔ ((length bytes < 2 ^ 16) × (length old + (2 + length bytes) ≤ capacity)))

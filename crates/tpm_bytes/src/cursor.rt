@@ -16,7 +16,7 @@ pub struct Short;
 pub enum SizedFault {
     /// The size of the buffer is over the limit, whether or not bytes are missing.
     TooLong,
-    /// The size of the buffer is truncated, or some of its bytes are missing.
+    /// The buffer's size field is truncated, or some of the buffer's bytes are missing.
     Short,
 }
 

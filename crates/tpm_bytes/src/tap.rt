@@ -129,7 +129,7 @@ impl<D: Write> Tap<D> {
     }
 
     /// Writes all of `text`, with as many writes as the device needs. On failure, the device
-    /// received a prefix of it and nothing else.
+    /// received a prefix of `text` and nothing else.
     pub fn write_all(&mut self, text: &[u8]) -> Result<(), Failed>
         ensures sent { OnOk result (Appends (D.contents (device_of self.old))
             (D.contents (device_of self.new)) text.now) }

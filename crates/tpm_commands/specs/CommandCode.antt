@@ -43,7 +43,7 @@ is_served number = is_some (code_named number)
 unfoldable pub code_called : List ℕ → Option CommandCode
 code_called name = find (λ code. pointwise nat_eq name (code_name code)) all_codes
 
--- the number of handles of a command
+-- the number of a command's handles
 abbrev pub handle_count : CommandCode → ℕ
 handle_count code = length (shape_of code).handles
 

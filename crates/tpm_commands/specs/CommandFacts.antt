@@ -21,7 +21,7 @@ pub record CommandFacts : Type 0 where
   pub part : Part
   pub shape : Facts
 
--- a line of the table of commands. The name is the title of the command's section without "TPM2_"
+-- a line of the command table. The name is the title of the command's section without "TPM2_"
 abbrev pub facts : (number : ℕ) → (name : String) → Part → Facts → CommandFacts
 facts number name part shape = record {
   number = number;

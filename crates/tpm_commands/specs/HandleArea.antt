@@ -1,5 +1,5 @@
--- The handles of a command, each of which its rule must allow. TPM 2.0 Library, Part 3, section 5.4
--- (handle area validation).
+-- The handles of a command, each of which must be allowed by its rule. TPM 2.0 Library, Part 3,
+-- section 5.4 (handle area validation).
 use Rattle.std.specs.Prelude.{ℕ, not, List, Result, Ok}
 use Rattle.std.specs.Int.{w32}
 use Rattle.tpm_bytes.specs.Many.{each_at}

@@ -13,13 +13,13 @@ pub data Part : Type 0 where
   Persistent : Part
   -- the NV indices: an index is written or locked
   NvData : Part
-  -- the NV indices: a counter increments
+  -- the NV indices: a counter is incremented
   NvCounter : Part
   -- the NV indices: the authorization value of an index is replaced
   NvAuthValue : Part
   -- the NV indices: an index is defined
   NvDefined : Part
-  -- the NV indices: an index is undefined
+  -- the NV indices: an index is undefined, that is, removed
   NvUndefined : Part
   -- the authorization values of the hierarchies and of lockout
   AuthValues : Part

@@ -1,6 +1,6 @@
 -- The shape of a command: every fact about it except its number, its name and its effect. TPM 2.0
 -- Library, Part 3, the tables in each command's section: its handles and how they are authorized,
--- its parameters, and whether it may have sessions.
+-- its parameters, and whether it allows sessions.
 use Rattle.std.specs.Prelude.{◌==◌, ◌||◌, ◌&&◌, not, is_some, Bool, true, false, List, Some, None}
 use Rattle.tpm_types.specs.declared.handle.Handle.{Handle}
 use Rattle.tpm_commands.specs.declared.shape.HandleKind.{HandleKind}
@@ -72,7 +72,7 @@ is_sized parameter.Operation = false
 is_sized parameter.PersistentHandle = false
 is_sized parameter.YesNo = false
 
--- the shape of a command, regardless of where its lists are in memory
+-- the shape of a command, as a value: it has lists where `Shape` has slices
 pub record Facts : Type 0 where
   -- the command's handles, and how each handle is authorized
   pub handles : List HandleRule
@@ -86,8 +86,8 @@ pub record Facts : Type 0 where
   pub forbids_sessions : Bool
   -- whether the command can run out of memory
   pub grows : Bool
-  -- whether the command reads the NV index that authorizes it, if there is one. If false, the
-  -- command writes that index, or administers it in the role ADMIN
+  -- whether the command, if an NV index authorizes it, reads that index. If false, the command
+  -- writes the index, or administers it in the role ADMIN
   pub reads_nv : Bool
   -- whether the command, if it succeeds, preserves the state that TPM2_Shutdown saved. If false,
   -- the command's success discards that state (Part 3, section 9.4)

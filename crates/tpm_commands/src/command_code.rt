@@ -10,8 +10,8 @@ use crate::shape::ParameterKind::{
 use crate::shape::{HandleKind, HandleRule, ParameterKind, Shape};
 use tpm_types::{DATA_LIMIT, NvUse, Role};
 
-/// The supported commands, in ascending order of number. All facts about a command are in one line
-/// of `facts!`.
+/// The supported commands, in ascending order of number. Each line of `facts!` contains all facts
+/// about one command.
 #[derive(Clone, Copy, PartialEq, Eq)]
 pub enum CommandCode {
     EvictControl,
@@ -143,7 +143,7 @@ const POLICY_SESSION: HandleRule = HandleRule {
     role: None,
 };
 
-/// The largest size in bytes of the data that a command accepts.
+/// The maximum size, in bytes, of the data that a command accepts.
 const DATA_SIZE: u16 = DATA_LIMIT as u16;
 
 /// The parameters of TPM2_CreatePrimary and TPM2_Create: inSensitive, inPublic, outsideInfo,

@@ -3,7 +3,7 @@
 //! The supported commands (TPM 2.0 Library, Part 3), and the function that reads their handles.
 //!
 //! The [`shape::Shape`] of a command contains every fact about it except its number, its name and
-//! its effect. [`command_code`] has one line with all facts about each command.
+//! its effect. [`command_code`] has one line per command, with all facts about it.
 //!
 //! The crate uses `tpm_types` for handles and response codes. A read returns the value, or the
 //! standard's response code for the first fault. A read that fails changes nothing. No function of

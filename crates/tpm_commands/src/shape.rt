@@ -124,7 +124,7 @@ pub enum ParameterKind {
     Public,
     /// The public area of an NV index: TPM2B_NV_PUBLIC.
     NvPublic,
-    /// A comparison of two operands: TPM_EO.
+    /// A comparison operation: TPM_EO.
     Operation,
     /// The handle of a persistent object: TPMI_DH_PERSISTENT.
     PersistentHandle,
@@ -176,8 +176,8 @@ pub struct Shape {
     pub forbids_sessions: bool,
     /// Whether the command may allocate memory, and therefore can run out of memory.
     pub grows: bool,
-    /// Whether the command reads the NV index that authorizes it, if there is one. If false, the
-    /// command writes that index, or administers it in the role ADMIN.
+    /// Whether the command, if an NV index authorizes it, reads that index. If false, the command
+    /// writes the index, or administers it in the role ADMIN.
     pub reads_nv: bool,
     /// Whether the command, if it succeeds, preserves the state that TPM2_Shutdown saved. If false,
     /// the command's success discards that state.

@@ -1,5 +1,5 @@
--- How a change of a map affects the value that each key finds. The change removes or replaces a
--- value, keeps only some values, or changes all values.
+-- How a change of a map affects the value of each key. The change removes or replaces a value,
+-- keeps only some values, or changes all values.
 use Rattle.std.proofs.Common.{◌≡◌, ◌⊎◌, ℕ, Bool, true, false, cond, [], ◌∷◌, map, Option, Some, None, option_map, ◌==◌, refl, sym, ap, ◌∙◌, inl, inr}
 use Rattle.std.proofs.lemmas.Bool.{cases_Bool, cases_eq}
 use Rattle.tpm_containers.specs.IsSortedMap.{IsSortedMap}
@@ -10,7 +10,7 @@ module _ {X : Type 0} where
   laws : IsSortedMap X
   laws = is_map
 
-  -- After a key is removed, the value found by each key is unchanged or removed.
+  -- After a key is removed, each key has the same value as before or no value.
   pub removed_or_same : (es : Entries X) (key other : ℕ) → Ascends es → (at_key (without_key es key) other ≡ at_key es other) ⊎ (at_key (without_key es key) other ≡ None)
   removed_or_same es key other up =
       elim (cases_eq other key) [
@@ -18,7 +18,7 @@ module _ {X : Type 0} where
         | inr apart ↦ inl (laws.removed_others es key other apart)
       ]
 
-  -- If only some values are kept, the value found by each key is unchanged or removed.
+  -- If only some values are kept, each key has the same value as before or no value.
   pub kept_or_gone : (stays : X → Bool) (es : Entries X) (key : ℕ) → Ascends es → (at_key (kept_entries stays es) key ≡ at_key es key) ⊎ (at_key (kept_entries stays es) key ≡ None)
   kept_or_gone stays es key up = by (at_key es key) refl
     where
@@ -43,7 +43,7 @@ module _ {X : Type 0} where
         | inr apart ↦ ap (option_map shown) (laws.changed_others es key new other apart)
       ]
 
-  -- the entries, with all values changed. Each key then finds its changed value
+  -- the entries, with all values changed. Each key then has its changed value
   abbrev pub all_changed : (X → X) → Entries X → Entries X
   all_changed change es = map (λ e. (e.0, change e.1)) es
 

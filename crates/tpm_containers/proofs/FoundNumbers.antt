@@ -1,5 +1,5 @@
--- After a removal, the value found by each number is unchanged or removed. If all slots are free, a
--- search finds no value.
+-- After a removal, a search for any number finds the same value as before, or nothing. If all slots
+-- are free, a search finds no value.
 use Rattle.std.proofs.Common.{◌≡◌, ◌⊎◌, ℕ, zero, suc, List, Option, None, option_and_then, refl, ap, ◌∙◌, inl, inr}
 use Rattle.std.proofs.lemmas.Bool.{cases_eq}
 use Rattle.tpm_containers.specs.Numbered.{at_number, if_of_kind, place_of, without_number}
@@ -7,7 +7,7 @@ use Rattle.tpm_containers.specs.Slots.{at_place, free}
 use Rattle.tpm_containers.proofs.NumberedLaws.{removed_gone, removed_others}
 
 module _ {X : Type 0} (kind : X → ℕ) where
-  -- After a number is removed, the value found by each number is unchanged or removed.
+  -- After a number is removed, a search for any number finds the same value as before, or nothing.
   pub removed_or_same : (places : List (Option X)) (number other : ℕ) → (at_number kind (without_number kind places number) other ≡ at_number kind places other) ⊎ (at_number kind (without_number kind places number) other ≡ None)
   removed_or_same places number other =
       elim (cases_eq other number) [

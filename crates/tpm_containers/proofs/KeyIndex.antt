@@ -1,5 +1,5 @@
--- The code finds a key by the index of its entry. Editing the entry at that index edits the key's
--- value.
+-- The code searches for the index of a key. Reading, writing, inserting or removing the entry at
+-- this index reads, writes, inserts or removes the key's value.
 use Rattle.std.proofs.Common.{◌≡◌, ℕ, zero, suc, ◌<◌, ◌≤◌, Bool, true, false, cond, [], ◌∷◌, ◌++◌, length, get_or, slice_set, Option, Some, None, IfSome, is_some, refl, sym, ap, subst, ◌∙◌, arith}
 use Rattle.std.specs.Prelude.{nat_le, ◌==◌}
 use Rattle.std.specs.List.{position, position_or_len, insert, remove}

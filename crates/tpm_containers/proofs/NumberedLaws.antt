@@ -43,8 +43,8 @@ module _ {X : Type 0} (kind : X → ℕ) where
   kind_of-number_of : (k place : ℕ) → place < 2 ^ 24 → kind_of (number_of k place) ≡ k
   kind_of-number_of k place below = omega arith
 
-  -- Writing a slot does not change the value with a number that identifies another slot, or that
-  -- finds the same value in the slot's old and new content.
+  -- If a slot is written, a search for a number finds the same value as before in two cases: the
+  -- number identifies another slot, or the search finds the same in the slot's old and new content.
   elsewhere : (places : Slots) (place other : ℕ) (cell : Option X) → (place_of other ≡ place → seen other cell ≡ seen other (at_place places place)) → place < length places → at_number kind (slice_set places place cell) other ≡ at_number kind places other
   unfolding at_number
   elsewhere places place other cell same inside =
@@ -94,8 +94,8 @@ module _ {X : Type 0} (kind : X → ℕ) where
   found_at places number x is = seen_some number (at_place places (place_of number)) x is
 
   -- If two different numbers identify the same slot, their most significant bytes differ.
-  -- Therefore, if one of the numbers finds a value, the other number finds none, even after a value
-  -- of the same kind replaces this value.
+  -- Therefore, if a search for one of them finds a value, a search for the other finds nothing,
+  -- even after a value of the same kind replaces this value.
   hidden : (places : Slots) (number other : ℕ) (x y : X) → Found places number x → kind y ≡ kind x → other ≢ number → place_of other ≡ place_of number → seen other (Some y) ≡ None
   hidden places number other x y is same apart here =
       seen_apart other y (λ byte. apart (one_number other number here (byte ∙ same ∙ sym is.1)))
@@ -137,7 +137,7 @@ module _ {X : Type 0} (kind : X → ℕ) where
       by (Some x) is = ap (λ (p : Slots). at_number kind p other) (removed_some places number x is) ∙ others_stay places number other x None is apart (λ here. refl)
       by None is = ap (λ (p : Slots). at_number kind p other) (removed_absent places number is)
 
-  -- ---- changing a value, which keeps its kind
+  -- ---- changing a value without changing its kind
 
   abbrev Keeps : (X → X) → Type 0
   Keeps change = (x : X) → kind (change x) ≡ kind x
@@ -175,12 +175,12 @@ module _ {X : Type 0} (kind : X → ℕ) where
       let set = taken_set places place (Some x) free.0 in
       omega (arith, set, none)
 
-  -- The slot of a value that a number finds counts as one taken slot.
+  -- If a search for a number finds a value, the slot of this value counts as one taken slot.
   one_taken : (places : Slots) (number : ℕ) (x : X) → at_number kind places number ≡ Some x → counted (at_place places (place_of number)) ≡ 1
   one_taken places number x is = ap counted (found_at places number x is).0
 
-  -- Overwriting the slot of a found value with another value does not change the number of taken
-  -- slots. Freeing the slot decreases the number by one.
+  -- If a search finds a value, overwriting its slot with another value does not change the number
+  -- of taken slots. Freeing the slot decreases the number by one.
   taken_there : (places : Slots) (number : ℕ) (x : X) (cell : Option X) → at_number kind places number ≡ Some x → taken_count (slice_set places (place_of number) cell) + 1 ≡ taken_count places + counted cell
   taken_there places number x cell is =
       let set = taken_set places (place_of number) cell (at_inside places (place_of number) x (found_at places number x is).0) in

@@ -78,8 +78,8 @@ counted cell = cond (is_some cell) 1 0
 taken-cons : {X : Type 0} (first : Option X) (places : List (Option X)) → taken_count (first ∷ places) ≡ counted first + taken_count places
 taken-cons first places = sum_by-cons counted first places
 
--- overwriting a slot changes the number of taken slots by the difference between the counts for its
--- new and its old content
+-- overwriting a slot subtracts the count of its old content from the number of taken slots, and
+-- adds the count of its new content
 pub taken_set : {X : Type 0} (places : List (Option X)) (place : ℕ) (cell : Option X) → place < length places → taken_count (slice_set places place cell) + counted (at_place places place) ≡ taken_count places + counted cell
 taken_set [] place cell below = absurd (omega arith)
 taken_set (first ∷ places) zero cell below =

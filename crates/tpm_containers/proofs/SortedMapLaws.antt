@@ -1,5 +1,5 @@
 -- Entries in ascending order of key form a map. After a value is inserted, removed or changed, or
--- after only some values are kept, each key finds the right value, and the keys still ascend. The
+-- after only some values are kept, each key has the right value, and the keys still ascend. The
 -- number of keys changes accordingly. `key_from` finds the lowest key at or above a given key.
 use Rattle.std.proofs.Common.{◌≡◌, ◌≢◌, ℕ, ◌<◌, ◌≤◌, ◌+◌, ◌⊎◌, Bool, false, true, cond, eqb, leb, [], ◌∷◌, length, Option, Some, None, is_some, refl, sym, ap, subst, ◌∙◌, arith, inl, inr}
 use Rattle.std.proofs.lemmas.Bool.{cases_eq, cases_lt, cond_both, cond-true, cond-false, eq-eqb, ne_eqb, eqb-true, leb-true, leb-false}
@@ -319,8 +319,8 @@ module _ {X : Type 0} where
         | inr above ↦ above
       ]
 
-  -- if each key has the same value in two maps, and their first keys are equal, the same holds for
-  -- the rest of both maps
+  -- if each key has the same value in two maps, and their first keys are equal, then each key also
+  -- has the same value in both maps without their first entries
   same_rest : (e f : ℕ × X) (es fs : Entries X) → e.0 ≡ f.0 → Ascends (e ∷ es) → Ascends (f ∷ fs) → SameFound (e ∷ es) (f ∷ fs) → SameFound es fs
   same_rest e f es fs one up vp found key =
       elim (cases_eq e.0 key) [

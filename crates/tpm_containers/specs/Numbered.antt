@@ -1,6 +1,6 @@
 -- Slots as a map keyed by number. The three least significant bytes of a number identify a slot,
--- and its most significant byte is the kind of the value in that slot. A number of another kind
--- does not find the value.
+-- and its most significant byte is the kind of the value in that slot. A search for a number of
+-- another kind does not find the value.
 use Rattle.std.specs.Prelude.{◌≡◌, ◌≢◌, ℕ, ◌+◌, ◌*◌, ◌/◌, ◌%◌, ◌^◌, ◌==◌, ◌<◌, is_some, List, length, Option, Some, None, option_and_then, if◌then◌else◌, slice_set}
 use Rattle.std.specs.Option.{option_map_or}
 use Rattle.tpm_containers.specs.Slots.{at_place, lowest_free, taken_count}
@@ -23,12 +23,12 @@ module _ {X : Type 0} where
   at_number kind places number =
       option_and_then (if_of_kind kind number) (at_place places (place_of number))
 
-  -- the slots without the value with this number, or the same slots if there is none
+  -- the slots without the value with this number; unchanged if no value has this number
   unfoldable pub without_number : (X → ℕ) → List (Option X) → ℕ → List (Option X)
   without_number kind places number =
       if is_some (at_number kind places number) then slice_set places (place_of number) None else places
 
-  -- the slots after changing the value with this number, or the same slots if there is none
+  -- the slots after changing the value with this number; unchanged if no value has this number
   abbrev pub changed_at : (X → ℕ) → (X → X) → List (Option X) → ℕ → List (Option X)
   changed_at kind change places number =
       option_map_or (λ (x : X). slice_set places (place_of number) (Some (change x)))
@@ -44,7 +44,8 @@ module _ {X : Type 0} where
     pub put_others : (places : List (Option X)) (place : ℕ) (x : X) (other : ℕ) → place < 2 ^ 24
         → lowest_free places ≡ Some place → other ≢ number_of (kind x) place
         → at_number kind (slice_set places place (Some x)) other ≡ at_number kind places other
-    -- no number that identifies the lowest free slot finds a value, and each lower slot is taken
+    -- a search for a number that identifies the lowest free slot finds nothing, and each lower slot
+    -- is taken
     pub free : (places : List (Option X)) (k place : ℕ) → place < 2 ^ 24
         → lowest_free places ≡ Some place → at_number kind places (number_of k place) ≡ None
     pub lowest : (places : List (Option X)) (place below : ℕ)

@@ -40,6 +40,6 @@ Puts can old place x (Ok done) new = new ≡ slice_set old place (Some x)
 Puts can old place x (Err Full) new = ⊥
 Puts can old place x (Err NoMemory) new = (can ≡ true) × (new ≡ old)
 
--- all `most` slots, of which the first are stored in cells. The slots without a cell are free
+-- all `most` slots. The first slots are stored in cells, and the slots without a cell are free
 abbrev pub padded_to : {X : Type 0} → ℕ → List (Option X) → List (Option X)
 padded_to most cells = cells ++ free (most - length cells)

@@ -1,5 +1,6 @@
-//! Slots that are stored in cells. The slots past the last cell are free. A list grows as slots are
-//! taken, and an allocation can fail. Fixed-size storage never allocates memory.
+//! Slots that are stored in cells; the slots past the last cell are free. If the cells are a list,
+//! the list grows as slots are taken, and an allocation can fail. Fixed-size storage never
+//! allocates memory.
 
 use crate::Items;
 use crate::cells::{free_place, reach};

@@ -1,5 +1,5 @@
-//! A map that is stored as entries: in a list that grows, for which an allocation can fail, or in
-//! fixed-size storage, which never allocates memory.
+//! A map that is stored as entries: either in a list that grows, so that an allocation can fail, or
+//! in fixed-size storage, which never allocates memory.
 
 use crate::lookup::{index_for, index_of, key_at, value_at};
 use crate::sorted_map::{KeyFault, SortedMap};

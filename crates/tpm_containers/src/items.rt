@@ -23,10 +23,10 @@ pub trait Items<const N: usize>: Drop + Sized {
     /// The items.
     ghost items: { Self → List Self.Item };
 
-    /// The items, with one of them replaced.
+    /// The sequence, with one of its items replaced.
     ghost with_item: { Self → ℕ → Self.Item → Self };
 
-    /// The items, with all of them overwritten.
+    /// The sequence, with all of its items overwritten.
     ghost with_items: { Self → List Self.Item → Self };
 
     /// Whether an allocation can fail.

@@ -1,4 +1,4 @@
-//! Entries with ascending keys form a map.
+//! The laws of maps whose entries have ascending keys.
 
 ghost use Rattle.std.specs.Prelude.{◌≡◌, ◌⊎◌, ℕ, Bool, None, Some, map, option_map};
 ghost use Rattle.tpm_containers.specs.IsSortedMap.{IsSortedMap};
@@ -15,11 +15,11 @@ pub fn sorted_map_laws<T>()
     ensures { IsSortedMap T }
 {}
 
-/// How a change of the map affects the value found by each key. If a key is removed, or only some
-/// values are kept, each value is unchanged or removed. If a function `shown` does not distinguish
-/// a value from its replacement, replacing the value does not change what `shown` returns for any
-/// key. If all values change, each key finds its changed value. This function is only a proof: it
-/// has no effect at run time.
+/// How a change of the map affects the value of each key. If a key is removed, or only some values
+/// are kept, each key has the same value as before or no value. If a function `shown` does not
+/// distinguish a value from its replacement, replacing the value does not change what `shown`
+/// returns for any key. If all values change, each key has its changed value. This function is only
+/// a proof: it has no effect at run time.
 #[inline(always)]
 #[tactic(auto, using(crate::proofs::FoundKeys::removed_or_same, crate::proofs::FoundKeys::kept_or_gone, crate::proofs::FoundKeys::changed_shows, crate::proofs::FoundKeys::all_changed_found))]
 pub fn found_laws<T, V>()

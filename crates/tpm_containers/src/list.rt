@@ -1,4 +1,4 @@
-//! Items in a list that grows, for which an allocation can fail.
+//! Items in a list that grows, so that an allocation can fail.
 
 use crate::items::{Choice, Items};
 use std::alloc::{AllocError, Global};

@@ -1,5 +1,5 @@
-//! Finds values in slots by number. A number consists of a kind and a slot, like a handle of a TPM.
-//! The laws in this file show that this is a map.
+//! Finds values in slots by number. A number consists of a kind and a slot, like a TPM handle. The
+//! laws in this file show that this is a map.
 
 ghost use Rattle.std.specs.Prelude.{◌≡◌, ◌<◌, ◌⊎◌, ℕ, List, None, Option, is_some, length, option_copied};
 ghost use Rattle.std.specs.Borrow.{LendsIf, sem};
@@ -78,7 +78,7 @@ pub fn get_mut<T: Kinded, const N: usize, P: Slots<T, N>>(
     places.get_mut(place_of(number))
 }
 
-/// Removes the value with this number. Returns whether there was one.
+/// Removes the value with this number. Returns whether there was such a value.
 #[tactic(auto, unfolding(crate::specs::Numbered::without_number))]
 pub fn remove<T: Kinded, const N: usize, P: Slots<T, N>>(places: &mut P, number: u32) -> bool
     ensures there { result ≡ is_some (at_number T.kind (P.places places.old) number) }
@@ -114,8 +114,9 @@ pub fn numbered_laws<T: Kinded>()
     ensures { MapLaws T.kind }
 {}
 
-/// After a removal, the value found by each number is unchanged or removed. If all slots are free,
-/// a search finds no value. This function is only a proof: it has no effect at run time.
+/// After a removal, a search for any number finds the same value as before, or nothing. If all
+/// slots are free, a search finds no value. This function is only a proof: it has no effect at run
+/// time.
 #[inline(always)]
 #[tactic(auto, using(crate::proofs::FoundNumbers::removed_or_same, crate::proofs::FoundNumbers::free_found))]
 pub fn found_laws<T: Kinded>()

@@ -33,7 +33,7 @@ use Rattle.tpm_context.specs.declared.head.SavedHandle.TheVariants as saved
 pub opens_again : OpensAgain
 opens_again c is = context_opens c.hierarchies c.binding c.sequence c.object is.sequence is.object
 
--- ---- the fields of a text
+-- ---- the fields that the integrity value covers
 
 -- if two concatenations are equal and their first parts have the same size, the first parts are
 -- equal, and so are the remaining parts
@@ -51,7 +51,8 @@ restart_small b saved.Ordinary is = omega arith
 restart_small b saved.Sequence is = omega arith
 restart_small b saved.StClear is = is.restart_count
 
--- Two contexts agree in all fields that their integrity values cover before the encrypted object.
+-- In two contexts, the fields that the integrity value covers before the encrypted object are
+-- equal.
 pub record SameBound (a b : Binding) (h k : ContextHead) : Type 0 where
   pub start : a.start ≡ b.start
   pub reset_count : a.reset_count ≡ b.reset_count
@@ -85,7 +86,7 @@ same_bound a b h k is js counted numbered e =
           (same_number w32 (2 ^ 32) wide32 (saved_number h.saved) (saved_number k.saved) (saved_small h.saved) (saved_small k.saved) p.1);
     }
 
--- ---- the object of a text
+-- ---- the encrypted object
 
 same_bytes : (proof other : List ℕ) (m n : ℕ) (h k : ContextHead) → proof ≡ other → m ≡ n → h.sequence ≡ k.sequence → h.saved ≡ k.saved → cipher_bytes proof m h ≡ cipher_bytes other n k
 unfolding cipher_bytes
@@ -134,7 +135,7 @@ same_making c d is js key text =
       object = same_object c.object d.object is.object js.object plain;
     }
 
--- The keys and the messages are equal, or their HMACs collide.
+-- The two keys are equal and the two messages are equal, or their HMACs collide.
 abbrev pub Alike : (key text other_key other_text : List ℕ) → Type 0
 Alike key text other_key other_text =
     ((key ≡ other_key) × (text ≡ other_text)) ⊎ Collides key text other_key other_text

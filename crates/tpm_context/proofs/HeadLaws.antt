@@ -89,7 +89,7 @@ head_spelled =
     (λ h is. is.0)
     (λ h is. (is, (tt, (tt, tt))))
 
--- ---- the object of a head
+-- ---- objects that match a head
 
 pub same_saved : (a b : SavedHandle) → saved_number a ≡ saved_number b → a ≡ b
 same_saved a b same =
@@ -107,7 +107,7 @@ is_of_own sequence o =
     let number = saved_number (saved_of o.public) in
     rw ((Decides-eqb owner owner).1 refl, (Decides-eqb number number).1 refl) refl
 
--- if an object matches a head, the head of the object's context is this head
+-- if an object matches a head, the object's context has this head
 pub is_of_head : (h : ContextHead) (o : Object) → is_of h o ≡ true → head_of h.sequence o ≡ h
 is_of_head h o is = by (owner_number o.hierarchy == owner_number h.hierarchy) refl is
   where

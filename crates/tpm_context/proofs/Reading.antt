@@ -1,4 +1,4 @@
--- Reading a context succeeds exactly for the contexts that can be made.
+-- Bytes can be read as a context if and only if they are a context that can be made.
 use Rattle.std.proofs.Common.{◌≡◌, ℕ, ◌^◌, ◌<◌, ◌≤◌, Bool, List, [], ◌∷◌, ◌++◌, length, Result, Ok, Err, refl, sym, ap, subst, ◌∙◌, append-nil, length-append, arith}
 use Rattle.std.specs.Prelude.{◌==◌, not, IfOk}
 use Rattle.std.specs.Str.{bytes_eq}
@@ -72,11 +72,11 @@ pub none_left : (bytes : List ℕ) → length bytes ≡ 0 → bytes ≡ []
 none_left [] e = refl
 none_left (byte ∷ bytes) e = absurd (omega arith)
 
--- replacing the faults of a reader does not change its success
+-- if a read succeeds, replacing the faults that it can return does not change its result
 sized_read : (limit : ℕ) (bytes : List ℕ) (x : List ℕ × List ℕ) → sized_at limit bytes ≡ Ok x → or_fault (sized_at limit bytes) fault.Size ≡ Ok x
 sized_read limit bytes x e = ap (λ (r : Result (List ℕ × List ℕ) SizedFault). or_fault r fault.Size) e
 
--- bytes from which a contextBlob was decoded consist of the blob in a sized buffer
+-- if a contextBlob is decoded from bytes, the bytes are this blob in a sized buffer
 pub blob_found : (text blob : List ℕ) → AreBytes text → blob_in text ≡ Ok blob → (text ≡ sized_text blob) × (length blob ≤ blob_size) × AreBytes blob
 unfolding blob_in
 blob_found text blob fits e =
@@ -151,7 +151,7 @@ content_is h a b proof head cipher counted small =
     ∙ ap (λ (r : Result (List ℕ) ContextFault). r >>= λ l. parts_in l >>= λ p. plain_in (proof_of h head.hierarchy) b head p.0 p.1 >>= with_head head) (blob_again blob fits)
     ∙ ap (λ (r : Result (List ℕ × List ℕ) ContextFault). r >>= λ p. plain_in (proof_of h head.hierarchy) b head p.0 p.1 >>= with_head head) (parts_again integrity cipher whole)
 
--- with the correct integrity value, a context is decrypted
+-- if the integrity value of a context is correct, the context is decrypted
 plain_opens : (proof : List ℕ) (b : Binding) (head : ContextHead) (cipher : List ℕ) → plain_in proof b head (integrity_of proof b head cipher) cipher ≡ Ok (decrypted proof b.start head cipher)
 unfolding plain_in
 plain_opens proof b head cipher =

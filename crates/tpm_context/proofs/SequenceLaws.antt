@@ -1,4 +1,5 @@
--- The context of a sequence object opens again, and only as it was made.
+-- The context of a sequence object opens as this sequence object. Unless the HMAC has a collision,
+-- it opens only with the proof, start number and count of TPM Resets with which it was made.
 use Rattle.std.proofs.Common.{◌≡◌, ◌⊎◌, ℕ, ◌≤◌, Bool, List, [], ◌++◌, length, Option, Some, None, Result, Ok, Err, refl, sym, ap, subst, ◌∙◌, append-nil, arith, inl, inr}
 use Rattle.std.specs.Prelude.{◌==◌, not, ok_or, IfOk}
 use Rattle.tpm_bytes.specs.Reading.{◌>>=◌, or_fault, refused_if}
@@ -35,7 +36,7 @@ use Rattle.tpm_context.specs.declared.head.ContextHead.{ContextHead}
 slot_again : (object : SequenceObject) → IsSequenceObject object → slot_in (slot_text (Some object)) ≡ Ok (Some object, [])
 slot_again object is = ap slot_in (sym (append-nil (slot_text (Some object)))) ∙ slot_spelled.again (Some object) [] is
 
--- the sequence object that bytes encode for a head
+-- the sequence object that a plaintext encodes, if the head is that of a sequence object's context
 abbrev slot_result : ContextHead → List ℕ → Result SequenceObject ContextFault
 slot_result head plain =
     or_fault (slot_in plain) fault.Integrity >>= λ x. refused_if (not (length x.1 == 0)) fault.Integrity >>= λ ended. refused_if (not (is_sequence_head head)) fault.Integrity >>= λ same. ok_or x.0 fault.Integrity
@@ -55,8 +56,8 @@ some_of : (slot : Option SequenceObject) (object : SequenceObject) → ok_or slo
 some_of (Some own) object e = ap Some (ok_is {E = ContextFault} own object e)
 some_of None object e = absurd cc
 
--- if a plaintext encodes a sequence object for a head, it is the encoding of this sequence object,
--- and the head is that of its context
+-- if a plaintext and a head are read as a sequence object, the plaintext is the encoding of this
+-- sequence object, and the head is that of a sequence object's context
 pub sequence_found : (head : ContextHead) (plain : List ℕ) (object : SequenceObject) → sequence_in head plain ≡ Ok object
     → IsEncodable object × (plain ≡ slot_text (Some object)) × (sequence_head head.sequence ≡ head)
 unfolding sequence_in
@@ -92,7 +93,7 @@ cipher_few h start number object is =
     (sym (encrypted_size (null_proof h) start (sequence_head number) (slot_text (Some object))))
     (slot_few object is)
 
--- integrity values are HMACs
+-- if two integrity values are equal, then so are the two HMACs by which they are defined
 hmacs_of : (own other : List ℕ) (a b : Binding) (head : ContextHead) (cipher : List ℕ) → integrity_of own a head cipher ≡ integrity_of other b head cipher
     → hmac_of Sha256 own (protected_text a head cipher) ≡ hmac_of Sha256 other (protected_text b head cipher)
 unfolding integrity_of

@@ -44,7 +44,7 @@ saved_number saved.Ordinary = 0x8000_0000
 saved_number saved.Sequence = 0x8000_0001
 saved_number saved.StClear = 0x8000_0002
 
--- the savedHandle with this number, if the number is one used for objects or sequence objects
+-- the savedHandle with this number, if objects or sequence objects use this number
 abbrev pub saved_named : ℕ → Option SavedHandle
 saved_named number =
     if number == 0x8000_0000 then Some saved.Ordinary
@@ -58,7 +58,7 @@ saved_of p = if has p.attributes attribute.StClear then saved.StClear else saved
 
 -- ---- the head
 
--- the head of the context of an object
+-- the head of an object's context
 abbrev pub head_of : (sequence : ℕ) → Object → ContextHead
 head_of sequence object = record {
   sequence = sequence;
@@ -66,7 +66,7 @@ head_of sequence object = record {
   hierarchy = object.hierarchy;
 }
 
--- the head of the context of a sequence object, whose hierarchy is TPM_RH_NULL
+-- the head of a sequence object's context, with TPM_RH_NULL as its hierarchy
 abbrev pub sequence_head : (sequence : ℕ) → ContextHead
 sequence_head number =
     record { sequence = number; saved = saved.Sequence; hierarchy = hierarchy.Null }

@@ -23,8 +23,8 @@ pub record IsContext (h : Hierarchies) (b : Binding) (bytes : List ℕ) (object 
     pub sized : IsObject object
     pub text : bytes ≡ context_text h b sequence object
 
--- A sequence object can be encoded: every number fits its integer type, and the encoding consists of
--- bytes.
+-- A sequence object can be encoded: every number fits its integer type, and the encoding consists
+-- of bytes.
 pub record IsEncodable (object : SequenceObject) : Type 0 where
   pub sized : IsSequenceObject object
   pub bytes : AreBytes (slot_text (Some object))
@@ -59,7 +59,7 @@ covered_text b c =
     protected_text b (head_of c.sequence c.object)
     (object_cipher c.hierarchies c.binding.start c.sequence c.object)
 
--- the restartCount to which the context of an object is bound
+-- the restartCount to which an object's context is bound
 abbrev pub restart_of : Binding → Object → ℕ
 restart_of b object = restart_bound b (saved_of object.public)
 
@@ -146,8 +146,8 @@ SequenceOpensAgain =
     → number < 2 ^ 64 → IsEncodable object
     → opened_sequence h b (sequence_context_text h b number object) ≡ Ok object
 
--- the message that the integrity value covers in the context of a sequence object, made with the
--- hierarchies `h` and the binding `a`, if the reader has the binding `b`
+-- the message that the integrity value of a sequence object's context covers, for a reader with the
+-- binding `b`. The context was made with the hierarchies `h` and the binding `a`
 abbrev pub sequence_covered : Hierarchies → (a b : Binding) → (number : ℕ) → SequenceObject
     → List ℕ
 sequence_covered h a b number object =
@@ -162,9 +162,9 @@ pub record IsAsMade (h later : Hierarchies) (a b : Binding) (object found : Sequ
     pub reset_count : a.reset_count ≡ b.reset_count
     pub same : object ≡ found
 
--- Unless the HMAC has a collision, the context of a sequence object opens only with the proof, the
--- start number and the count of TPM Resets with which it was made, and as the sequence object from
--- which it was made.
+-- Unless the HMAC has a collision, two things are true of the context of a sequence object. It
+-- opens only as the sequence object from which it was made. It opens only with the proof, the start
+-- number and the count of TPM Resets with which it was made.
 abbrev pub SequenceOpensOnlyAsMade : Type 0
 SequenceOpensOnlyAsMade =
     (h later : Hierarchies) (a b : Binding) (number : ℕ) (object found : SequenceObject)

@@ -16,9 +16,9 @@ use Rattle.tpm_context.specs.declared.head.SavedHandle.TheVariants as saved
 abbrev pub context_label : List ℕ
 context_label = 0x43 ∷ 0x4f ∷ 0x4e ∷ 0x54 ∷ 0x45 ∷ 0x58 ∷ 0x54 ∷ []
 
--- KDFa's contextV: the savedHandle, then the start number of the completing layer. The standard has
--- only the savedHandle. This device adds the start number, because the layer counts contexts from 1
--- again at each start
+-- KDFa's contextV: the savedHandle, then the start number of the completing layer. In the standard,
+-- contextV is only the savedHandle. This device adds the start number, because the layer numbers
+-- the contexts from 1 again at each start
 abbrev pub context_party : (start : ℕ) → ContextHead → List ℕ
 context_party start head =
     to_be_bytes w32 (saved_number head.saved) ++ to_be_bytes w64 start

@@ -31,8 +31,9 @@ unfoldable pub sequence_context_text : Hierarchies → Binding → (number : ℕ
 sequence_context_text h b number object =
     sealed_text (null_proof h) b (sequence_head number) (sequence_cipher h b.start number object)
 
--- the sequence object that a plaintext encodes. The plaintext consists of bytes and is exactly a slot
--- with a sequence object, and the head must be that of a sequence object's context
+-- the sequence object that a plaintext encodes. The plaintext must consist of bytes and be exactly
+-- the encoding of a slot with a sequence object, and the head must be that of a sequence object's
+-- context
 unfoldable pub sequence_in : ContextHead → (plain : List ℕ) → Result SequenceObject ContextFault
 sequence_in head plain = do
   bytes ← refused_if (not (are_bytes plain)) fault.Integrity
@@ -42,7 +43,8 @@ sequence_in head plain = do
   ok_or slot.0 fault.Integrity
 
 -- the sequence object of a context; after the faults of `content_in`, the fault is INTEGRITY if the
--- plaintext does not encode a sequence object or if the head is another one
+-- plaintext does not encode a sequence object, or if the head is not that of a sequence object's
+-- context
 unfoldable pub opened_sequence : Hierarchies → Binding → List ℕ
     → Result SequenceObject ContextFault
 opened_sequence h b bytes = do

@@ -8,7 +8,7 @@ pub struct Binding {
     pub start: u64,
     /// The device's count of TPM Resets. The context does not outlive a TPM Reset.
     pub reset_count: u32,
-    /// The device's count of TPM Restarts. Only the context of an object with stClear is bound to
-    /// it, and does not outlive a TPM Restart.
+    /// The device's count of TPM Restarts. Only contexts of objects with stClear are bound to it;
+    /// they do not outlive a TPM Restart.
     pub restart_count: u32,
 }

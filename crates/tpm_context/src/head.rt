@@ -99,7 +99,7 @@ fn read_hierarchy(text: &mut Cursor) -> Result<HierarchyHandle, ContextFault>
 }
 
 impl ContextHead {
-    /// Returns the head of the context of an object.
+    /// Returns the head of an object's context.
     pub(crate) fn of(sequence: u64, object: &Object) -> ContextHead
         ensures { result ≡ head_of sequence object.now }
     {
@@ -110,7 +110,7 @@ impl ContextHead {
         }
     }
 
-    /// Returns the head of the context of a sequence object.
+    /// Returns the head of a sequence object's context.
     pub(crate) fn of_sequence(number: u64) -> ContextHead
         ensures { result ≡ sequence_head number }
     {

@@ -9,7 +9,7 @@ use tpm_aes::Aes128;
 use tpm_bytes::Sink;
 use tpm_mac::{Digest, HashAlg, hmac_parts, kdfa};
 
-/// The label of KDFa for the key and the IV of a context.
+/// KDFa's label for the key and the IV of a context.
 const CONTEXT_LABEL: &[u8] = b"CONTEXT";
 
 /// The cipher of a context and its IV.

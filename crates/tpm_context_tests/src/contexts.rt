@@ -1,4 +1,4 @@
-//! Tests of the contexts of two HMAC keys of the owner hierarchy; one of the keys has stClear set.
+//! Tests of the contexts for two HMAC keys in the owner hierarchy; one of the keys has stClear set.
 //! Python's `hashlib`, `hmac` and `cryptography` computed the contexts.
 
 use std::process::Abort;
@@ -49,8 +49,8 @@ const ST_CLEAR_CONTEXT: &[u8] =
     \x1d\x1e\x9e\x25\x48\xda\xa6\x75\xb6\xc1\x37\x7c\x05\x05\xb7\xab\x39\xc3\xed\xca\
     \x15\x8e\xd6\x44\xf2\xeb\x55";
 
-/// The hierarchies of a device that is manufactured from random bytes that all have this value.
-/// Therefore all bytes of its proofs have this value.
+/// The hierarchies of a device that was manufactured from random bytes that all have this value.
+/// Therefore all bytes of the device's proofs have this value, too.
 pub fn hierarchies(value: u8) -> Hierarchies {
     Hierarchies::manufactured(&[value; 256])
 }

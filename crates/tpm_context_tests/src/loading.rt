@@ -14,12 +14,12 @@ use tpm_types::{Handle, Locality};
 /// TPM2_Startup(CLEAR).
 const STARTUP: &[u8] = b"\x80\x01\0\0\0\x0c\0\0\x01\x44\0\0";
 
-/// TPM2_ContextSave and TPM2_FlushContext of the first transient handle.
+/// TPM2_ContextSave and TPM2_FlushContext for the first transient handle.
 const SAVE: &[u8] = b"\x80\x01\0\0\0\x0e\0\0\x01\x62\x80\0\0\0";
 
 const FLUSH: &[u8] = b"\x80\x01\0\0\0\x0e\0\0\x01\x65\x80\0\0\0";
 
-/// The header of TPM2_ContextLoad for the key's context of 127 bytes.
+/// The header of TPM2_ContextLoad for the key's 127-byte context.
 const LOAD_HEADER: &[u8] = b"\x80\x01\0\0\0\x89\0\0\x01\x61";
 
 /// Four responses: one with the first transient handle; one without parameters; the error

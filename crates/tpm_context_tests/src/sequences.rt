@@ -1,4 +1,4 @@
-//! Tests of the context of a hash sequence with SHA-256, the authorization value "pw" and the data
+//! Tests of the context of a SHA-256 hash sequence with the authorization value "pw" and the data
 //! "abc". Python's `hashlib`, `hmac` and `cryptography` computed the context.
 
 use crate::contexts::{BINDING, CONTEXT, bound_to, check, hierarchies};
@@ -20,14 +20,14 @@ const SEQUENCE_CONTEXT: &[u8] =
     \x0b\x83\xfb\xe9\x91\x0c\xe6\x40\xa5\x53\xfe\xd5\xf6\x97\xb9\xeb\xad\x22\xd1\xff\
     \x5c\x34\x00\xf2\x9e\x0f\xb3\xf8\x43\xf6\xaa\x39";
 
-/// The sequence object after its data.
+/// The sequence object after it has absorbed its data.
 fn sequence() -> SequenceObject {
     let mut object = SequenceObject::new(b"pw", Sequence::hash(HashAlg::Sha256));
     object.update(b"abc");
     object
 }
 
-/// The fault when the context is opened as that of a sequence object, or None on success.
+/// Opens the context as that of a sequence object, and returns the fault, or None on success.
 fn fault_of(context: &[u8], binding: Binding) -> Option<ContextFault> {
     open_sequence(&hierarchies(7), binding, context).err()
 }

@@ -1,5 +1,5 @@
--- The contexts of objects on two devices that differ only in secrets: on both, an object without
--- secrets has the same context, and a context contains the same object.
+-- If two devices differ only in secrets, an object without secrets has the same context on both,
+-- and a context opens as the same object on both.
 use Rattle.std.proofs.Common.{ap, refl, sym, ◌∙◌}
 use Rattle.std.specs.Prelude.{Bool, Err, List, None, Ok, Result, Some, false, if◌then◌else◌, true, ℕ, ◌&&◌, ◌||◌, ◌≡◌}
 use Rattle.tpm_bytes.specs.Reading.{◌>>=◌}
@@ -51,7 +51,7 @@ module _ (s : Secrecy) where
 abbrev with_head : ContextHead → List ℕ → Result (ContextHead × List ℕ) ContextFault
 with_head head plain = Ok (head, plain)
 
--- ---- two devices that differ in secrets alone
+-- ---- two devices that differ only in secrets
 
 module _ (s : Secrecy) (one other : Record) (differ : DifferInSecrets s one other) where
   pub secrets_alike : (of : HierarchyHandle) → secrets_of one.fixed.hierarchies of ≡ secrets_of other.fixed.hierarchies of

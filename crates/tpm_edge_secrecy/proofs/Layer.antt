@@ -145,7 +145,7 @@ module _ (s : Secrecy) (r : Record) where
   sessions_bare : (c : Completion) (is_saved : Bool) → sessions_shown (without_secrets s r) c is_saved ≡ sessions_shown r c is_saved
   sessions_bare c is_saved = of_places s r (session_shown (without_secrets s r) c is_saved) (session_shown r c is_saved) (session_shown_bare c is_saved) (numbers_below session_limit)
 
--- ---- alike replies, and choices between them
+-- ---- replies that are alike on both devices
 
 same_reply : (saved : Bool) (a b : Reply) → a ≡ b → RepliesAlike saved a b
 same_reply saved a b same = record {
@@ -153,13 +153,14 @@ same_reply saved a b same = record {
   after = ap (λ (x : Reply). x.after) same;
 }
 
--- if the first branches of a condition are alike on both devices, and the second branches are
--- equal, the selected replies are alike
+-- a condition selects one of two replies on each device; if the first replies are alike on both
+-- devices (`RepliesAlike`) and the second replies are equal, the selected replies are alike
 then_alike : (b saved : Bool) (x y z w : Reply) → RepliesAlike saved x y → z ≡ w → RepliesAlike (b && saved) (if b then x else z) (if b then y else w)
 then_alike true saved x y z w chosen left = chosen
 then_alike false saved x y z w chosen left = same_reply false z w left
 
--- if the answers on sequence objects are equal, and the other answers are alike, so are the replies
+-- if the answers on sequence objects are equal, and the other answers are alike (`RepliesAlike`),
+-- the replies that combine them are alike
 or_alike : (saved : Bool) (x y : Option Reply) (a b : Reply) → x ≡ y → RepliesAlike saved a b → RepliesAlike saved (or_reply x a) (or_reply y b)
 or_alike saved x y a b same alike = subst (λ (z : Option Reply). RepliesAlike saved (or_reply x a) (or_reply z b)) same (by x)
   where
@@ -191,8 +192,8 @@ counted_elements permanent startup indices loaded active objects persistent coun
     ∷ element 0x20a counters
     ∷ []
 
--- Context: two devices that differ only in secrets, and agree on which authorization values are
--- empty.
+-- The lemmas below are about two devices that differ only in secrets, and agree on which
+-- authorization values are empty.
 module _ (s : Secrecy) (one other : Record) (differ : DifferInSecrets s one other) (alike : SetAlike one other) where
   -- a function that does not depend on a device's secrets has the same value for both devices
   through : {X : Type 0} (f : Record → X) → ((r : Record) → f (without_secrets s r) ≡ f r) → f one ≡ f other

@@ -21,8 +21,9 @@ ghost use Rattle.tpm_edge_secrecy.specs.Opened.{OpenedDataNeedPolicy};
 /// contains the same object on both devices, and the layer sends the same commands to both, unless
 /// it starts a sequence with a secret key. Therefore, if two devices differ only in secret data, an
 /// event that does not read these data reveals nothing about them with the layer either, except the
-/// context of an object that has secrets. A TPM2_HMAC_Start with a secret key counts as reading. The
-/// same holds for a list of events, even after such a context.
+/// context of an object that has secrets. The same is true of a list of events that do not read
+/// these data, even after an event that returned such a context. A TPM2_HMAC_Start with a secret
+/// key counts as reading.
 #[inline(always)]
 pub fn layer_laws()
     ensures answers { LayerAnswersAlike }

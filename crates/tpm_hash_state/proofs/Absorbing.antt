@@ -24,7 +24,8 @@ unfolding absorbed
 absorbs_in_parts state [] second = refl
 absorbs_in_parts state (byte ∷ first) second = absorbs_in_parts (byte_absorbed state byte) first second
 
--- absorbing one more byte of a list
+-- Absorbing the first i + 1 bytes of a list is the same as absorbing the first i bytes, and then
+-- byte i.
 pub absorbed_more : (state : HashState) (bytes : List ℕ) (i : ℕ) → i < length bytes
     → absorbed state (take (i + 1) bytes) ≡ byte_absorbed (absorbed state (take i bytes)) (slice_index bytes i)
 unfolding absorbed

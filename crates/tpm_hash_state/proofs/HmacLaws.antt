@@ -1,4 +1,4 @@
--- The digest of an HMAC state is the HMAC of what it absorbed.
+-- The digest of an HMAC state is the HMAC of the message that the state absorbed.
 use Rattle.std.proofs.Common.{◌≡◌, List, ℕ, ◌++◌, ap, ◌∙◌}
 use Rattle.tpm_mac.specs.Digest.{hash_of}
 use Rattle.tpm_mac.specs.Hmac.{hmac_of, masked_key, padded_key}

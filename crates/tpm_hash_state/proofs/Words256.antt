@@ -3,7 +3,8 @@ use Rattle.std.proofs.Common.{◌≡◌, ℕ, ◌+◌, ◌-◌, ◌*◌, ◌<◌
 use Rattle.std.proofs.lemmas.List.{get_or-take, take_more_set}
 use Rattle.sha2.specs.Sha256.{first_words, next_word, schedule, word_at}
 
--- storing one more word of the block
+-- If the first t words are those of the block, storing word t of the block at index t makes the
+-- first t + 1 words those of the block.
 pub first_words_more : (words block : List ℕ) (t word : ℕ) → t < length words → take t words ≡ first_words block t
     → word ≡ word_at block (4 * t) → take (t + 1) (slice_set words t word) ≡ first_words block (t + 1)
 unfolding first_words
@@ -26,7 +27,8 @@ pub schedule_none : (words block : List ℕ) → take 16 words ≡ first_words b
 unfolding schedule
 schedule_none words block so_far = so_far
 
--- storing one more word of the schedule
+-- If the first t words are those of the schedule, storing word t of the schedule at index t makes
+-- the first t + 1 words those of the schedule.
 pub schedule_more : (words block : List ℕ) (t word : ℕ) → 16 ≤ t → t < length words → take t words ≡ schedule block (t - 16)
     → word ≡ next_word words t → take (t + 1) (slice_set words t word) ≡ schedule block (t + 1 - 16)
 unfolding schedule

@@ -1,4 +1,4 @@
--- An HMAC in progress as a value (FIPS 198-1, 4).
+-- The state of an HMAC computation in progress (FIPS 198-1, 4).
 use Rattle.std.specs.Prelude.{ℕ, List}
 use Rattle.tpm_mac.specs.Hmac.{masked_key, padded_key}
 use Rattle.tpm_mac.specs.declared.algorithm.HashAlg.{HashAlg}

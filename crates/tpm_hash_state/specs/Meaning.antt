@@ -1,4 +1,5 @@
--- The digest of a state is the hash of all bytes that the state absorbed, in whatever parts.
+-- The digest of a state is the hash of all bytes that the state absorbed, no matter how they were
+-- divided into parts.
 use Rattle.std.specs.Prelude.{◌≡◌, ◌++◌, ℕ, List}
 use Rattle.tpm_mac.specs.Digest.{hash_of}
 use Rattle.tpm_mac.specs.Hmac.{hmac_of}

@@ -1,4 +1,4 @@
--- A hash in progress as a value (FIPS 180-4). A message is a list of bytes.
+-- The state of a hash computation in progress (FIPS 180-4). A message is a list of bytes.
 use Rattle.std.specs.Prelude.{ℕ, ◌+◌, ◌%◌, ◌^◌, List, [], ◌∷◌, if◌then◌else◌, nat_eq, replicate, slice_set}
 use Rattle.sha1.specs.Sha1 as sha1
 use Rattle.sha2.specs.Sha256 as sha256

@@ -8,7 +8,7 @@ use crate::chaining::ChainingValue;
 use crate::digest::padding_start;
 use tpm_mac::{Digest, HashAlg};
 
-/// The block size in bytes of both hash algorithms.
+/// The block size of both hash algorithms, in bytes.
 const BLOCK_SIZE: usize = 64;
 
 /// A hash in progress.
@@ -16,8 +16,8 @@ const BLOCK_SIZE: usize = 64;
 pub struct HashState {
     /// The hash value after the whole blocks of the message.
     pub chaining: ChainingValue,
-    /// The bytes after the last whole block of the message. The rest of the array is left from
-    /// earlier blocks.
+    /// The bytes after the last whole block of the message. The rest of the array contains bytes
+    /// left over from earlier blocks.
     pub block: [u8; 64],
     /// The length of the message in bytes, modulo 2^64.
     pub length: u64,

@@ -1,4 +1,4 @@
-//! Each message is absorbed in two parts.
+//! Tests of digests and HMACs. Each message is absorbed in two parts.
 
 use std::process::Abort;
 use tpm_hash_state::{HashState, HmacState};
@@ -10,7 +10,7 @@ const SHA1_ABC: &[u8] =
 const SHA256_ABC: &[u8] = b"\xba\x78\x16\xbf\x8f\x01\xcf\xea\x41\x41\x40\xde\x5d\xae\x22\x23\
     \xb0\x03\x61\xa3\x96\x17\x7a\x9c\xb4\x10\xff\x61\xf2\x00\x15\xad";
 
-/// A message of 56 bytes. Its padding fills a second block.
+/// A message of 56 bytes, whose padding fills a second block.
 const TWO_BLOCKS: &[u8] = b"abcdbcdecdefdefgefghfghighijhijkijkljklmklmnlmnomnopnopq";
 
 const SHA1_TWO_BLOCKS: &[u8] =
@@ -19,7 +19,7 @@ const SHA1_TWO_BLOCKS: &[u8] =
 const SHA256_TWO_BLOCKS: &[u8] = b"\x24\x8d\x6a\x61\xd2\x06\x38\xb8\xe5\xc0\x26\x93\x0c\x3e\x60\x39\
     \xa3\x3c\xe4\x59\x64\xff\x21\x67\xf6\xec\xed\xd4\x19\xdb\x06\xc1";
 
-/// The digests of the message of 200 bytes.
+/// The digests of the 200-byte message.
 const SHA1_LONG: &[u8] =
     b"\x54\xd1\x1e\x99\x12\x7d\x15\x97\x99\xdb\xce\x10\xf5\x1a\x75\xe6\x97\x78\x04\x78";
 
@@ -33,7 +33,8 @@ const HMAC_SHORT_KEY: &[u8] = b"\x5b\xdc\xc1\x46\xbf\x60\x75\x4e\x6a\x04\x24\x26
 const HMAC_LONG_KEY: &[u8] = b"\x60\xe4\x31\x59\x1e\xe0\xb6\x7f\x0d\x8a\x26\xaa\xcb\xf5\xb7\x7f\
     \x8e\x0b\xc6\x21\x37\x28\xc5\x14\x05\x46\x04\x0f\x0e\xe3\x7f\x54";
 
-/// Aborts the test if the state that absorbs the message, cut at this byte, has another digest.
+/// Absorbs a message in two parts, split at index `cut`. Aborts the test if the digest is not the
+/// expected one.
 fn check_hash<R: Abort>(rt: &R, alg: HashAlg, message: &[u8], cut: usize, wanted: &[u8]) {
     let (first, second) = message.split_at(cut.min(message.len()));
     let mut state = HashState::new(alg);
@@ -43,7 +44,8 @@ fn check_hash<R: Abort>(rt: &R, alg: HashAlg, message: &[u8], cut: usize, wanted
     assert!(rt; state.digest().as_slice() == wanted);
 }
 
-/// Aborts the test if the HMAC with SHA-256 of the text, cut at this byte, is another one.
+/// Absorbs a text in two parts, split at index `cut`. Aborts the test if the HMAC with SHA-256 is
+/// not the expected one.
 fn check_hmac<R: Abort>(rt: &R, key: &[u8], text: &[u8], cut: usize, wanted: &[u8]) {
     let (first, second) = text.split_at(cut.min(text.len()));
     let mut state = HmacState::new(HashAlg::Sha256, key);

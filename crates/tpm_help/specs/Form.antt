@@ -48,13 +48,13 @@ parameter_word parameter.SensitiveCreate = codes "Buffer"
 parameter_word parameter.Public = codes "Buffer"
 parameter_word parameter.NvPublic = codes "Buffer"
 
--- the word for a handle, after a space; an `@` marks a handle that an authorization entry must
--- authorize
+-- the word for a handle, preceded by a space; an `@` marks a handle that an authorization entry
+-- must authorize
 abbrev pub handle_form : HandleRule → List ℕ
 handle_form rule =
     (if is_some rule.role then codes " @" else codes " ") ++ handle_word rule.kind
 
--- the word for a parameter, after a space
+-- the word for a parameter, preceded by a space
 abbrev pub parameter_form : ParameterKind → List ℕ
 parameter_form kind = codes " " ++ parameter_word kind
 

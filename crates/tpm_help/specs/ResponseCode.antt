@@ -121,7 +121,7 @@ located = (0x081, codes "ASYMMETRIC")
     ∷ (0x0a7, codes "ECC_POINT")
     ∷ []
 
--- the name of the code with this number in a list
+-- the name that a list contains for the code with this number
 abbrev pub name_in : List (ℕ × List ℕ) → ℕ → Option (List ℕ)
 name_in rows number = option_map (λ row. row.1) (find (λ row. row.0 == number) rows)
 

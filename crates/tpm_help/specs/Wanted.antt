@@ -1,4 +1,4 @@
--- The word for what is expected at the first fault of a line that is not a command.
+-- The word for what is expected at the first fault of a line that is not a valid command.
 use Rattle.std.specs.Prelude.{ℕ, ◌+◌, ◌-◌, ◌==◌, List, [], ◌++◌, length, map, take, drop, replicate, codes, get_or}
 use Rattle.std.specs.Prelude.{Option, Some, None}
 use Rattle.std.specs.List.{count_by, take_while}

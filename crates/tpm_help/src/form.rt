@@ -86,7 +86,7 @@ pub fn form_of(alloc: Global, code: CommandCode) -> Result<String, AllocError>
     String::from_str(alloc, form_text(code).as_str())
 }
 
-/// Adds a word for each handle, after a space.
+/// Adds a word for each handle, preceded by a space.
 fn put_handles(rules: &[HandleRule], form: &mut Form)
     requires { array_string_len form.old + 11 * length rules.now ≤ 128 }
     ensures text { form.new.bytes ≡ form.old.bytes ++ flat_map handle_form rules.now }
@@ -100,7 +100,7 @@ fn put_handles(rules: &[HandleRule], form: &mut Form)
     put_handles(others, form);
 }
 
-/// Adds a word for each parameter, after a space.
+/// Adds a word for each parameter, preceded by a space.
 fn put_parameters(kinds: &[ParameterKind], form: &mut Form)
     requires { array_string_len form.old + 10 * length kinds.now ≤ 128 }
     ensures { form.new.bytes ≡ form.old.bytes ++ flat_map parameter_form kinds.now }

@@ -1,4 +1,4 @@
-//! The word for what is expected at the first fault of a line that is not a command.
+//! The word for what is expected at the first fault of a line that is not a valid command.
 
 ghost use Rattle.std.specs.Prelude.{◌≡◌, ◌-◌, [], codes, get_or, take};
 ghost use Rattle.tpm_text.specs.Entry.{begins_entry};
@@ -63,7 +63,7 @@ fn first_token(words: &[u8]) -> &[u8]
     }
 }
 
-/// The number of entries in the words of a command.
+/// The number of authorization entries in a command in words.
 fn entry_count(words: &[u8], code: CommandCode) -> usize
     ensures { result ≡ entry_count code (tokens_in words.now) }
 {

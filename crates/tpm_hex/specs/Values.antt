@@ -1,5 +1,5 @@
--- A byte that is not a digit has the value 255. Therefore the largest value shows whether a text is
--- hex, and a loop need not stop at the first bad byte.
+-- Whether a text is hex follows from the largest value of its digits, because a byte that is not a
+-- digit has the value 255. Therefore a loop need not stop at the first bad byte.
 use Rattle.std.specs.Prelude.{◌≡◌, ℕ, ◌<◌, ◌≤◌, List, Ok, Err}
 use Rattle.hex.specs.Hex.{decode_pairs}
 use Rattle.hex.specs.declared.error.FromHexError.{FromHexError}

@@ -12,7 +12,7 @@ use tpm_image_text::{Text, put_front, write_body_at};
 use tpm_machine::Machine;
 use tpm_record::Keep;
 
-/// The state that a device keeps without power, except for Clock. In contracts, the value is its
+/// The state that a device keeps without power, except for Clock. Contracts represent it by its
 /// encoding.
 #[derive(Drop)]
 pub struct KeptText {

@@ -1,5 +1,5 @@
 -- The body of an image: decoding returns a non-volatile state exactly when the bytes begin with its
--- encoding. The file also proves the largest size of a body.
+-- encoding. This file also proves how large a body can be.
 use Rattle.tpm_image_text.specs.Sizes.{body_size}
 use Rattle.std.proofs.Common.{◌≡◌, ℕ, ◌^◌, ◌<◌, ◌≤◌, List, ◌++◌, length, Ok, refl, arith, length-append}
 use Rattle.tpm_containers.specs.SortedMap.{Entries}
@@ -62,7 +62,7 @@ pub body_again : (version : Version) (kept : NonVolatile) → IsNonVolatile kept
 unfolding body_of
 body_again version kept is within = filling_again (kept_spelled version) kept (is, within)
 
--- ---- the length of the body's text
+-- ---- the largest size of an encoded body
 
 pub body_small : (version : Version) (kept : NonVolatile) → IsNonVolatile kept → length (image_body_text version kept) ≤ body_size
 unfolding image_body_text

@@ -1,4 +1,4 @@
--- The test whether each number of a list is a byte decides whether the numbers are bytes.
+-- `are_bytes` is true exactly for lists of numbers below 256.
 use Rattle.std.proofs.Common.{◌≡◌, ◌<◌, ℕ, zero, suc, true, List, [], ◌∷◌, refl, arith}
 use Rattle.std.specs.Prelude.{Decides, nat_lt}
 use Rattle.std.proofs.lemmas.Bool.Decides.{Decides-and, Decides-ltb}

@@ -32,7 +32,8 @@ module _ {X : Type 0} (at : List ℕ → Result ((ℕ × X) × List ℕ) Malform
       refused_if (not (nat_le low first.0.0)) malformed >>= λ in_order.
       entries_from count (first.0.0 + 1) first.1 >>= before first.0
 
-  -- testing whether all keys ascend is the same as testing the first key and then the others
+  -- testing whether all keys ascend is the same as testing the first key, and then the keys of the
+  -- other entries
   one_passes : (in_order : Bool) (e : ℕ × X) (others : Result (Entries X × List ℕ) Malformed) (low : ℕ) → nat_le low e.0 ≡ in_order → (others >>= before e >>= passed_from low) ≡ (refused_if (not in_order) malformed >>= λ first. others >>= passed_from (e.0 + 1) >>= before e)
   one_passes true e (Err fault) low is = refl
   one_passes false e (Err fault) low is = refl
@@ -60,7 +61,7 @@ module _ {X : Type 0} (at : List ℕ → Result ((ℕ × X) × List ℕ) Malform
   unfoldable pub entries_left : (count place low : ℕ) (so_far : Entries X) (text : List ℕ) → Result (Entries X × List ℕ) Malformed
   entries_left count place low so_far text = behind so_far (entries_from (count - place) low text)
 
-  -- before the first entry is read, the whole loop has the result of reading all entries
+  -- before the loop reads an entry, its result is the result of reading all entries
   pub entries_begun : (count : ℕ) (so_far : Entries X) (text : List ℕ) → so_far ≡ [] → entries_left count 0 0 so_far text ≡ passing (ascend_from 0) (many_at at count) text
   unfolding entries_left
   entries_begun count so_far text none =

@@ -23,7 +23,7 @@ use Rattle.tpm_types.proofs.Spelled.{Behind, Spelled, first, for_each, respelled
 use Rattle.tpm_image_text.specs.Fields.{auth_value_in, buffer_in, bytes_in, counted_in, counted_text, filling, in_body, is_trimmed, malformed, number_in, passing, yes_no_in, yes_no_number, yes_no_text}
 use Rattle.tpm_image_text.specs.declared.fault.Malformed.{Malformed}
 
--- ---- decoders composed of others
+-- ---- decoders composed of other decoders
 
 -- a decoder is still exact after its faults are replaced by another fault
 pub in_body_spelled : {A E : Type 0} {text : A → List ℕ} {Is : A → Type 0} {at : List ℕ → Result (A × List ℕ) E} → Spelled text Is at → Spelled text Is (in_body at)
@@ -70,8 +70,8 @@ tested {A} {B} {E} {text} {Is} {at} test refusal made given same whole law = rec
 pub passing_spelled : {A : Type 0} {text : A → List ℕ} {Is : A → Type 0} {at : List ℕ → Result (A × List ℕ) Malformed} (test : A → Bool) → Spelled text Is at → Spelled text (λ x. Is x × (test x ≡ true)) (passing test at)
 passing_spelled test law = tested test malformed (λ x. x) (λ x. x) (λ _. refl) (λ _. refl) law
 
--- an exact decoder is still exact if it converts the decoded value, provided that each of the two
--- values determines the other
+-- an exact decoder is still exact if it converts the decoded value, provided that the decoded and
+-- the converted value determine each other
 pub made_of : {A B E : Type 0} {text : A → List ℕ} {Is : A → Type 0} {at : List ℕ → Result (A × List ℕ) E} (made : A → B) (given : B → A) {Are : B → Type 0} → ((x : A) → Is x → (given (made x) ≡ x) × Are (made x)) → ((y : B) → Are y → (made (given y) ≡ y) × Is (given y)) → Spelled text Is at → Spelled (λ y. text (given y)) Are (λ bytes. at bytes >>= λ x. Ok (made x.0, x.1))
 made_of {A} {B} {E} {text} {Is} {at} made given {Are} to from law = record {
   taken = λ bytes y fits e.
@@ -84,7 +84,7 @@ made_of {A} {B} {E} {text} {Is} {at} made given {Are} to from law = record {
   again = λ y rest are. let f = from y are in rw (law.again (given y) rest f.1, f.0) refl;
 }
 
--- ---- decoding a whole text
+-- ---- decoders that must consume all bytes
 
 module _ {A : Type 0} {text : A → List ℕ} {Is : A → Type 0} {at : List ℕ → Result (A × List ℕ) Malformed} (law : Spelled text Is at) where
   -- if no bytes are left over, the decoder consumed all of the bytes
@@ -125,7 +125,7 @@ pub either : {A E : Type 0} {text : A → List ℕ} {Is : A → Type 0} {at othe
 either true law _ = let l = law refl in record { taken = l.taken; again = l.again }
 either false _ law = let l = law refl in record { taken = l.taken; again = l.again }
 
--- ---- texts in another grouping
+-- ---- concatenations, grouped differently
 
 pub three_texts : (a b c : List ℕ) → a ++ b ++ c ≡ a ++ (b ++ (c ++ []))
 three_texts a b c = simp (append_assoc, append-nil) refl
@@ -147,7 +147,7 @@ then_always {A} {B} {C} {E} {text} {Is} {at} {seen} {others} {Are} {behind} one 
       ∙ next.again x rest are;
 }
 
--- ---- numbers, and the values they stand for
+-- ---- numbers that represent values
 
 pub wide64 : IsWide w64 (2 ^ 64)
 wide64 = record {

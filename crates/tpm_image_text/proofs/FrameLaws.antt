@@ -78,7 +78,7 @@ module _ {V E : Type 0} (format : Format V E) where
       } in
       (t.0, is, t.6)
 
-  -- ---- a text in its frame
+  -- ---- a body in its frame
 
   pub length-framed : (version : V) (body : List ℕ) → length (framed_in format version body) ≡ whole_of body
   length-framed version body =
@@ -90,7 +90,7 @@ module _ {V E : Type 0} (format : Format V E) where
   length_said : (version : V) (whole : ℕ) (rest : List ℕ) → whole < 2 ^ 32 → length_of (head_in format version whole ++ rest) ≡ whole
   length_said version whole rest small = wide32.again whole small
 
-  -- ---- a truncated text
+  -- ---- truncated bytes
 
   pub cut_short : (text : List ℕ) → length text < head_bytes + digest_bytes → within_frame format text ≡ Err format.short
   unfolding within_frame
@@ -119,7 +119,7 @@ module _ {V E : Type 0} (format : Format V E) where
         } in
         passes version text is ∙ ap (λ (l : List ℕ). Ok (version, drop head_bytes l)) before
 
-    -- ---- a text that has a body
+    -- ---- bytes that contain a body
 
     head_is : (version : V) (text : List ℕ) → AreBytes text → IsFramed version text → take head_bytes text ≡ head_in format version (length text)
     head_is version text fits is =
@@ -146,7 +146,8 @@ module _ {V E : Type 0} (format : Format V E) where
         let parts : text ≡ digested_text before = sym (take-append-drop place text) ∙ ap (λ (l : List ℕ). before ++ l) (sym is.1.digest) in
         subst (λ (s : V × List ℕ). (text ≡ framed_in format s.0 s.1) × AreBytes s.1) is.2 (parts ∙ ap digested_text front, fits_behind before (AreBytes-take place text fits) head_bytes)
 
-    -- the size of truncated bytes differs from the size in their head
+    -- if bytes begin with a head and are long enough for a digest too, but are shorter than the
+    -- size that the head states, they are refused because of their size
     other_length : (version : V) (whole : ℕ) (rest : List ℕ) → whole < 2 ^ 32 → (let text = head_in format version whole ++ rest in head_bytes + digest_bytes ≤ length text → length text < whole → within_frame format text ≡ Err format.whole)
     unfolding within_frame
     other_length version whole rest small long less =

@@ -66,7 +66,7 @@ hierarchies_spelled =
     (λ h is. record { owner = is.0; endorsement = is.1.0; platform = is.1.1.0; null = is.1.1.1.0; lockout_auth = is.1.1.1.1.0 })
     (λ h is. (is.owner, (is.endorsement, (is.platform, (is.null, (is.lockout_auth, tt))))))
 
--- ---- the length of the hierarchies' text
+-- ---- the largest size of the encoded hierarchies
 
 secrets_small : (s : Secrets) → IsSecrets s → length (secrets_text s) ≤ 64
 secrets_small s is = omega (arith, is.seed, is.proof, length-append s.seed s.proof)

@@ -43,7 +43,7 @@ image_taken text kept fits e =
 pub image_is : (text : List ℕ) (kept : NonVolatile) → AreBytes text → (image_of text ≡ Ok kept) ↔ ((version : Version) × IsNonVolatile kept × IsImage version kept text)
 image_is text kept fits = (image_taken text kept fits, λ is. ap image_of is.2.1 ∙ image_again is.0 kept is.1 is.2.0)
 
--- ---- the length of an image's text
+-- ---- the size of an image
 
 pub length-image_text : (version : Version) (kept : NonVolatile) → length (image_text version kept) ≡ head_bytes + length (image_body_text version kept) + digest_bytes
 unfolding image_text

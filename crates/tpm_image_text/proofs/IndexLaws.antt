@@ -128,7 +128,7 @@ indices_spelled version =
     (λ es is. record { ascends = ascends 0 es is.0.1; few = is.0.0.0; small = leb-true _ _ is.1; each = are_each es is.0.0.1 })
     (λ es are. (((are.few, are_each-again es are.each), ascends-again es are.ascends), le-leb _ _ are.small))
 
--- ---- the length of the indices' text
+-- ---- the largest size of the encoded indices
 
 nv_public_short : (p : NvPublic) → IsNvPublic p → length (nv_public_text p) ≤ 46
 unfolding nv_public_text

@@ -1,5 +1,5 @@
--- Lemmas about reading NV indices one after another, as long as their data fit a given space. This
--- space is at most the device's space.
+-- Lemmas about reading NV indices one after another, as long as their data fit in a given space,
+-- which is at most the device's space.
 use Rattle.tpm_types.specs.Limits.{nv_index_limit, nv_space_limit}
 use Rattle.std.proofs.Common.{arith, ◌≡◌, ℕ, suc, ◌+◌, ◌-◌, ◌<◌, ◌≤◌, true, false, leb, ltb, List, [], ◌∷◌, ◌++◌, length, Result, Ok, Err, IfOk, Bool, inl, inr, refl, sym, ap, ◌∙◌}
 use Rattle.std.specs.Prelude.{◌⊎◌, ◌&&◌, map, nat_le, not}
@@ -22,8 +22,8 @@ use Rattle.tpm_image_text.proofs.EntriesLaws.{before, entries_cut, entries_done,
 abbrev pub with_space : ℕ → Entries NvIndex × List ℕ → Result (Entries NvIndex × List ℕ) Malformed
 with_space limit o = refused_if (not (have_space limit o.0)) malformed >>= λ passed. Ok o
 
--- if a device has fewer indices than its limit, an index that does not fit has more data than the
--- space that is left
+-- if a device has fewer indices than its limit, an index that does not fit needs more space for its
+-- data than is left
 pub no_space : (contents : NvContents) (size : ℕ) → length contents.indices < nv_index_limit → has_room contents size ≡ false → nv_space_limit < data_bytes contents + size
 no_space contents size few full =
     leb-false (data_bytes contents + size) nv_space_limit (rest (ltb (length contents.indices) nv_index_limit) (lt-ltb (length contents.indices) nv_index_limit few) full)

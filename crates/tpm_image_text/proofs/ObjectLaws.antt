@@ -166,7 +166,7 @@ objects_spelled =
     (λ es is. record { ascends = ascends 0 es is.1; few = is.0.0; each = are_each IsPersistent es is.0.1 })
     (λ es are. ((are.few, are_each-again IsPersistent es are.each), ascends-again es are.ascends))
 
--- ---- the length of the objects' text
+-- ---- the largest size of the encoded objects
 
 public_small : (p : Public) → IsPublic p → length (public_text p) ≤ 82
 unfolding public_text

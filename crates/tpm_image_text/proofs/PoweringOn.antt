@@ -1,4 +1,4 @@
--- Reading a body into a new `Keep` results in the record that the body encodes.
+-- Reading a body into a new `Keep` yields the record that the body encodes.
 use Rattle.std.proofs.Common.{◌≡◌, ℕ, List, Ok, refl}
 use Rattle.std.specs.Prelude.{replicate}
 use Rattle.tpm_containers.specs.SortedMap.{Entries}
@@ -14,7 +14,7 @@ use Rattle.tpm_image_text.specs.declared.version.Version.{Version}
 pub powered : (r : Record) (old new : Fixed) (state : KeptState) (persistent : Entries Object) (nv : NvContents) → r ≡ manufactured (replicate 256 0) → old ≡ r.fixed → new ≡ with_state old state → nv.max_count ≡ state.max_count → record r { fixed = new; persistent = persistent; nv = nv } ≡ powered_on (record { state = state; persistent = persistent; indices = nv.indices })
 powered r old new state persistent nv made is restored count = rw (restored, is, made, ← count) refl
 
--- decoding the parts of the non-volatile state one after another results in the whole state
+-- decoding the parts of the non-volatile state one after another yields the whole state
 pub kept_read : (version : Version) (text behind_limits behind_state behind_objects behind_indices : List ℕ) (state : KeptState) (persistent : Entries Object) (indices : Entries NvIndex) → limits_in version text ≡ Ok (tt, behind_limits) → state_in behind_limits ≡ Ok (state, behind_state) → objects_in behind_state ≡ Ok (persistent, behind_objects) → indices_in version behind_objects ≡ Ok (indices, behind_indices) → kept_in version text ≡ Ok (record { state = state; persistent = persistent; indices = indices }, behind_indices)
 unfolding kept_in
 kept_read version text behind_limits behind_state behind_objects behind_indices state persistent indices front first second third = rw (front, first, second, third) refl

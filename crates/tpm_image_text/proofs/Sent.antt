@@ -1,4 +1,5 @@
--- If bytes are written in two parts, and either part is cut off, a prefix of the bytes is appended.
+-- If bytes are written in two parts, and the write of either part is cut off, a prefix of the bytes
+-- is appended.
 use Rattle.std.proofs.Common.{ℕ, List, ◌++◌, Option, Some, None, ap, ◌∙◌, append_assoc, sym}
 use Rattle.std.specs.Io.KnownBytes.{Appends}
 use Rattle.tpm_bytes.specs.Tap.{AppendsFront}

@@ -202,7 +202,7 @@ state_spelled =
     (state, numbers.1.1.1.0))
     (λ s has. let is = has.0 in (is.hierarchies, (tt, (is.lockout, (is.clock, (is.reset_count, (is.restart_count, (has.1, (is.saved, tt)))))))))
 
--- ---- the length of the text
+-- ---- the largest size of the encoded fixed part
 
 length-values : (size : ℕ) (values : List (List ℕ)) → AllByRecursion (λ value. length value ≡ size) values → length (values_text_of values) ≡ length values * size
 length-values size [] each = omega arith

@@ -1,7 +1,7 @@
 -- The body of an image: the state that a device keeps without power, part by part. The layout is
--- specific to this device; objects and indices are encoded as the standard's structures (TPM 2.0
--- Library, Part 2, sections 12.2.4, TPMT_PUBLIC, 12.3.2.4, TPMT_SENSITIVE, and 13.6,
--- TPM2B_NV_PUBLIC).
+-- specific to this device; objects and indices are encoded as the standard's structures. TPM 2.0
+-- Library, Part 2, sections 12.2.4 (TPMT_PUBLIC), 12.3.2.4 (TPMT_SENSITIVE) and 13.6
+-- (TPM2B_NV_PUBLIC).
 use Rattle.tpm_types.specs.Limits.{nv_data_limit, persistent_limit}
 use Rattle.std.specs.Prelude.{ℕ, ◌+◌, ◌==◌, ◌&&◌, nat_le, not, Bool, true, if◌then◌else◌}
 use Rattle.std.specs.Prelude.{List, [], ◌∷◌, ◌++◌, length, ok_or, Result, Ok, Err}

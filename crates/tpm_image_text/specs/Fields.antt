@@ -39,7 +39,7 @@ filling at text = do
   ended ← refused_if (not (length x.1 == 0)) malformed
   Ok x.0
 
--- ---- numbers, yes or no, and bytes of a field
+-- ---- numbers, yes-or-no values, and bytes of a field
 
 abbrev pub number_in : Width → List ℕ → Result (ℕ × List ℕ) Malformed
 number_in width text = in_body (number_at width) text

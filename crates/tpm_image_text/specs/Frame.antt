@@ -1,4 +1,4 @@
--- The frame of an image, and of a state text: a head before the body, and a digest after both. The
+-- The frame of an image or of a state text: a head before the body, and a digest after both. The
 -- formats are specific to this device.
 use Rattle.std.specs.Prelude.{ℕ, ◌+◌, ◌-◌, ◌==◌, nat_lt, not, List, [], ◌∷◌, ◌++◌, length, take, drop}
 use Rattle.std.specs.Prelude.{ok_or, Option, Result, Ok}
@@ -49,7 +49,7 @@ abbrev pub framed_in : {V E : Type 0} → Format V E → V → List ℕ → List
 framed_in format version body =
     digested_text (head_in format version (head_bytes + length body + digest_bytes) ++ body)
 
--- ---- the parts of a framed text, by their offsets
+-- ---- the parts of framed bytes, by their offsets
 
 -- the version's number in the head of a frame
 abbrev pub number_of : List ℕ → ℕ

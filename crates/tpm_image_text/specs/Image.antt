@@ -1,6 +1,6 @@
 -- The image of a device: the state that it keeps without power, in a frame. TPM 2.0 Library, Part
--- 1, section 37, defines the contents of NV memory; the encoding is specific to this device. It has
--- two versions: the device writes version 2 and reads both.
+-- 1, section 37, defines the contents of NV memory; the encoding is specific to this device. The
+-- encoding has two versions: the device writes version 2 and reads both.
 use Rattle.std.specs.Prelude.{◌≡◌, ℕ, ◌≤◌, List, length, Result}
 use Rattle.tpm_bytes.specs.Reading.{◌>>=◌, or_fault}
 use Rattle.tpm_image_text.specs.Body.{body_of, bytes_of, image_body_text}

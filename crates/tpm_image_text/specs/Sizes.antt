@@ -2,7 +2,7 @@
 use Rattle.std.specs.Prelude.{ℕ, ◌+◌, ◌*◌}
 use Rattle.tpm_types.specs.Limits.{nv_index_limit, nv_space_limit, persistent_limit}
 
--- the largest encoded size of the limits: their size in version 2
+-- the largest size of the encoded limits, which is their size in version 2
 abbrev pub limits_size : ℕ
 limits_size = 6
 
@@ -43,7 +43,7 @@ body_size = limits_size + (state_size + (objects_size + indices_size))
 abbrev pub image_size : ℕ
 image_size = 10 + (body_size + 32)
 
--- the largest size of the part of a state text that is not in the body of an image
+-- the largest size of what a state text contains in addition to the body of an image
 abbrev pub more_size : ℕ
 more_size = 8569
 

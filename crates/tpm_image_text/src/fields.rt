@@ -29,7 +29,7 @@ const OBJECTS_SIZE: usize = 2 + PERSISTENT_LIMIT * 330;
 /// The largest size of the NV indices, in bytes.
 const INDICES_SIZE: usize = 2 + NV_INDEX_LIMIT * 84 + NV_SPACE_LIMIT;
 
-/// The largest size of the part of a state text that is not in the body of an image.
+/// The largest size of what a state text contains in addition to the body of an image.
 const MORE_SIZE: usize = 8_569;
 
 /// The largest size of the body of an image or a state text, including the digest after it.

@@ -114,8 +114,8 @@ fn add_index<N: Indices>(indices: &mut N, lowest: u64, text: &mut Cursor) -> Res
     }
 }
 
-/// Reads `count` indices. Each must have a higher handle than the index before it, and together
-/// their data must be within the limit of the version.
+/// Reads `count` indices. Each must have a higher handle than the index before it, and the total
+/// size of their data must be within the version's limit.
 fn add_indices<N: Indices>(
     version: Version,
     indices: &mut N,
@@ -141,8 +141,8 @@ fn add_indices<N: Indices>(
     Ok(())
 }
 
-/// Reads the NV indices, within the limits of a version, into a device that has none. Does not
-/// change the largest value that an NV counter ever had.
+/// Reads the NV indices, within the limits of a version, into a device that has no NV indices yet.
+/// Does not change the largest value that an NV counter ever had.
 #[tactic(auto, unfolding(crate::specs::Body::indices_in))]
 pub fn read_indices<N: Indices>(
     version: Version,

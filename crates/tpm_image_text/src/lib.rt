@@ -5,7 +5,7 @@
 //! There are two [versions](Version) of the image: the device writes the second ([`saving`]) and
 //! reads both ([`opening`]). For each part of the non-volatile state, one file reads and writes its
 //! encoding; `specs/Body` and `specs/Image` define the encodings. The crate uses the types that
-//! make up a device's state; tpm_image uses the crate to save and open a device.
+//! make up a device's state; tpm_image uses this crate to save and open a device.
 //!
 //! Opening an image results in the saved state after a power cycle. All bytes that can be opened
 //! are the image of a device, and every such image opens. No proper prefix of an image is an image

@@ -179,7 +179,7 @@ fn add_objects<P: PersistentObjects>(
     Ok(())
 }
 
-/// Reads the persistent objects into a device that has none.
+/// Reads the persistent objects into a device that has no persistent objects yet.
 #[tactic(auto, unfolding(crate::specs::Body::objects_in))]
 pub fn read_objects<P: PersistentObjects>(
     objects: &mut P,

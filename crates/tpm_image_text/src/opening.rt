@@ -1,4 +1,4 @@
-//! Decodes the state of a device, and finds the fault of bytes that do not encode a state.
+//! Decodes the state of a device, or finds out why bytes do not encode a state.
 
 ghost use Rattle.std.specs.Prelude.{◌≡◌, ◌||◌, Err, is_ok, true};
 ghost use Rattle.tpm_image_text.specs.Body.{body_of};
@@ -28,7 +28,7 @@ pub fn fill<K: Keep>(alloc: Global, version: Version, body: &[u8]) -> Result<K, 
 }
 
 /// Whether a body of the given version encodes a state. The call decodes the body into a
-/// `SlotKeep`, whose memory never runs out.
+/// `SlotKeep`, which never runs out of memory.
 pub fn is_body(alloc: Global, version: Version, body: &[u8]) -> bool
     ensures { result ≡ is_ok (body_of version body.now) }
 {

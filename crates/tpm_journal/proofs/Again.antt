@@ -30,7 +30,7 @@ use Rattle.tpm_journal.specs.declared.opening.OpenFault.TheVariants as fault
 use Rattle.tpm_journal.specs.declared.opening.Opened.{Opened}
 use Rattle.tpm_journal.proofs.Repeating.{journal_sum}
 
--- ---- the entries of a live device
+-- ---- the entries of a running device
 
 pub lives_again : IgnoresUndrawn → (layer : Completion) (old : Record) (entries : List PlainEntry) (after : Completion) (new : Record)
     → Lives layer old entries after new → Answers layer old entries after new
@@ -67,15 +67,15 @@ sum_parts : (sum : ℕ) (front back : List PlainEntry) → sum_after_all sum (fr
 sum_parts sum [] back = refl
 sum_parts sum (e ∷ front) back = sum_parts (sum_after sum e) front back
 
--- ---- executed again
+-- ---- executing entries again
 
 -- if no allocation fails, executing an entry again has only one possible effect
 seen_once : (layer : Completion) (old : Record) (e : PlainEntry) (a b : Seen) → IsPerformed false layer old e a → IsPerformed false layer old e b → a ≡ b
 seen_once layer old e a b is also =
     exactly false e.completes layer old (event_of e) a is refl ∙ sym (exactly false e.completes layer old (event_of e) b also refl)
 
--- if one execution of the entries gives the recorded answers, every execution does, with the same
--- journal and record
+-- if one execution of the entries gives the recorded answers, so does every other execution, and
+-- all of them lead to the same journal and record
 same_run : (before : Journal) (old : Record) (performances : List Performance) (after : Journal) (new : Record) (layer : Completion) (mid : Record)
     → LeadsBy false before old performances after new → Answers before.layer old (map entry_in performances) layer mid
     → (after ≡ journal_after_all before (map entry_in performances) layer) × (new ≡ mid) × (map response_sum performances ≡ map answer_said performances)
@@ -91,8 +91,8 @@ same_run before old (one ∷ performances) after new layer mid leads answers =
           ∙ ap (λ (l : List ℕ). one.entry.answered ∷ l) next.2,
     )
 
--- if the device gives the recorded answers, entries with a torn end are executed without a fault,
--- up to the last complete entry
+-- if the device gives the recorded answers, all complete entries are executed without a fault, even
+-- if a torn entry follows them
 ended : (fault : Option FollowFault) (sum : ℕ) (sums said : List ℕ) (more : List PlainEntry) (rest left : List ℕ)
     → AnswersAre fault sums said → sums ≡ said → EndsIn fault sum left → left ≡ entries_text sum more ++ rest
     → AllByRecursion IsEntry more → IsTorn (sum_after_all sum more) rest → (fault ≡ None) × (more ≡ [])
@@ -136,9 +136,9 @@ followed_again before old layer final new entries rest text followed after repla
           ∙ ap (λ (c : Completion). journal_after_all before entries c) (sym last.0);
     }
 
--- ---- opened again
+-- ---- opening a journal again
 
--- the input does not begin with two different heads
+-- two heads with which the same input begins are equal
 one_head : (text : List ℕ) (kind other : HeadKind) (clock time : ℕ) (content bytes rest behind : List ℕ) → BeginsWith text kind clock content rest
     → BeginsWith text other time bytes behind → (kind ≡ other) × (clock ≡ time) × (content ≡ bytes)
 one_head text kind other clock time content bytes rest behind begins others =
@@ -153,7 +153,8 @@ module _ (kind : HeadKind) (clock : ℕ) (content : List ℕ) (start : Start) (e
     (begins : BeginsWith text kind clock content (entries_text start.journal.sum entries ++ rest))
     (are : AllByRecursion IsEntry entries) (cut : IsTorn (sum_after_all start.journal.sum entries) rest)
     (answers : Answers start.journal.layer start.device entries layer final) where
-  -- any function has the same value for two heads at the beginning of the same input
+  -- if the same input also begins with another head, every function of a head has the same value
+  -- for both heads
   same_of : {X : Type 0} (f : HeadKind → ℕ → List ℕ → X) (other : HeadKind) (time : ℕ) (bytes behind : List ℕ) → BeginsWith text other time bytes behind
       → f kind clock content ≡ f other time bytes
   same_of f other time bytes behind others =

@@ -1,4 +1,4 @@
--- Executing entries again extends the history that a device follows by these executions.
+-- If entries are executed again, these executions are added to the history that the device follows.
 use Rattle.std.proofs.Common.{ℕ, Bool, List, [], ◌∷◌, Option}
 use Rattle.tpm_record.specs.Record.{Record}
 use Rattle.tpm_machine.specs.Executions.{Leads}
@@ -13,7 +13,7 @@ use Rattle.tpm_journal.specs.State.{journal_after}
 use Rattle.tpm_journal.specs.declared.following.FollowFault.{FollowFault}
 use Rattle.tpm_journal.specs.declared.journal.Journal.{Journal}
 
--- the device's executions of entries lead to its record after the entries
+-- executing the entries leads from the record before them to the record after them
 run_leads_all : (can : Bool) (before : Journal) (old : Record) (performances : List Performance) (after : Journal) (new : Record)
     (leads : LeadsBy can before old performances after new) → Leads can old (run_of_all can before old performances after new leads) new
 run_leads_all can before old [] after new leads = leads.1

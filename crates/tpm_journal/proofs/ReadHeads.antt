@@ -80,7 +80,7 @@ not_opened text (fault.Follow why) new not = absurd not
 
 -- ---- the rest
 
--- the input consists of the head that starts its journal, and the rest
+-- the input consists of the head, which starts its journal, and the rest after the head
 pub split_head : (text : List ℕ) (start : Start) (rest : List ℕ) (size : ℕ) (starts : Starts text start rest) → size ≡ length (starting_head starts)
     → (take size text ≡ starting_head starts) × (drop size text ≡ rest)
 split_head text start rest size starts is = (

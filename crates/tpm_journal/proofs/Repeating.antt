@@ -39,7 +39,7 @@ take_further n m text within =
     ∙ ap (λ (l : List ℕ). l ++ drop n (take (n + m) text)) front
     ∙ ap (λ (l : List ℕ). take n text ++ l) (drop-take n m text)
 
--- an entry that was executed from one input is also executed from any equal input
+-- if two inputs are equal, executing an entry from one is the same as executing it from the other
 pub performs_at : (can : Bool) (before : Journal) (old : Record) (left text : List ℕ) (size : ℕ) (one : Performance) (after : Journal)
     (Holds : ℕ → ℕ → Type 0) → left ≡ text → Performs can before old left size one after Holds → Performs can before old text size one after Holds
 performs_at can before old left text size one after Holds is p = rw (← is) p
@@ -51,7 +51,7 @@ journal_sum can before old [] after new leads = ap (λ (j : Journal). j.sum) lea
 journal_sum can before old (one ∷ performances) after new leads =
     journal_sum can (journal_after before one.entry one.seen.layer) one.seen.step.after performances after new leads.1
 
--- executing one more entry after a list of entries executes the longer list
+-- executing a list of entries, and then one more entry, is an execution of the longer list
 pub leads_more : (can : Bool) (before : Journal) (old : Record) (performances : List Performance) (mid : Journal) (here : Record)
     (one : Performance) (after : Journal) (new : Record) → LeadsBy can before old performances mid here
     → IsPerformed can mid.layer here one.entry one.seen → after ≡ journal_after mid one.entry one.seen.layer → new ≡ one.seen.step.after
@@ -67,7 +67,7 @@ leads_more can before old (first ∷ performances) mid here one after new leads 
       journal leaves,
 )
 
--- ---- the executions so far, and one more entry
+-- ---- executing one more entry
 
 module _ (can : Bool) (before : Journal) (old : Record) (text : List ℕ) (taken : ℕ) (mid : Journal) (here : Record)
     (size : ℕ) (one : Performance) (after : Journal) (Holds : ℕ → ℕ → Type 0)

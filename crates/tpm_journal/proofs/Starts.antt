@@ -1,4 +1,4 @@
--- Which journal each kind of head starts.
+-- For each kind of head, the journal that starts with it.
 use Rattle.std.proofs.Common.{◌≡◌, ℕ, List, ◌++◌, Result, Ok, ap, ◌∙◌}
 use Rattle.std.specs.List.{AllByRecursion}
 use Rattle.tpm_completion.specs.declared.completion.Completion.{Completion}

@@ -29,8 +29,8 @@ pub record IsJournal (text : List ℕ) (opened : Opened) (new : Record) : Type 0
   pub whole : followed.fault ≡ None
   pub size : opened.taken ≡ length (starting_head reads.starts) + followed.taken
 
--- On success, the bytes are a journal. On error, they do not start a journal because of this fault,
--- or their entries were executed up to this fault.
+-- On success, the bytes are a journal. On error, this fault is the reason why they do not start a
+-- journal, or their entries were executed up to this fault.
 abbrev pub OpensJournal : List ℕ → Result Opened OpenFault → Record → Type 0
 OpensJournal text (Ok opened) new = IsJournal text opened new
 OpensJournal text (Err fault.NoJournal) new = StartsNot text fault.NoJournal

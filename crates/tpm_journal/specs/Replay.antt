@@ -34,9 +34,9 @@ response_sum one = sum_of one.seen.step.response
 abbrev pub answer_said : Performance → ℕ
 answer_said one = one.entry.answered
 
--- Executing these entries again, one after another and each with the layer if the entry says so,
--- changes the journal and the record from the first pair to the second. `can` says whether an
--- allocation can fail.
+-- Executing these entries again, one after another, changes the journal from `before` to `after`,
+-- and the record from `old` to `new`. Each entry is executed with the layer if the entry says so.
+-- `can` says whether an allocation can fail.
 abbrev pub LeadsBy : (can : Bool) → Journal → Record → List Performance → Journal → Record → Type 0
 LeadsBy can before old [] after new = (after ≡ before) × (new ≡ old)
 LeadsBy can before old (one ∷ performances) after new =
@@ -44,7 +44,7 @@ LeadsBy can before old (one ∷ performances) after new =
     × LeadsBy can (journal_after before one.entry one.seen.layer) one.seen.step.after performances
     after new
 
--- all executions of the device for these entries
+-- all executions by the device that result from these entries
 abbrev pub run_of_all : (can : Bool) (before : Journal) (old : Record)
     (performances : List Performance) (after : Journal) (new : Record)
     → LeadsBy can before old performances after new → List Execution
@@ -72,7 +72,7 @@ EndsIn (Some Otherwise) sum left = Unit {0}
 
 -- A device, with its layer, executed exactly the entries at the beginning of the input, one after
 -- another. This changed the journal from `before` to `after`, and the record from `old` to `new`.
--- The checksums of the responses are as `AnswersAre` says.
+-- The checksums of the responses satisfy `AnswersAre`.
 pub record Repeats (can : Bool) (before : Journal) (old : Record) (text : List ℕ) (taken : ℕ)
     (fault : Option FollowFault) (after : Journal) (new : Record) : Type 0
   where
@@ -118,7 +118,7 @@ Does can before old text deed.Torn after seen =
 Does can before old text deed.Damaged after seen =
     IsDamaged before.sum text × (after ≡ before) × (seen.step.after ≡ old)
 
--- ---- texts followed to their end
+-- ---- input that is executed to its end
 
 -- The input ended without a fault, and all of these entries were executed. The resulting layer and
 -- record are `layer` and `final`.

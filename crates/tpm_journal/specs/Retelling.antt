@@ -63,8 +63,8 @@ abbrev pub retold_head : Telling → (head : List ℕ) → List ℕ
 retold_head Script head = head
 retold_head Answers head = []
 
--- Exactly the entries at the beginning of the input were executed again, one after another, and the
--- script lines or the answer of each were written.
+-- Exactly the entries at the beginning of the input were executed again, one after another. For
+-- each entry, the output was written: its script lines or its answer.
 pub record Retells (form : Telling) (can : Bool) (before : Journal) (old : Record) (text : List ℕ)
     (held : Option (List ℕ)) (holds : Option (List ℕ)) (taken : ℕ) (fault : Option FollowFault)
     (after : Journal) (new : Record) : Type 0
@@ -72,8 +72,8 @@ pub record Retells (form : Telling) (can : Bool) (before : Journal) (old : Recor
     pub repeats : Repeats can before old text taken fault after new
     pub told : Appends held holds (flat_map (retold form) repeats.performances)
 
--- The entries in the input were executed again, with this result, and the script lines or the
--- answer of each were written.
+-- The entries in the input were executed again, with this result. For each entry, the output was
+-- written: its script lines or its answer.
 pub record RetellsEntries (form : Telling) (can : Bool) (before : Journal) (old : Record) (text : List ℕ)
     (held : Option (List ℕ)) (holds : Option (List ℕ)) (followed : Followed) (after : Journal)
     (new : Record) : Type 0

@@ -52,7 +52,7 @@ pub record BeginsWith (text : List ℕ) (kind : HeadKind) (clock : ℕ) (content
     pub has : HasHead kind clock content
     pub is : text ≡ head_text kind clock content ++ rest
 
--- The input consists of a head that starts this journal, and the rest.
+-- The input consists of a head that starts this journal, followed by the rest.
 pub record Starts (text : List ℕ) (start : Start) (rest : List ℕ) : Type 0 where
   pub kind : HeadKind
   pub clock : ℕ

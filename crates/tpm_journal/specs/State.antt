@@ -18,8 +18,8 @@ journal_of sum clock = record { sum = sum; time = clock; layer = new_completion 
 abbrev pub journal_begun : (clock : ℕ) → (image : List ℕ) → Journal
 journal_begun clock image = journal_of (head_sum clock image) clock
 
--- the layer in the state of a device, or a new layer if it has none; the start number of a new
--- layer is the checksum of the head
+-- the layer in the state of a device, or a new layer if the state contains none; the start number
+-- of a new layer is the checksum of the head
 abbrev pub layer_in : (sum : ℕ) → Option Layer → Completion
 layer_in sum None = new_completion sum
 layer_in sum (Some layer) = completion_of (Some layer)

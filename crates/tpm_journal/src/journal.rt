@@ -39,7 +39,7 @@ use tpm_types::Locality;
 /// The state of a journal, apart from its device.
 #[derive(Clone, Copy, PartialEq, Eq)]
 pub struct Journal {
-    /// The checksum of the marks of the head and all entries.
+    /// The checksum of the marks of the head and of all entries.
     pub sum: u64,
     /// The time of the journal in milliseconds: the clock in its head, plus the elapsed times of
     /// its commands.
@@ -145,9 +145,10 @@ impl Journal {
         now_ms.saturating_sub(self.time).min(u64::from(u32::MAX)) as u32
     }
 
-    /// Executes a command at this time of the host's clock, with or without the completing layer,
-    /// and writes its entry to the beginning of a buffer. Returns the size of the entry. A command
-    /// of more than 4,097 bytes is truncated to 4,097, and is still refused in the same way.
+    /// Executes a command, with or without the completing layer, and writes its entry to the
+    /// beginning of a buffer. `now_ms` is the time of the host's clock. Returns the size of the
+    /// entry. A command of more than 4,097 bytes is truncated to 4,097, and is still refused in the
+    /// same way.
     pub fn execute<K: Keep>(
         &mut self,
         machine: &mut Machine<K>,
@@ -197,8 +198,8 @@ impl Journal {
     }
 }
 
-/// The layer in the state of a device, or a new layer if it has none. The start number of a new
-/// layer is the checksum of the head.
+/// The layer in the state of a device, or a new layer if the state contains none. The start number
+/// of a new layer is the checksum of the head.
 fn layer_in(sum: u64, layer: Option<&Layer>) -> Completion
     ensures { result ≡ layer_in sum (option_copied layer.entry) }
 {

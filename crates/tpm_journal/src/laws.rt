@@ -40,8 +40,8 @@ pub fn living_laws()
         (new : Record) → Lives layer old entries after new → Answers layer old entries after new }
 {}
 
-/// If the input consists of entries and perhaps an incomplete entry after a crash, and the device
-/// and its layer give the recorded answers, exactly the complete entries are executed again.
+/// Suppose that the input consists of entries and perhaps an incomplete entry after a crash. If the
+/// device and its layer give the recorded answers, exactly the complete entries are executed again.
 #[inline(always)]
 pub fn following_laws()
     ensures { (before : Journal) (old : Record) (layer : Completion) (final new : Record)
@@ -111,9 +111,9 @@ pub fn checkpoint_laws()
         (checkpointed j clock r) entries layer final result new }
 {}
 
-/// Executing entries again extends the history that a device follows by everything that the device
-/// accepts while executing them. The law also states other properties of these executions, such as
-/// the limits on failed tries.
+/// If a device executes entries again, everything that it accepts from them is added to the history
+/// that it follows. The law also states other properties of these executions, such as the limits on
+/// failed tries.
 #[inline(always)]
 pub fn repeating_laws()
     ensures { (can : Bool) (before : Journal) (old : Record) (text : List ℕ) (taken : ℕ)

@@ -1,8 +1,8 @@
 #![tactic(auto)]
 
-//! The journal of a device: a head with the device's image when power came on, or with its state
-//! text, and an entry for each command answered since. Executing the entries again opens the
-//! device.
+//! The journal of a device: a head, and an entry for each command answered since. The head contains
+//! the device's image from when power came on, or the device's state text. Executing the entries
+//! again opens the device.
 //!
 //! [`Journal`] is the state of a journal apart from the device: the checksum of its marks, its
 //! time, and the completing layer, which restarts at each head that does not contain its state. A

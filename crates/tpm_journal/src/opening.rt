@@ -49,7 +49,7 @@ pub struct Opened {
     pub taken: usize,
 }
 
-/// Opens the device from the image in a head, in a new machine.
+/// Opens the device from a head's image in a new machine.
 fn open_image<K: Keep>(machine: &mut Machine<K>, head: &Head) -> Result<Journal, OpenFault>
     requires new { state_of K.record_of machine.old ≡ manufactured (replicate 256 0) }
     requires never_refused { K.can_refuse ≡ false }
@@ -63,8 +63,8 @@ fn open_image<K: Keep>(machine: &mut Machine<K>, head: &Head) -> Result<Journal,
     }
 }
 
-/// Restores the device from the state text in a head, in a new machine. A state text of version 1
-/// is refused, because an earlier completing layer answered the entries after it.
+/// Restores the device from a head's state text in a new machine. A state text of version 1 is
+/// refused, because an earlier completing layer answered the entries after it.
 fn open_state<K: Keep>(machine: &mut Machine<K>, head: &Head) -> Result<Journal, OpenFault>
     requires new { state_of K.record_of machine.old ≡ manufactured (replicate 256 0) }
     requires never_refused { K.can_refuse ≡ false }
@@ -78,8 +78,8 @@ fn open_state<K: Keep>(machine: &mut Machine<K>, head: &Head) -> Result<Journal,
     }
 }
 
-/// Opens the device from a head, in a new machine. Returns the journal of the head. On error, the
-/// machine's state is unspecified.
+/// Opens the device from a head in a new machine. Returns the journal that the head starts. On
+/// error, the machine's state is unspecified.
 fn open_head<K: Keep>(machine: &mut Machine<K>, head: &Head) -> Result<Journal, OpenFault>
     requires new { state_of K.record_of machine.old ≡ manufactured (replicate 256 0) }
     requires never_refused { K.can_refuse ≡ false }

@@ -1,7 +1,7 @@
 //! Converts the journal of a device to a script, or to the answers that the device gave. The script
-//! consists of the journal's head and, for each entry, a comment that traces the answer and the
-//! lines that execute the command. The answers consist of the same trace and the response for each
-//! entry.
+//! consists of the journal's head and, for each entry, a comment with the trace of the answer,
+//! followed by the lines that execute the command. The answers consist of the same trace and the
+//! response for each entry.
 //!
 //! [`retell`] executes the entries of a journal again, as opening a journal does, and converts
 //! exactly the executed entries, one by one. It does no input or output except through the writer
@@ -84,7 +84,7 @@ pub fn retell<K: Keep, W: Write>(
     }
 }
 
-/// Executes the entries in input that continues a journal, and converts each.
+/// Executes the entries in input that continues a journal, and converts each entry.
 fn retell_entries<K: Keep, W: Write>(
     form: Telling,
     journal: &mut Journal,

@@ -1,4 +1,4 @@
--- The lines of a journal mean what its entries say.
+-- As lines of a script, the lines of a journal mean what the journal's entries record.
 use Rattle.std.proofs.Common.{◌≡◌, ℕ, zero, suc, ◌+◌, ◌<◌, ◌≤◌, ◌==◌, false, List, [], ◌∷◌, ◌++◌, Some, None, refl, ap, ◌∙◌, append_assoc, cond, length, length-append, arith}
 use Rattle.std.specs.Prelude.{codes, map, nat_lt}
 use Rattle.std.specs.Int.{w64, to_be_bytes}
@@ -20,7 +20,7 @@ use Rattle.tpm_journal_laws.specs.Meanings.{EntryMeansIt, HeadMeansNothing, Jour
 use Rattle.tpm_journal_laws.proofs.Breaks.{Unbroken, hex_unbroken, line_first, unbroken_joined}
 use Rattle.tpm_journal_laws.proofs.Numbers.{ten_digits_read}
 
--- ---- the lines of entries and heads, without their ends
+-- ---- the lines of entries and heads, without their line feeds
 
 unfoldable pub mark_front : (word bytes : List ℕ) (sum : ℕ) → List ℕ
 mark_front word bytes sum = word ++ (encode_lower bytes ++ (32 ∷ encode_lower (to_be_bytes w64 sum)))
@@ -37,7 +37,7 @@ entropy_line e = codes "entropy " ++ encode_lower (shown e.drawn)
 unfoldable pub cmd_line : PlainEntry → List ℕ
 cmd_line e = codes "cmd " ++ encode_lower e.buffer
 
--- ---- no byte of these lines is the end of a line
+-- ---- these lines contain no line feed
 
 no_feed : (d : ℕ) → (48 + d == 10) ≡ false
 no_feed d = grind (arith, nat_tests)

@@ -10,8 +10,8 @@ abbrev pub IsRecordedWhole : Type 0
 IsRecordedWhole = (buffer : List ℕ) (locality elapsed : ℕ) (completes : Bool) (random : List ℕ)
     → length buffer ≤ 4096 → (command_at buffer locality elapsed completes random).buffer ≡ buffer
 
--- If a buffer of more than 4,096 bytes is truncated for the journal, the recorded part has the same
--- step as the whole buffer, whether or not an allocation fails.
+-- For a buffer of more than 4,096 bytes, executing the part that the journal records takes the same
+-- step as executing the whole buffer, whether or not an allocation fails.
 abbrev pub LongerAreRefusedAlike : Type 0
 LongerAreRefusedAlike = (refused : Bool) (r : Record) (buffer : List ℕ) (locality elapsed : ℕ)
     (completes : Bool) (random : List ℕ) → 4096 < length buffer

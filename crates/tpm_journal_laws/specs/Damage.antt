@@ -6,7 +6,8 @@ use Rattle.tpm_journal.specs.declared.journal.Journal.{Journal}
 use Rattle.tpm_journal.specs.declared.following.FollowFault.TheVariants.{Damaged}
 
 -- If a damaged journal is truncated at the damage, it can be executed to its end. The resulting
--- device is the device of the damaged journal, and all answers match their entries.
+-- device is the same as after the execution of the damaged journal up to the damage, and all
+-- answers match their entries.
 abbrev pub FrontIsFollowed : Type 0
 FrontIsFollowed =
     (can : Bool) (before : Journal) (old : Record) (text : List ℕ) (taken : ℕ) (after : Journal)

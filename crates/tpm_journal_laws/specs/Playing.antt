@@ -33,7 +33,7 @@ JournalPlays = (kind : HeadKind) (clock : ℕ) (content : List ℕ) (entries : L
     (lines_of (head_text kind clock content ++ entries_text (head_sum clock content) entries))
     ≡ record { text = printed_answers r entries; bad = None }
 
--- If an entry contains the random bytes that its command drew out of 256, its lines execute the
+-- If an entry contains the bytes that its command drew from 256 random bytes, its lines execute the
 -- command as it was originally executed.
 abbrev pub PlaysAsExecuted : Type 0
 PlaysAsExecuted = (r : Record) (e : PlainEntry) (random : List ℕ) → length random ≡ 256

@@ -13,10 +13,10 @@ ghost use Rattle.tpm_journal_laws.specs.Meanings.{JournalMeansIt};
 ghost use Rattle.tpm_journal_laws.specs.Playing.{JournalPlays, PlaysAsExecuted};
 ghost use Rattle.tpm_journal_laws.specs.Times.{BeginsAtClock, GoesWithClock, TellsNoTimeTwice};
 
-/// The line of an entry's mark has no effect. The lines after it wait for the entry's milliseconds,
-/// set its locality and the random bytes that its command drew, and execute its buffer. The lines
-/// of a head have no effect. Therefore, a whole journal means what its entries say, one after
-/// another.
+/// The line for an entry's mark has no effect. The lines after it wait for the entry's
+/// milliseconds, set its locality and the random bytes that its command drew, and execute its
+/// buffer. The lines of a head have no effect. Therefore, the lines of a whole journal have the
+/// meanings of its entries, one after another.
 #[inline(always)]
 #[tactic(auto, using(crate::proofs::Meanings::entry_means_it, crate::proofs::Meanings::head_means_nothing, crate::proofs::Meanings::journal_means_it))]
 pub fn meaning_laws()
@@ -37,8 +37,8 @@ pub fn playing_laws()
 
 /// The time of a new journal is the clock in its head. After a command, it equals the host's clock
 /// at the arrival of that command, unless the clock went back or at least 2^32 milliseconds passed.
-/// No millisecond counts twice: over all commands together, at most the milliseconds from the
-/// journal's time to the latest clock elapse, even if the clock goes back.
+/// No millisecond counts twice: over all commands together, no more milliseconds elapse than lie
+/// between the journal's time and the latest clock, even if the clock goes back.
 #[inline(always)]
 #[tactic(auto, using(crate::proofs::Times::begins_at_clock, crate::proofs::Times::goes_with_clock, crate::proofs::Times::tells_no_time_twice))]
 pub fn time_laws()
@@ -57,7 +57,8 @@ pub fn buffer_laws()
 {}
 
 /// If a damaged journal is truncated at the damage, it can be executed to its end. The resulting
-/// device is the device of the damaged journal, and all answers match their entries.
+/// device is the same as after the execution of the damaged journal up to the damage, and all
+/// answers match their entries.
 #[inline(always)]
 #[tactic(auto, using(crate::proofs::Damage::front_is_followed))]
 pub fn damage_laws()

@@ -14,8 +14,8 @@ use Rattle.tpm_journal_text.proofs.LineFeeds.{lines_end_zeros}
 use Rattle.tpm_journal_text.proofs.Pieces.{line_same}
 use Rattle.tpm_journal_text.proofs.Standing.{entry_text_many, line_stands, mark_bytes, mark_line_many, mark_many, stands}
 
--- If the part of a torn input before the zeros begins with a mark's line, the whole input begins
--- with this line.
+-- If a torn input without the zeros at its end begins with the line for a mark, the whole input
+-- begins with this line.
 pub torn_line : (sum : ℕ) (text mark : List ℕ) (torn : IsTorn sum text) → BeginsWithMark sum mark torn.front → take 72 text ≡ mark_line sum mark
 torn_line sum text mark torn begins =
     let long : 72 ≤ length torn.front =
@@ -33,13 +33,13 @@ no_line sum text long none = record {
   no_entry = λ e rest is t. none (mark_of e) (mark_many e) (mark_bytes e) (line_stands sum e text rest t);
 }
 
--- If the input begins with the lines of two marks, the marks are equal.
+-- If the input begins with the line for a mark, it does not begin with the line for another mark.
 pub same_mark : (sum : ℕ) (text mark other : List ℕ) → length mark ≡ 26 → AreBytes mark → take 72 text ≡ mark_line sum mark
     → length other ≡ 26 → AreBytes other → take 72 text ≡ mark_line sum other → mark ≡ other
 same_mark sum text mark other many are line other_many other_are other_line =
     line_same entry_word mark other (sum_from sum mark) (sum_from sum other) are other_are (many ∙ sym other_many) (sym line ∙ other_line)
 
--- If the input begins with the line of a mark and is long enough for an entry with this mark, but
+-- If the input begins with the line for a mark and is long enough for an entry with this mark, but
 -- does not begin with such an entry, it is damaged.
 pub no_entry_with : (sum : ℕ) (text mark : List ℕ) → length mark ≡ 26 → AreBytes mark → take 72 text ≡ mark_line sum mark
     → (HasFewer (entry_size mark) text → ⊥)
@@ -58,7 +58,7 @@ no_entry_with sum text mark many are line long none = record {
       none e rest (stands sum e mark text rest is same t) t;
 }
 
--- ---- a torn text is not an entry
+-- ---- torn input does not begin with an entry
 
 pub zero_at : (zeros place : ℕ) → get_or {A = ℕ} (replicate zeros 0) place 0 ≡ 0
 zero_at zero place = refl
@@ -104,7 +104,7 @@ torn_is_no_entry sum e rest text is t torn =
     line_feed_is_no_zero torn.front torn.zeros (without_end sum e) rest (omega (arith, less, end, a, b, size))
     (sym (ends_a_line sum e rest) ∙ sym t ∙ torn.is)
 
--- If the input begins with the line of a mark and is shorter than the mark's entry, it does not
+-- If the input begins with the line for a mark and is shorter than the mark's entry, it does not
 -- begin with an entry.
 few_is_no_entry : (sum : ℕ) (e : PlainEntry) (rest text mark : List ℕ) → IsEntry e → text ≡ entry_text sum e ++ rest → mark ≡ mark_of e
     → HasFewer (entry_size mark) text → ⊥
@@ -118,7 +118,7 @@ few_is_no_entry sum e rest text mark is t same has =
     line_feed_is_no_zero has.front has.zeros (without_end sum e) rest (omega (arith, fewer, sizes, end, a, b, size))
     (sym (ends_a_line sum e rest) ∙ sym t ∙ has.is)
 
--- Suppose that the input begins with the line of a mark and is shorter than the mark's entry. If
+-- Suppose that the input begins with the line for a mark and is shorter than the mark's entry. If
 -- one of its lines does not end where a line of that entry ends, the input is damaged.
 pub lines_end_otherwise : (sum : ℕ) (text mark : List ℕ) → BeginsWithMark sum mark text → (HasFewer 72 text → ⊥) → HasFewer (entry_size mark) text
     → (LinesEnd mark text → ⊥) → IsDamaged sum text

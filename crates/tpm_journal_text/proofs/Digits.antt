@@ -1,4 +1,4 @@
--- Lemmas about comparing hex digits, pair by pair, with the hex of bytes.
+-- Lemmas about comparing hex digits, pair by pair, with the hex encoding of bytes.
 use Rattle.std.proofs.Common.{◌≡◌, ℕ, ◌+◌, ◌*◌, ◌/◌, ◌%◌, ◌<◌, eqb, ◌&&◌, Bool, true, false, List, [], ◌∷◌, ◌++◌, length, take, drop, slice_index, Option, Some, None, IfNone, refl, sym, ◌∙◌}
 use Rattle.std.specs.Prelude.{codes}
 use Rattle.std.specs.Str.{bytes_eq}
@@ -29,8 +29,8 @@ none_left [] [] e f = refl
 none_left [] (b ∷ bytes) e f = absurd cc
 none_left (d ∷ digits) bytes e f = absurd cc
 
--- If no line feed follows the hex digits of a content, the input does not begin with a line of that
--- content.
+-- If no line feed follows the hex digits of a head's content, the input does not begin with the
+-- line for this content.
 pub end_missing : {X : Type 0} (text digits image end : List ℕ) (found : Option X) → text ≡ codes "# " ++ digits
     → digits ≡ encode_lower image ++ end → IfNone found ((rest : List ℕ) → end ≡ 10 ∷ [] ++ rest → ⊥)
     → IfNone found ((rest : List ℕ) → text ≡ codes "# " ++ (encode_lower image ++ (10 ∷ [] ++ rest)) → ⊥)

@@ -41,7 +41,7 @@ count_is kind clock content has =
 regrouped : (line word content end rest : List ℕ) → (line ++ word ++ content ++ end) ++ rest ≡ (line ++ word) ++ (content ++ (end ++ rest))
 regrouped line word content end rest = simp append_assoc refl
 
--- the line of a head's mark
+-- the line for a head's mark
 head_line : HeadKind → (clock : ℕ) → (content : List ℕ) → List ℕ
 head_line kind clock content = marked_line (head_word kind) (head_mark clock content) (head_sum clock content)
 
@@ -73,7 +73,7 @@ unfolding behind_line
 line_first kind clock content rest =
     parts kind clock content rest ∙ append_assoc (head_line kind clock content) (codes "# ") (encode_lower content ++ (10 ∷ [] ++ rest))
 
--- An encoded head begins with the line of its mark.
+-- An encoded head begins with the line for its mark.
 pub head_line_stands : (kind : HeadKind) (clock : ℕ) (content text rest : List ℕ) → text ≡ head_text kind clock content ++ rest
     → take 77 text ≡ marked_line (head_word kind) (head_mark clock content) (head_sum clock content)
 unfolding head_line
@@ -153,7 +153,7 @@ head_stands kind clock content mark text rest has many are line t =
       long = omega (arith, ap length t, length-append (head_text kind clock content) rest, head_text_many kind clock content);
     }
 
--- The line of the content follows the line of the mark.
+-- The line for the content follows the line for the mark.
 pub content_line_stands : (kind : HeadKind) (clock : ℕ) (content text rest : List ℕ) → text ≡ head_text kind clock content ++ rest
     → drop 77 text ≡ codes "# " ++ (encode_lower content ++ (10 ∷ [] ++ rest))
 unfolding behind_line
@@ -161,7 +161,8 @@ content_line_stands kind clock content text rest t =
     ap (drop 77) (t ∙ line_first kind clock content rest)
     ∙ drop_at (head_line kind clock content) (behind_line content rest) 77 (head_line_many kind clock content)
 
--- If the input begins with the lines of a mark and a content, it begins with a head.
+-- If the input consists of the line for a head's mark, the line for its content, and further bytes,
+-- it begins with this head.
 head_whole : (kind : HeadKind) (clock : ℕ) (content text rest : List ℕ) → take 77 text ≡ head_line kind clock content
     → drop 77 text ≡ behind_line content rest → text ≡ head_text kind clock content ++ rest
 head_whole kind clock content text rest line behind =
@@ -187,7 +188,7 @@ head_found text mark rest head has is sum line behind size =
       after = after;
     }
 
--- If the input begins with two heads, both are of the same kind.
+-- Two heads with which the same input begins are of the same kind.
 pub same_kind : (kind other : HeadKind) (clock time : ℕ) (content bytes x y : List ℕ)
     → head_text kind clock content ++ x ≡ head_text other time bytes ++ y → kind ≡ other
 same_kind kind other clock time content bytes x y same =
@@ -195,7 +196,7 @@ same_kind kind other clock time content bytes x y same =
     let b = word_stands other time bytes (head_text kind clock content ++ x) y same in
     one_word kind other a.0 b.0 (sym a.1 ∙ b.1)
 
--- If the input begins with two heads of the same kind, the heads are equal.
+-- Two heads of the same kind with which the same input begins are equal.
 pub same_head : (kind : HeadKind) (clock other : ℕ) (content bytes x y : List ℕ) → HasHead kind clock content → HasHead kind other bytes
     → head_text kind clock content ++ x ≡ head_text kind other bytes ++ y → (clock ≡ other) × (content ≡ bytes)
 same_head kind clock other content bytes x y has others same =

@@ -46,14 +46,14 @@ last_is_feed sum e last is =
     ap (λ (t : List ℕ). get_or t last 0) ends
     ∙ get_or_at (without_end sum e) 10 [] 0 last (omega (arith, is, ap length ends, length-append (without_end sum e) (10 ∷ [])))
 
--- The line of a mark ends with a line feed.
+-- The line for a mark ends with a line feed.
 line_ends : (sum : ℕ) (mark : List ℕ) → length mark ≡ 26 → get_or (mark_line sum mark) 71 0 ≡ 10
 unfolding marked_line
 line_ends sum mark many =
     let line = entry_word ++ encode_lower mark ++ 32 ∷ [] ++ encode_lower (to_be_bytes w64 (sum_from sum mark)) in
     get_or_at line 10 [] 0 71 (omega (arith, mark_line_many sum mark many, length-append line (10 ∷ [])))
 
--- The byte after the line of an entry's mark is a `w`, not a line feed.
+-- The byte after the line for an entry's mark is a `w`, not a line feed.
 wait_follows : (sum : ℕ) (e : PlainEntry) → get_or (entry_text sum e) 72 0 ≡ 119
 unfolding entry_text setting_lines
 wait_follows sum e =
@@ -63,7 +63,7 @@ wait_follows sum e =
     ∙ ap (λ (n : ℕ). get_or (line ++ lines) (n + 0) 0) (sym (mark_line_many sum (mark_of e) (mark_many e)))
     ∙ get_or-append-add line lines 0 0
 
--- ---- torn
+-- ---- torn input
 
 -- If a torn input ends with a line feed, it has no zeros at its end.
 no_zeros : (sum : ℕ) (text : List ℕ) (last : ℕ) (torn : IsTorn sum text) → last + 1 ≡ length text → get_or text last 0 ≡ 10 → torn.front ≡ text
@@ -103,7 +103,7 @@ module _ (sum : ℕ) (e : PlainEntry) (place : ℕ) (is : IsEntry e) (less : pla
   unfolding cut text last
   cut_many = omega (arith, less, without_many place (entry_text sum e) (omega (arith, less)))
 
-  -- If a byte of the mark's line is removed, the first 72 bytes are not the line of a mark.
+  -- If a byte of the mark's line is removed, the first 72 bytes are not the line for a mark.
   early : (mark : List ℕ) → place < 72 → length mark ≡ 26 → take 72 cut ≡ mark_line sum mark → ⊥
   unfolding cut text
   early mark before many line =
@@ -120,7 +120,7 @@ module _ (sum : ℕ) (e : PlainEntry) (place : ℕ) (is : IsEntry e) (less : pla
       take-append-le 72 (take place entry) (drop (place + 1) entry) (omega (arith, after, less, length-take-le place entry (omega (arith, less))))
       ∙ take-take 72 place entry after ∙ line_stands sum e entry [] (sym (append-nil entry))
 
-  -- After a byte is removed, the last line feed is not where a line of the entry may end.
+  -- After a byte is removed, the last line feed is at an offset where no line of the entry ends.
   no_end : (mark : List ℕ) → mark ≡ mark_of e → LinesEnd mark cut → ⊥
   unfolding last text
   no_end mark same end =

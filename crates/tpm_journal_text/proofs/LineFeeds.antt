@@ -16,7 +16,7 @@ zero_at zero place = refl
 zero_at (suc count) zero = refl
 zero_at (suc count) (suc place) = zero_at count place
 
--- ---- texts without line feeds
+-- ---- bytes without line feeds
 
 -- These bytes contain no line feed.
 abbrev pub NoFeed : List ℕ → Type 0
@@ -50,7 +50,7 @@ hex_no_feed (byte ∷ bytes) zero e = digit_is_no_feed _ e
 hex_no_feed (byte ∷ bytes) (suc zero) e = digit_is_no_feed _ e
 hex_no_feed (byte ∷ bytes) (suc (suc place)) e = hex_no_feed bytes place e
 
--- ---- a line, and the text after it
+-- ---- a line, and the bytes after it
 
 feed_at : (line rest : List ℕ) (place : ℕ) → NoFeed line → get_or (line ++ 10 ∷ rest) place 0 ≡ 10
     → (place ≡ length line) ⊎ ((more : ℕ) × (place ≡ length line + (1 + more)) × (get_or rest more 0 ≡ 10))
@@ -67,7 +67,7 @@ feed_at (byte ∷ line) rest (suc place) none e =
 
 -- ---- the lines of an entry
 
--- the lines of an entry after the line of its mark, each without its line feed
+-- the lines of an entry after the line for its mark, each without its line feed
 wait_line : PlainEntry → List ℕ
 wait_line e = codes "wait " ++ ten_digits e.elapsed
 
@@ -182,7 +182,7 @@ abbrev Ends : (e : PlainEntry) (place : ℕ) → Type 0
 Ends e place =
     ((place ≡ 15) ⊎ ((place ≡ 21) ⊎ (place ≡ drawn_line_end (length e.drawn)))) ⊎ (place ≡ last_end e)
 
--- Each line feed in the lines of an entry is where a line of the entry ends.
+-- Each line feed in the lines of an entry is at the end of one of these lines.
 feeds_end : (e : PlainEntry) (place : ℕ) → get_or (lines_of e) place 0 ≡ 10 → Ends e place
 unfolding lines_of
 feeds_end e place is =
@@ -230,7 +230,7 @@ entry_lines sum e =
     append_assoc (mark_line sum (mark_of e)) (setting_lines e) (executing_lines e)
     ∙ ap (λ (l : List ℕ). mark_line sum (mark_of e) ++ l) (lines_are e)
 
--- Each line feed after the line of an entry's mark is where a line of the entry ends.
+-- Each line feed after the line for an entry's mark is at the end of a line of the entry.
 pub feed_in_entry : (sum : ℕ) (e : PlainEntry) (place : ℕ) → get_or (entry_text sum e) (72 + place) 0 ≡ 10 → Ends e place
 feed_in_entry sum e place is =
     let line = mark_line sum (mark_of e) in
@@ -252,8 +252,8 @@ front_lines_end sum e size is less place there =
       | inr last ↦ absurd (omega (arith, last, small, less))
     ]
 
--- If the lines of the input end only where the lines of the mark's entry end, this is also true for
--- each prefix of the input.
+-- If all lines of the input end where lines of the mark's entry end (`LinesEnd`), this is also true
+-- of each prefix of the input.
 pub lines_end_front : (mark front back : List ℕ) → LinesEnd mark (front ++ back) → LinesEnd mark front
 lines_end_front mark front back end place there =
     let at : get_or front (72 + place) 0 ≡ 10 = sym (get_or-drop 72 front place 0) ∙ there in
@@ -273,9 +273,9 @@ lines_end_zeros mark front count end place there =
           absurd (omega (arith, no))
     ]
 
--- ---- lines that were split off
+-- ---- the bytes after the line for a mark
 
--- All line feeds after the line of a mark are at the offsets that the mark determines.
+-- All line feeds after the line for a mark are at the offsets that the mark determines.
 abbrev EndAt : (lines : List ℕ) → (drawn_end : ℕ) → Type 0
 EndAt lines drawn_end = (place : ℕ) → get_or lines place 0 ≡ 10 → (place ≡ 15) ⊎ ((place ≡ 21) ⊎ (place ≡ drawn_end))
 

@@ -41,7 +41,8 @@ fields_same e f a b d g h i =
     ∙ ap (λ (l : List ℕ). made f.elapsed f.locality f.completes f.drawn l e.answered) h
     ∙ ap (made f.elapsed f.locality f.completes f.drawn f.buffer) i
 
--- If two entries are at their offsets in the same mark and the same bytes, the entries are equal.
+-- If the parts of two entries are at their offsets in the same mark and the same bytes, the entries
+-- are equal.
 one_stands : (e f : PlainEntry) (mark text : List ℕ) → Stands e mark text → Stands f mark text → e ≡ f
 one_stands e f mark text a b =
     let drawn_many : length e.drawn ≡ length f.drawn = sym a.drawn_size ∙ b.drawn_size in
@@ -69,7 +70,7 @@ same_entry sum e f x y is other same =
 -- ---- entries
 
 -- If the input consists of entries and a torn end, any other parsing of the input finds the same
--- entries, or only the first of them.
+-- entries, or a prefix of this list of entries.
 pub others_are_more : (sum : ℕ) (entries others : List PlainEntry) (rest left : List ℕ) → AllByRecursion IsEntry entries → AllByRecursion IsEntry others
     → entries_text sum entries ++ rest ≡ entries_text sum others ++ left → IsTorn (sum_after_all sum entries) rest
     → (more : List PlainEntry) × AllByRecursion IsEntry more × (entries ≡ others ++ more) × (left ≡ entries_text (sum_after_all sum others) more ++ rest)

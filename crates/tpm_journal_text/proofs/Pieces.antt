@@ -46,7 +46,7 @@ line_digits word bytes text sum size count many there =
     (length word) (2 * count) (there ∙ line_parts word bytes sum) refl
     (length-encode_with lower_digits bytes ∙ ap (λ (n : ℕ). 2 * n) many)
 
--- ---- texts that are compared
+-- ---- comparing bytes
 
 all_equal : (text : List ℕ) → pointwise nat_eq text text ≡ true
 all_equal [] = refl
@@ -55,7 +55,7 @@ all_equal (byte ∷ text) = rw (eq-eqb byte byte refl, all_equal text) refl
 pub same_is_equal : (text other : List ℕ) → text ≡ other → pointwise nat_eq text other ≡ true
 same_is_equal text other e = rw (← e) (all_equal text)
 
--- Input that consists of a prefix and a rest begins with the prefix.
+-- Input that consists of a prefix and further bytes begins with the prefix.
 pub front_of : (front rest text : List ℕ) (size : ℕ) → length front ≡ size → text ≡ front ++ rest → take size text ≡ front
 front_of front rest text size many e = ap (take size) e ∙ take_at front rest size many
 
@@ -71,7 +71,7 @@ line_length word bytes sum count many =
     let e = length-encode_with lower_digits (to_be_bytes w64 sum) in
     omega (arith, head, a, b, c, d, e, many)
 
--- If two lists of bytes have the same hex, they are equal.
+-- If two lists of bytes have the same hex encoding, they are equal.
 pub hex_same : (bytes others : List ℕ) → AreBytes bytes → AreBytes others → encode_lower bytes ≡ encode_lower others → bytes ≡ others
 hex_same bytes others are others_are e =
     ok_is {E = FromHexError} bytes others (sym (decode_of-encode_lower bytes are) ∙ ap decode_of e ∙ decode_of-encode_lower others others_are)
@@ -87,7 +87,8 @@ line_same word bytes others sum other_sum are others_are many e =
     (sym (line_digits word bytes text sum size (length others) many whole)
     ∙ line_digits word others text other_sum size (length others) refl (whole ∙ e))
 
--- The hex of two joined parts is the hex of the first part, followed by the hex of the second part.
+-- The hex encoding of two joined parts is that of the first part, followed by that of the second
+-- part.
 hex_parts : (front back : List ℕ) → encode_lower (front ++ back) ≡ encode_lower front ++ encode_lower back
 unfolding encode_with
 hex_parts [] back = refl

@@ -47,7 +47,7 @@ answered_told : (e : PlainEntry) → IsEntry e → from_be_bytes w64 (take 8 (dr
 unfolding mark_of
 answered_told e is = from_be_bytes-to_be_bytes_8 e.answered is.answered
 
--- ---- the parts of a text
+-- ---- the parts of an encoded entry
 
 regrouped : (line setting word drawn middle buffer end rest : List ℕ)
     → (line ++ setting ++ (word ++ drawn ++ middle ++ buffer ++ end)) ++ rest
@@ -121,7 +121,7 @@ stands sum e mark text rest is m t =
           (take_at (encode_lower e.buffer) (10 ∷ [] ++ rest) (2 * length e.buffer) (length-encode_with lower_digits e.buffer));
     }
 
--- An encoded entry begins with the line of its mark.
+-- An encoded entry begins with the line for its mark.
 pub line_stands : (sum : ℕ) (e : PlainEntry) (text rest : List ℕ) → text ≡ entry_text sum e ++ rest → take 72 text ≡ mark_line sum (mark_of e)
 unfolding entry_text
 line_stands sum e text rest t =

@@ -1,4 +1,4 @@
--- The checksum of two joined parts is the checksum of the first part with the second part added.
+-- The checksum of two joined parts is the checksum of the first part, extended by the second part.
 use Rattle.std.proofs.Common.{◌≡◌, ℕ, ◌+◌, List, [], ◌∷◌, ◌++◌, length, refl, sym, length-append}
 use Rattle.tpm_journal_text.specs.Sum.{sum_from, sum_of, with_byte, offset_basis}
 

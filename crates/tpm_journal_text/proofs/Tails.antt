@@ -51,7 +51,7 @@ not_fewer text end size e some has =
 pub whole_is_fewer : (text : List ℕ) (size : ℕ) → length text < size → HasFewer size text
 whole_is_fewer text size short = record { front = text; zeros = 0; is = sym (append-nil text); fewer = short }
 
--- ---- less than an entry
+-- ---- input that is too short for an entry
 
 -- If the input is too short for an entry, so is each prefix of it.
 cut_off_front : (sum : ℕ) (front back : List ℕ) → IsCutOff sum (front ++ back) → IsCutOff sum front
@@ -96,7 +96,7 @@ part_of_entry sum e size is less = by (nat_lt size 72) refl
           front_lines_end sum e size is (omega (arith, less, entry_text_many sum e is, ap (max 1) (drawn_told e is), buffer_told e is)),
         )
 
--- ---- torn texts
+-- ---- torn input
 
 pub torn_by_few : (sum : ℕ) (text : List ℕ) → HasFewer 72 text → IsTorn sum text
 torn_by_few sum text has = record { front = has.front; zeros = has.zeros; is = has.is; cut_off = inl has.fewer }

@@ -8,9 +8,9 @@ use Rattle.tpm_journal_text.specs.declared.entry.Entry.{Entry}
 use Rattle.tpm_journal_text.specs.Marked.{marked_line, marked_size}
 use Rattle.tpm_journal_text.specs.Sum.{sum_from, sum_of}
 
--- an answered command: the milliseconds since the command before it, its locality, whether the
--- completing layer was on, the random bytes that it drew, its command buffer, and the checksum of
--- its response
+-- an answered command: the milliseconds since the previous command, its locality, whether the
+-- completing layer was on, the random bytes that the command drew, its command buffer, and the
+-- checksum of its response
 pub record PlainEntry : Type 0 where
   pub elapsed : ℕ
   pub locality : ℕ
@@ -67,20 +67,20 @@ mark_of e =
 abbrev pub mark_size : ℕ
 mark_size = 26
 
--- the number of random bytes that the command of the entry with this mark drew
+-- the number of random bytes that the command drew, according to the mark of its entry
 abbrev pub drawn_size : (mark : List ℕ) → ℕ
 drawn_size mark = from_be_bytes w16 (take 2 (drop 6 mark))
 
--- the size of the command buffer in the entry with this mark
+-- the size of the command buffer, according to the mark of its entry
 abbrev pub buffer_size : (mark : List ℕ) → ℕ
 buffer_size mark = from_be_bytes w16 (take 2 (drop 8 mark))
 
--- ---- the text of an entry
+-- ---- the encoding of an entry
 
 abbrev pub entry_word : List ℕ
 entry_word = codes "# "
 
--- the line of a mark; `sum` is the checksum of all earlier marks
+-- the line for a mark; `sum` is the checksum of all earlier marks
 abbrev pub mark_line : (sum : ℕ) → (mark : List ℕ) → List ℕ
 mark_line sum mark = marked_line entry_word mark (sum_from sum mark)
 
@@ -112,8 +112,8 @@ unfoldable pub executing_lines : PlainEntry → List ℕ
 executing_lines e =
     codes "entropy " ++ encode_lower (shown e.drawn) ++ codes "\ncmd " ++ encode_lower e.buffer ++ 10 ∷ []
 
--- the offset at which the line of the random bytes ends, for an entry that drew this number of
--- bytes; it is counted from the end of the mark's line
+-- the offset at which the line for the random bytes ends, for an entry whose command drew this
+-- number of bytes; it is counted from the end of the mark's line
 abbrev pub drawn_line_end : (drawn : ℕ) → ℕ
 drawn_line_end drawn = 30 + 2 * max 1 drawn
 
@@ -121,15 +121,15 @@ drawn_line_end drawn = 30 + 2 * max 1 drawn
 abbrev pub lines_size : (drawn buffer : ℕ) → ℕ
 lines_size drawn buffer = 36 + (2 * max 1 drawn + 2 * buffer)
 
--- the encoding of an entry: the line of its mark, and the four script lines that execute its
+-- the encoding of an entry: the line for its mark, and the four script lines that execute its
 -- command; `sum` is the checksum of all earlier marks
 unfoldable pub entry_text : (sum : ℕ) → PlainEntry → List ℕ
 entry_text sum e = mark_line sum (mark_of e) ++ setting_lines e ++ executing_lines e
 
--- the encoded size of the entry with this mark
+-- the encoded size of an entry, according to its mark
 abbrev pub entry_size : (mark : List ℕ) → ℕ
 entry_size mark = mark_line_size + lines_size (drawn_size mark) (buffer_size mark)
 
--- the checksum with the mark of an entry added
+-- the checksum extended by the mark of an entry
 abbrev pub sum_after : (sum : ℕ) → PlainEntry → ℕ
 sum_after sum e = sum_from sum (mark_of e)

@@ -1,5 +1,5 @@
--- The head of a journal: the host's clock, and the device at that time, either as its image when
--- power came on, or as a state text with its whole state.
+-- The head of a journal: the host's clock, and the device at that time, either as an image from
+-- when power came on, or as a state text, which contains the whole state.
 use Rattle.std.specs.Prelude.{◌≡◌, ℕ, ◌+◌, ◌*◌, ◌≤◌, ◌<◌, ◌^◌, List, [], ◌∷◌, ◌++◌, codes, length, take}
 use Rattle.std.specs.Int.{w32, w64, to_be_bytes}
 use Rattle.hex.specs.Hex.{encode_lower}
@@ -15,7 +15,7 @@ abbrev pub head_word : HeadKind → List ℕ
 head_word Image = codes "# tpmsim journal 1 "
 head_word State = codes "# tpmsim journal 2 "
 
--- the largest size of the content of a head of this kind
+-- the maximum size of the content in a head of this kind
 abbrev pub content_limit : HeadKind → ℕ
 content_limit Image = 28672
 content_limit State = 40960
@@ -30,7 +30,7 @@ head_mark clock content =
 abbrev pub head_sum : (clock : ℕ) → (content : List ℕ) → ℕ
 head_sum clock content = sum_from offset_basis (head_mark clock content)
 
--- the encoding of a head: the line of its mark, and a line with its content in hex. Neither line
+-- the encoding of a head: the line for its mark, and a line with its content in hex. Neither line
 -- has an effect in a script
 unfoldable pub head_text : HeadKind → (clock : ℕ) → (content : List ℕ) → List ℕ
 head_text kind clock content =

@@ -1,4 +1,4 @@
--- The entries of a journal one after another, and how their encoding ends.
+-- The entries of a journal, one after another, and how their encoding ends.
 use Rattle.std.specs.Prelude.{◌≡◌, ℕ, ◌≤◌, ◌<◌, ◌⊎◌, List, [], ◌∷◌, ◌++◌, drop, get_or, length, replicate, take}
 use Rattle.tpm_bytes.specs.Reading.{AreBytes}
 use Rattle.tpm_journal_text.specs.Entry.{IsEntry, PlainEntry, drawn_line_end, drawn_size, entry_size, entry_text, mark_line}
@@ -16,7 +16,7 @@ abbrev pub sum_after_all : (sum : ℕ) → List PlainEntry → ℕ
 sum_after_all sum [] = sum
 sum_after_all sum (e ∷ entries) = sum_after_all (sum_after sum e) entries
 
--- The bytes begin with the line of this mark; `sum` is the checksum of all earlier marks.
+-- The bytes begin with the line for this mark; `sum` is the checksum of all earlier marks.
 pub record BeginsWithMark (sum : ℕ) (mark text : List ℕ) : Type 0 where
   pub count : length mark ≡ mark_size
   pub bytes : AreBytes mark
@@ -28,7 +28,7 @@ abbrev pub EndsLine : (mark : List ℕ) → (place : ℕ) → Type 0
 EndsLine mark place =
     (place ≡ 15) ⊎ ((place ≡ 21) ⊎ (place ≡ drawn_line_end (drawn_size mark)))
 
--- After the line of this mark, the lines of the input end only where the lines of the mark's entry
+-- After the line for this mark, the lines of the input end only where the lines of the mark's entry
 -- end.
 abbrev pub LinesEnd : (mark text : List ℕ) → Type 0
 LinesEnd mark text =

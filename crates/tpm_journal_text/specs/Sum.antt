@@ -3,14 +3,14 @@
 -- changes the sum.
 use Rattle.std.specs.Prelude.{ℕ, ◌*◌, ◌%◌, ◌^◌, bit_xor, List, [], ◌∷◌}
 
--- the checksum of no bytes
+-- the checksum of the empty list
 abbrev pub offset_basis : ℕ
 offset_basis = 0xcbf29ce484222325
 
 abbrev pub prime : ℕ
 prime = 0x100000001b3
 
--- a checksum with one byte added
+-- a checksum extended by one byte
 abbrev pub with_byte : (sum : ℕ) → (byte : ℕ) → ℕ
 with_byte sum byte = (bit_xor sum byte * prime) % 2 ^ 64
 

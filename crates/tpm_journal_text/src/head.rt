@@ -56,7 +56,7 @@ impl HeadKind {
         }
     }
 
-    /// The largest size of the content of a head of this kind.
+    /// The maximum size of the content in a head of this kind.
     pub(crate) fn limit(self) -> usize
         ensures { result ≡ content_limit self }
     {

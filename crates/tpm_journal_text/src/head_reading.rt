@@ -35,7 +35,8 @@ fn count_of(mark: &[u8; MARK_SIZE]) -> usize
     u32::from_be_bytes([mark[8], mark[9], mark[10], mark[11]]) as usize
 }
 
-/// The kind of the head at the beginning of the input, if there is a head.
+/// The kind of the head at the beginning of the input; unspecified if the input does not begin with
+/// a head.
 fn kind_of(text: &[u8]) -> HeadKind
     ensures { (kind : HeadKind) (clock : ℕ) (content rest : List ℕ)
         → text.now ≡ head_text kind clock content ++ rest → result ≡ kind }

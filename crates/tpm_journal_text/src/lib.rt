@@ -2,9 +2,9 @@
 
 //! The text of a journal: its head, and an entry for each answered command.
 //!
-//! Each line is a line of a script. The specs define this format; [`entry`] and [`head`] write it
-//! and read it. A reader encodes what it decoded and compares the result with the input, so reading
-//! succeeds only on the exact encoding of an entry.
+//! Each line of a journal is also a line of a script. The specs define this format; [`entry`] and
+//! [`head`] write it and read it. A reader encodes what it decoded and compares the result with the
+//! input, so reading succeeds only on the exact encoding of an entry.
 
 pub mod entry;
 pub mod head;

@@ -25,7 +25,7 @@ pub const BYTES_ROOM: usize = 256 + ENTRY_LIMIT;
 /// The offset of the random bytes in an encoded entry.
 const DRAWN_PLACE: usize = 102;
 
-/// The beginning of the input: an entry, a part too short for an entry, or neither.
+/// The beginning of the input: an entry, a part that is too short for an entry, or neither.
 pub enum Next<'a> {
     /// An entry, its encoded size, and the checksum of all marks including its own.
     Whole {
@@ -33,8 +33,8 @@ pub enum Next<'a> {
         size: usize,
         sum: u64,
     },
-    /// A part too short for an entry. Its lines end where an entry's lines end, and only zeros may
-    /// follow it.
+    /// A part that is too short for an entry. Its lines end where an entry's lines end, and only
+    /// zeros may follow it.
     Torn,
     /// Neither an entry nor a part of an entry that a crash could leave.
     Damaged,
@@ -89,14 +89,14 @@ fn size_told(mark: &[u8; MARK_SIZE]) -> usize
     MARK_LINE_SIZE + 36 + 2 * u16_at(mark, 6).max(1) + 2 * u16_at(mark, 8)
 }
 
-/// The offset where the line of the random bytes ends, counted from the end of the mark's line.
+/// The offset where the line for the random bytes ends, counted from the end of the mark's line.
 fn drawn_end(mark: &[u8; MARK_SIZE]) -> usize
     ensures { result ≡ drawn_line_end (drawn_size mark.now) }
 {
     30 + 2 * u16_at(mark, 6).max(1)
 }
 
-/// The entry that follows its mark in the input, or None if there is none.
+/// The entry that follows its mark in the input, or None if no such entry follows.
 fn entry_behind<'a>(
     mark: &[u8; MARK_SIZE],
     text: &[u8],
@@ -138,7 +138,7 @@ pub(crate) fn begins_with(text: &[u8], front: &[u8]) -> bool
     is_equal(begin, front)
 }
 
-/// Classifies input that begins with the line of a mark and is shorter than the mark's entry.
+/// Classifies input that begins with the line for a mark and is shorter than the mark's entry.
 fn less_than_entry<'a>(text: &[u8], mark: &[u8; MARK_SIZE]) -> Next<'a>
     requires { 72 ≤ length text.now }
     ensures { (sum : ℕ) → BeginsWithMark sum mark.now text.now → (HasFewer 72 text.now → ⊥)

@@ -3,7 +3,7 @@
 ghost use Rattle.std.specs.Prelude.{◌≡◌, [], codes};
 ghost use Rattle.tpm_journal_text.specs.Sum.{sum_from, sum_of};
 
-/// The checksum of no bytes.
+/// The checksum of the empty list.
 pub const OFFSET_BASIS: u64 = 0xcbf2_9ce4_8422_2325;
 
 const PRIME: u64 = 0x100_0000_01b3;
@@ -26,8 +26,8 @@ pub fn sum_of(bytes: &[u8]) -> u64
     sum_from(OFFSET_BASIS, bytes)
 }
 
-/// The definition yields the checksums that FNV's authors publish for no bytes, for `a` and for
-/// `foobar`. The function does nothing at run time.
+/// The definition yields the checksums that FNV's authors publish for the empty input, for `a` and
+/// for `foobar`. The function does nothing at run time.
 pub fn published_sums()
     ensures none { sum_of [] ≡ 0xcbf29ce484222325 }
     ensures a { sum_of (codes "a") ≡ 0xaf63dc4c8601ec8c }

@@ -35,7 +35,7 @@ fn is_line_end(place: usize, drawn_end: usize) -> bool
 }
 
 /// Whether each line feed ends a line of an entry. Offsets are counted from the end of the mark's
-/// line; the line of the entry's random bytes ends at `drawn_end`.
+/// line; the line for the entry's random bytes ends at `drawn_end`.
 pub(crate) fn lines_end(lines: &[u8], drawn_end: usize) -> bool
     ensures yes { result ≡ true → (place : ℕ) → get_or lines.now place 0 ≡ 10
         → (place ≡ 15) ⊎ ((place ≡ 21) ⊎ (place ≡ drawn_end)) }

@@ -1,4 +1,5 @@
--- If all requested commands have a property, all commands of the history have it.
+-- If all commands of the journal at the start and all requested commands have a property, all
+-- commands of the history have it.
 use Rattle.std.proofs.Common.{◌≡◌, ℕ, ◌+◌, ◌==◌, Bool, true, false, cond, List, [], ◌∷◌, ◌++◌, length, Some, None, Option, refl, sym, subst}
 use Rattle.std.specs.List.{AllByRecursion}
 use Rattle.std.specs.Prelude.{nat_le, ◌||◌}

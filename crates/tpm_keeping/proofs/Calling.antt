@@ -13,7 +13,7 @@ use Rattle.tpm_keeping.specs.declared.holder.Job.TheVariants.{Cut}
 use Rattle.tpm_keeping.specs.declared.holder.Phase.{Phase}
 use Rattle.tpm_keeping.specs.declared.holder.Phase.TheVariants.{Ended, Locking, Looking, Reading, Putting, Forcing, Making, Naming, Settling, Leaving}
 
--- if a call ends with a fault, either the holder is unchanged, or the keeper requests a cut
+-- if a call ends with a fault, either the holder is unchanged, or the keeper requests the job `Cut`
 ended_so : (f : Fault) (c : Caller) → IsOrIsAsked c.holder (goes_on_in IsCut (Ended (ending.Failed f)) c).holder
 ended_so fault.Damaged c = inr (Cut, [], refl)
 ended_so fault.Idle c = inl refl

@@ -12,7 +12,7 @@ use Rattle.tpm_keeping.proofs.Invariant.{Each, IsContent, IsFile, IsText, Safe, 
 
 -- ---- the responses
 
--- A prefix of the history has the same command as the history at each of its positions.
+-- At each position of a prefix of the history, the prefix and the history have the same command.
 front_has : (before rest front more : List (List ℕ)) (c : List ℕ) → before ++ (c ∷ rest) ≡ front ++ more → length before < length front
     → (left : List (List ℕ)) × (front ≡ before ++ (c ∷ left))
 front_has [] rest [] more c e le = absurd (omega (arith, le))

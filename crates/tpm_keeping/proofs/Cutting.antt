@@ -1,4 +1,4 @@
--- A cut begins a new journal, in the state after a prefix of the damaged journal.
+-- The job `Cut` begins a new journal, in the state after a prefix of the damaged journal.
 use Rattle.std.proofs.Common.{◌≡◌, ℕ, ◌+◌, ◌<◌, ◌||◌, Bool, true, false, cond, List, [], ◌∷◌, ◌++◌, length, take, Some, None, Option, refl, sym, subst, arith}
 use Rattle.tpm_keeping.specs.Journal.{Journal, IsJournal, Spot}
 use Rattle.tpm_keeping.specs.Holder.{Holder, Told, Done, Stands, Gone, Bytes, acts, begins, caught_up, finishes, found, goes, is_always, is_never, is_read, knows_file, looked, newborn, next_in, next_of, reads_on, salvages, salvages_of}
@@ -38,7 +38,7 @@ salvages_cuts Renew device j k laws is opens = absurd cc
 salvages_cuts Show device j k laws is opens = absurd cc
 salvages_cuts Begin device j k laws is opens = absurd cc
 
--- a cut of an undamaged journal begins no new journal
+-- if the journal is not damaged, the job `Cut` begins no new journal
 acts_cuts : (job : Job) (j : Journal) (k : Holder) (p : Spot) (text : List ℕ) → job ≡ Cut → IsCut j text (acts j job k p)
 acts_cuts Cut j k p text is = by (is_always k.force) (k.settled || is_never k.force)
   where

@@ -8,7 +8,7 @@ use Rattle.std.proofs.lemmas.List.{take_all, take-append-le}
 use Rattle.std.proofs.Math.Seq.{take-append-add}
 use Rattle.tpm_keeping.specs.Journal.{Entered, Journal, IsJournal, Spot, entries, run, stepped, trail, whole_in}
 
--- a head, followed by the entries of commands
+-- a head, followed by the entries for commands
 abbrev pub whole : Journal → (head : List ℕ) → Spot → List (List ℕ) → List ℕ
 whole j head p cs = head ++ entries j p cs
 

@@ -71,7 +71,7 @@ each_longer j origin history more (a ∷ answers) h = (
   each_longer j origin history more answers h.1,
 )
 
--- ---- a put
+-- ---- the bytes after a write
 
 -- If the first n bytes of `same ++ rest` overwrite the start of `same`, the result is `same`,
 -- followed by the part of `rest` that was written.
@@ -211,7 +211,7 @@ state_is j s still named =
 pub state_lives : (j : Journal) (s : Shared) → IsJournal j → Still j s → 0 < s.file.number → j.is_state (state_of j s.file) ≡ true
 state_lives j s laws still named = trail_lives j s.file.start s.file.now.commands laws (still.file.headed named).lives
 
--- ---- the knowledge of other holders
+-- ---- what other holders know
 
 -- Everything that a holder knows about the folder `s` is also true of the folder `t`, for example
 -- after a step of another process.
@@ -263,7 +263,7 @@ forced_grows j s t more number head start commands le older next = record {
   next = next;
 }
 
--- ---- a put
+-- ---- writing to the file
 
 put_still : (j : Journal) (s : Shared) (k : Holder) (n : ℕ) → IsJournal j → Still j s → Puts j s.file k.job k → Still j (put j s k n)
 put_still j s k n laws still puts =

@@ -33,9 +33,10 @@ pub record IsText (j : Journal) (head : List ℕ) (start : Spot) (c : Content) :
   pub is : c.text ≡ whole j head start c.commands ++ tail
   pub torn : j.is_torn (trail j start c.commands) tail ≡ true
 
--- The contents that a file has or had at some time. The commands begin with `surely`, and follow
--- `before` in the history. Each command has an entry. If the file exists, the contents are the
--- head, these entries, and a torn end, which may be empty.
+-- The contents that a file has or had at some time. The commands in these contents begin with
+-- `surely`. They all have entries, and they follow the commands `before` in the history. If the
+-- file exists, the contents are the head, these entries, and a torn end, which may be empty. If the
+-- file does not exist, there are no commands.
 pub record IsContent (j : Journal) (head : List ℕ) (start : Spot) (number : ℕ) (history before surely : List (List ℕ)) (c : Content) : Type 0 where
   pub rest : List (List ℕ)
   pub has : c.commands ≡ surely ++ rest
@@ -177,8 +178,8 @@ promises j Power Execute c = cond (j.is_entered c) false true
 promises j Power Renew c = true
 promises j force job c = false
 
--- The holder has to write the bytes that it does not know to be synced, and then the entry of its
--- command, if the command has one.
+-- The holder has to write the bytes that may not be synced yet (`unsure`), and then the entry of
+-- its command, if the command has one.
 pub record Puts (j : Journal) (f : File) (job : Job) (k : Holder) : Type 0 where
   pub all : HasAll j f k.force k.file k.place k.unsure
   pub quiet : promises j Power job k.command ≡ false

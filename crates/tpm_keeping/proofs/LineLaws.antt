@@ -1,4 +1,4 @@
--- The journal of lines satisfies a keeper's requirements.
+-- The small journal of `specs/Lines` satisfies a keeper's requirements.
 use Rattle.std.proofs.Common.{◌≡◌, ◌⊎◌, ℕ, zero, suc, ◌+◌, ◌<◌, true, List, [], ◌∷◌, ◌++◌, length, take, Option, Some, None, refl, sym, ap, ◌∙◌, arith, inl, inr, append_assoc, length-append}
 use Rattle.std.proofs.lemmas.List.{append-nil}
 use Rattle.tpm_keeping.specs.Journal.{IsJournal, Spot, entries, stepped, trail}

@@ -1,5 +1,5 @@
--- Each step of a holder preserves the invariant of the folder and of all holders. The step may be
--- done, may fail, or may be interrupted by the holder's death.
+-- Each step of a holder preserves the invariant of the folder and of all holders. The step may
+-- succeed, may fail, or may be interrupted by the holder's death.
 use Rattle.std.proofs.Common.{◌≡◌, ℕ, zero, suc, ◌+◌, ◌<◌, ◌≤◌, ◌==◌, ◌&&◌, Bool, true, false, cond, List, [], ◌∷◌, ◌++◌, length, take, drop, min, Some, None, Option, refl, sym, ap, ◌∙◌, subst, arith, inl, inr, append_assoc, length-append}
 use Rattle.std.specs.List.{AllByRecursion}
 use Rattle.std.specs.Prelude.{nat_le}
@@ -119,7 +119,7 @@ pub dropped_fits : (j : Journal) (s : Shared) (p : ℕ) (k : Holder) (f : Fault)
 dropped_fits j s p k f next lock =
     record { lock = λ _. lock; now = knows_nothing j s.file k.force; below = next; calm = λ e. absurd cc }
 
--- ---- looking
+-- ---- looking up the journal's file
 
 begins_fits : (job : Job) (j : Journal) (s : Shared) (p : ℕ) (k : Holder) → IsJournal j → k.job ≡ job → s.file.number ≡ 0 → 0 < s.next → (s.locked ≡ true) × (s.locker ≡ p)
     → k.file < s.next → Calm (sight s) k.settled k.file → Fits j s p (begins j job k)
@@ -183,7 +183,7 @@ looks_fits j s p k more laws still lock below calm knows = by (s.file.number == 
         let named' : 0 < s.file.number = grind (arith, nat_tests) in
         looked_fits j s p k laws still lock below calm knows named'
 
--- ---- reading
+-- ---- reading the file
 
 -- the holder after it has read these additional bytes
 abbrev pub more_read : Holder → List ℕ → Holder
@@ -225,10 +225,10 @@ has_read_fits j s p k [] n laws still lock below calm r is = dropped_fits j s p 
 has_read_fits j s p k (b ∷ bs) n laws still lock below calm r is =
     reads_on_fits j s p (more_read k (b ∷ bs)) laws still lock below calm (more_reading j s k (b ∷ bs) n r is)
 
--- ---- putting
+-- ---- writing to the file
 
--- The next command that is appended to the history gets a later position than all responses that
--- are not gone.
+-- If a command is appended to the history, its position is later than the positions of all
+-- responses that are not gone.
 each_before : (j : Journal) (origin : List ℕ) (history : List (List ℕ)) (answers : List Answer) (n : ℕ) → length history < n → Each j origin history answers
     → AllByRecursion (λ a. a.is_gone ≡ false → a.place < n) answers
 each_before j origin history [] n le h = tt
@@ -289,8 +289,8 @@ put_all j s k t new false word a out number text forced' =
       sure = λ always. absurd (let e : false ≡ true = sym word ∙ always in cc);
     }
 
--- after a complete write by a holder that syncs before each response, no dropped bytes are missing
--- from the file
+-- if a holder that syncs before each response has written its whole output, no dropped bytes are
+-- missing from the file
 undropped : (s : Shared) (k : Holder) → (is_always k.force ≡ true → sure k ≤ s.file.forced) → is_always k.force ≡ true → put_dropped s.file k (length k.out) ≡ false
 undropped s k le word =
     let low = le word in
@@ -348,7 +348,7 @@ put_fits j s p k still lock below calm puts = by (is_always k.force) refl
         })
         (λ yes'. absurd (quietly j k.force k.job k.command puts.quiet word yes'))
 
--- ---- syncing
+-- ---- syncing the file
 
 pub forced_fits : (j : Journal) (s : Shared) (p : ℕ) (k : Holder) → Still j s → (s.locked ≡ true) × (s.locker ≡ p) → k.file < s.next → Calm (sight s) k.settled k.file
     → StaysOf j (sight s) k → s.file.is_dropped ≡ false → Fits j (record s { file = forced s.file }) p (record k { phase = settles k; unsure = [] })
@@ -373,7 +373,7 @@ forced_fits j s p k still lock below calm stays none =
     })
     (λ _. record { all = omega (arith, far, on); past = past })
 
--- ---- naming
+-- ---- naming the new file
 
 -- If the job executed a command, this command is the last command of the history after the new
 -- journal gets its name.

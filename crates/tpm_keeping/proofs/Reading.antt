@@ -22,8 +22,8 @@ pub record IsCaughtUp (j : Journal) (s : Shared) (k : Holder) : Type 0 where
   pub is : found j k.device k.read ≡ Some (spot_of j s.file, taken)
   pub all : HasAll j s.file k.force k.file (k.place + taken) (cond (is_always k.force) (k.unsure ++ take taken k.read) [])
 
--- Only a holder that syncs before each response remembers the bytes that it does not know to be
--- synced. After the holder has executed the whole file, `HasAll` holds in both cases.
+-- Only a holder that syncs before each response remembers which bytes may not be synced yet. For
+-- every holder, `HasAll` holds after the holder has executed the whole file.
 unsure_by : (j : Journal) (s : Shared) (k : Holder) (place : ℕ) (front unsure : List ℕ) (b : Bool) → is_always k.force ≡ b
     → k.file ≡ s.file.number → 0 < s.file.number → body j s.file ≡ front ++ unsure → place ≡ length (body j s.file)
     → (is_always k.force ≡ true → length front ≤ s.file.forced)

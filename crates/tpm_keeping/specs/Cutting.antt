@@ -1,5 +1,5 @@
--- A keeper that cuts off damage: if a call finds a damaged journal, the keeper makes a cut and then
--- begins the call again.
+-- A keeper that cuts off damage: if a call finds a damaged journal, the keeper cuts off the damage
+-- with the job `Cut`, and then begins the call again.
 use Rattle.std.specs.Prelude.{◌≡◌, ℕ, ◌⊎◌, Bool, true, false, List, []}
 use Rattle.tpm_keeping.specs.Holder.{Holder, Told, asked, next_of, rests}
 use Rattle.tpm_keeping.specs.Journal.{Journal, Spot}
@@ -14,14 +14,15 @@ use Rattle.tpm_keeping.specs.declared.holder.Job.TheVariants.{Show, Cut}
 use Rattle.tpm_keeping.specs.declared.holder.Phase.{Phase}
 use Rattle.tpm_keeping.specs.declared.holder.Phase.TheVariants.{Ended}
 
--- A holder, and the call that begins again after a cut.
+-- A holder, and the call that begins again after damage was cut off.
 pub record Caller : Type 0 where
   pub holder : Holder
   -- what happens if the call finds damage
   pub on_damage : OnDamage
-  -- the job with which the call begins again after a cut
+  -- the job with which the call begins again after damage was cut off
   pub job : Job
-  -- the command with which the call begins again after a cut; empty unless damage is to be cut off
+  -- the command with which the call begins again after damage was cut off; empty unless damage is
+  -- to be cut off
   pub command : List ℕ
 
 abbrev pub caller_of : {D : Type 0} → (D → Spot) → CuttingKeeper D → Caller
@@ -47,8 +48,8 @@ called true job command k = record {
 called false job command k =
     record { holder = asked (rests k) job command; on_damage = Ends; job = job; command = [] }
 
--- the keeper after a call ended: if the call found damage that has to be cut off, a cut follows,
--- and after the cut the call begins again
+-- the keeper after a call ended. If the call found damage that has to be cut off, the job `Cut`
+-- follows; after this job, the call begins again
 abbrev pub goes_on_in : OnDamage → Phase → Caller → Caller
 goes_on_in IsCut (Ended (ending.Failed fault.Damaged)) c =
     record c { holder = asked c.holder Cut []; on_damage = BeginsAgain }

@@ -27,8 +27,8 @@ pub record Holder : Type 0 where
   pub file : ℕ
   -- the number of this file's bytes that the device has executed
   pub place : ℕ
-  -- the last executed bytes, if the holder does not know them to be synced. Only a holder that
-  -- syncs before each response stores these bytes
+  -- the last executed bytes, if the holder does not know whether they are synced. Only a holder
+  -- that syncs before each response stores these bytes
   pub unsure : List ℕ
   -- the size of the file
   pub size : ℕ
@@ -138,9 +138,9 @@ settles k = cond (k.settled || is_never k.force) (Leaving ending.Done) Settling
 abbrev pub is_grown : Journal → Holder → (p : Spot) → Bool
 is_grown j k p = nat_le k.limit k.place && nat_le (length (j.head p.state)) (k.place / 2)
 
--- the holder after it executed a command that has an entry. It has to write the bytes that it does
--- not know to be synced, followed by the entry. If the journal has grown, it has to write a new
--- journal that begins with the entry
+-- the holder after it executed a command that has an entry. It has to write the bytes that may not
+-- be synced yet, followed by the entry. If the journal has grown, it has to write a new journal
+-- that begins with the entry
 abbrev pub enters : Journal → Holder → (p : Spot) → (grown : Bool) → Holder
 enters j k p true = record k {
   phase = Making;
@@ -208,9 +208,9 @@ caught_up k taken = record k {
   read = [];
 }
 
--- the holder if the bytes that it read are damaged. A cut that has read the whole file begins a new
--- journal in the state after the undamaged beginning, if there is one. Otherwise the call fails,
--- and the file is unchanged
+-- the holder if the bytes that it read are damaged. If the job is `Cut`, the holder has read the
+-- whole file, and the file has an undamaged beginning, the holder begins a new journal in the state
+-- after that beginning. Otherwise the call fails, and the file is unchanged
 abbrev pub salvages_of : Journal → Holder → Option (Spot × ℕ) → Holder
 salvages_of j k None = dropped fault.Damaged k
 salvages_of j k (Some salvaged) = renews j (caught_up k salvaged.1) salvaged.0.state []
@@ -234,7 +234,7 @@ is_read k = nat_le k.size k.seen
 abbrev pub reads_on : Journal → Holder → Holder
 reads_on j k = cond (is_read k) (finishes j k (found j k.device k.read)) (goes Reading k)
 
--- the holder after a read; a read of no bytes means that the file was truncated
+-- the holder after a read; an empty read means that the file was truncated
 abbrev pub has_read : Journal → Holder → List ℕ → Holder
 has_read j k [] = dropped fault.Read k
 has_read j k bytes = reads_on j (record k { seen = k.seen + length bytes; read = k.read ++ bytes })
@@ -255,7 +255,8 @@ looked j k file size =
       size = size;
     }))
 
--- the holder if there is no journal: it begins a journal if that is its job; otherwise, it fails
+-- the holder if there is no journal: it begins a journal if that is its job; otherwise, the call
+-- fails
 abbrev pub begins_of : Journal → Holder → Option (List ℕ) → Holder
 begins_of j k None = dropped fault.Unreadable k
 begins_of j k (Some s) = renews j (record k { place = 0 }) s []

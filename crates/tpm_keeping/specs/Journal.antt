@@ -1,7 +1,7 @@
 -- A journal, as a keeper sees it. A state is a list of bytes that represents a whole device. A
 -- command is a list of bytes that encodes the client's bytes, the locality, the time and random
--- bytes. Most commands have an entry. A power cycle has no entry, and neither does the restoring of
--- a snapshot: a new journal begins in the state after them.
+-- bytes. Most commands have an entry. A power cycle has no entry, and neither does restoring a
+-- snapshot: after either, a new journal begins in the resulting state.
 use Rattle.std.specs.Prelude.{◌≡◌, ℕ, ◌+◌, ◌-◌, ◌<◌, Bool, true, cond, List, [], ◌∷◌, ◌++◌, length, nat_le, take, Option, Some}
 use Rattle.std.specs.List.{AllByRecursion}
 
@@ -30,7 +30,7 @@ pub record Journal : Type 0 where
   pub link : Spot → List ℕ → ℕ
   -- the head of a journal that begins in a state
   pub head : List ℕ → List ℕ
-  -- the checksum after the head of a state, to which the first entry is chained
+  -- the checksum after the head for a state, to which the first entry is chained
   pub first : List ℕ → ℕ
   -- the position after a head, which may have a format that is no longer written
   pub after_head : List ℕ → Option Spot
@@ -43,8 +43,8 @@ pub record Journal : Type 0 where
   pub salvaged : List ℕ → Option (Spot × ℕ)
   -- whether an incomplete write of an entry at this position can leave these bytes
   pub is_torn : Spot → List ℕ → Bool
-  -- whether a crash of the host may leave these bytes, such as zeros, at the end of a file; no
-  -- entry looks like them
+  -- whether a crash of the host may leave these bytes, such as zeros, at the end of a file; they
+  -- never look like an entry
   pub is_litter : List ℕ → Bool
 
 -- the state after these commands are executed, one after another
@@ -52,7 +52,7 @@ abbrev pub run : Journal → List ℕ → List (List ℕ) → List ℕ
 run j s [] = s
 run j s (c ∷ cs) = run j (j.after s c) cs
 
--- the position after the head of a state
+-- the position after the head for a state
 abbrev pub started : Journal → List ℕ → Spot
 started j s = record { state = s; chain = j.first s }
 
@@ -65,7 +65,7 @@ abbrev pub trail : Journal → Spot → List (List ℕ) → Spot
 trail j p [] = p
 trail j p (c ∷ cs) = trail j (stepped j p c) cs
 
--- the entries of commands, one after another
+-- the entries for commands, one after another
 abbrev pub entries : Journal → Spot → List (List ℕ) → List ℕ
 entries j p [] = []
 entries j p (c ∷ cs) = j.entry p c ++ entries j (stepped j p c) cs

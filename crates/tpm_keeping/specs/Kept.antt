@@ -12,8 +12,8 @@ use Rattle.tpm_keeping.specs.declared.holder.End.TheVariants as ending
 use Rattle.tpm_keeping.specs.declared.holder.Phase.{Phase}
 use Rattle.tpm_keeping.specs.declared.holder.Phase.TheVariants.{Ended, Locking, Looking, Reading, Putting, Forcing, Making, Naming, Settling, Leaving}
 
--- The history has the command of a response at the response's position. The device that executed
--- all commands before this position returns this response.
+-- At the response's position, the history contains the command that the response answers. The
+-- device that executed all commands before this position returns this response.
 pub record IsTrue (j : Journal) (origin : List ℕ) (history : List (List ℕ)) (a : Answer)
     : Type 0 where
   pub before : List (List ℕ)
@@ -22,8 +22,8 @@ pub record IsTrue (j : Journal) (origin : List ℕ) (history : List (List ℕ)) 
   pub place : a.place ≡ length before + 1
   pub response : a.response ≡ j.response (run j origin before) a.command
 
--- each response that is not gone has a later position in the history than all earlier responses
--- that are not gone
+-- a response is gone if a crash has removed its command from the history. Each response that is not
+-- gone has a later position in the history than all earlier responses that are not gone
 abbrev pub Ascend : List Answer → Type 0
 Ascend [] = Unit {0}
 Ascend (a ∷ before) =
@@ -59,7 +59,7 @@ KeepsPromises old new =
 
 -- ---- one call
 
--- the progress of a call in each phase
+-- a number for each phase of a call, which increases as the call progresses
 abbrev pub rank : Phase → ℕ
 rank Locking = 0
 rank Looking = 1
@@ -95,8 +95,8 @@ end_with j job c = ending.Done
 abbrev pub end_of : Journal → File → Job → (command : List ℕ) → End
 end_of j f job c = cond (f.number == 0) (end_without j job c) (end_with j job c)
 
--- for each number in the list, an event in which the process does its next task. A read returns one
--- byte, and at most this number of further bytes
+-- one event for each number in the list: the process does its next task. A read returns one byte,
+-- and at most this number of further bytes
 abbrev pub turns : (p : ℕ) → (mores : List ℕ) → List Event
 turns p mores = map (λ (more : ℕ). Does p more) mores
 
@@ -104,7 +104,7 @@ turns p mores = map (λ (more : ℕ). Does p more) mores
 abbrev pub HasEnded : World → (p : ℕ) → End → Type 0
 HasEnded w p e = ((w.holders p).phase ≡ Ended e) × (w.shared.locked ≡ false)
 
--- ---- a cut
+-- ---- the job `Cut`
 
 -- the bytes of the file that a holder has read but not executed, including the bytes that the host
 -- now reports
@@ -112,8 +112,8 @@ abbrev pub text_read : Phase → Holder → Told → List ℕ
 text_read Reading k (Bytes bytes) = k.read ++ bytes
 text_read phase k told = []
 
--- The first `place` of these bytes open in some state, and the holder has to write the head of that
--- state.
+-- The first `place` of these bytes open in some state, and the holder has to write the head for
+-- that state.
 pub record KeepsFront (j : Journal) (text : List ℕ) (k : Holder) : Type 0 where
   pub spot : Spot
   pub is : j.opened (take k.place text) ≡ Some (spot, k.place)

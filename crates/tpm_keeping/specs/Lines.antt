@@ -1,8 +1,8 @@
 -- A small journal, which shows that the requirements of a keeper can be satisfied. A line consists
--- of its content, each byte increased by two, and a 1 at the end. Therefore no byte of a line is
--- zero, and a line without its last byte is not a line. A state consists of all contents that were
--- executed. A command that begins with a zero has no entry, and the empty list is not a command. A
--- journal opens if it begins with a line, and salvaging it gives the same device.
+-- of its content, with each byte increased by two, and a 1 at the end. Therefore no byte of a line
+-- is zero, and a line without its last byte is not a line. A state consists of all contents that
+-- were executed. A command that begins with a zero has no entry, and the empty list is not a
+-- command. A journal opens if it begins with a line, and salvaging it gives the same device.
 use Rattle.std.specs.Prelude.{ℕ, zero, suc, ◌+◌, Bool, true, false, List, [], ◌∷◌, ◌++◌, length, Option, Some, None}
 use Rattle.tpm_keeping.specs.Journal.{Journal, Spot}
 

@@ -22,7 +22,7 @@
 -- The model leaves out:
 -- - What processes read after a failed sync, if the system then shows older bytes. A holder opens
 --   the file again if it is shorter, but does not notice other bytes in the same place.
--- - A write that left a whole entry, was reported as failed, and is cut back.
+-- - A write that left a whole entry, was reported as failed, and is undone by truncation.
 -- - A crash that mixes blocks of two contents.
 -- - A disk that reports a sync that it did not do.
 -- - A file system that loses bytes of a file and keeps later bytes, as ext4 and XFS may.
@@ -32,7 +32,7 @@
 -- - The folder's own name in its parent, which hosts sync with the folder.
 -- - The finished journals, which hosts link before a rename.
 -- - The content of a command, such as its time and its random bytes.
--- - Network file systems, on which locks and renames are seen late.
+-- - Network file systems, on which processes see locks and renames late.
 -- - Two hosts on one folder.
 -- - The removal of the lock's file while a holder has the lock.
 -- - Anybody else who writes to the folder.
@@ -90,7 +90,7 @@ pub record Shared : Type 0 where
   pub origin : List ℕ
   -- the file that is named `journal`
   pub file : File
-  -- the files that had this name since the folder was last synced
+  -- the files that were named `journal` since the folder was last synced
   pub older : List File
   -- the number of the next file that is created
   pub next : ℕ
@@ -282,8 +282,8 @@ promise j Power Execute c s = cond (j.is_entered c) s.promised (length s.history
 promise j Power Renew c s = length s.history
 promise j force job c s = s.promised
 
--- the folder after a call ends and its holder releases the lock. If the call succeeded, its promise
--- is made, and the response of a command is sent
+-- the folder after a call ends and its holder releases the lock. If the call succeeded, the
+-- commands that it promises are counted as promised, and the response of a command is sent
 abbrev pub left : Journal → End → Shared → Holder → Shared
 left j ending.Done s k = record s {
   locked = false;
@@ -353,8 +353,8 @@ left_of j f c count litter = record {
   is_dropped = false;
 }
 
--- the responses after a crash: a response is gone if its command is not among the first `count`
--- commands
+-- the responses after a crash: a response is marked as gone if its command is not among the first
+-- `count` commands
 abbrev pub within : ℕ → List Answer → List Answer
 within count [] = []
 within count (a ∷ answers) =

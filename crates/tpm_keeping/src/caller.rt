@@ -17,13 +17,13 @@ use std::mem;
 pub enum OnDamage {
     /// The call ends with the fault.
     Ends,
-    /// If the call finds damage, a cut follows.
+    /// The damage is cut off, and then the call begins again.
     IsCut,
     /// The damage is being cut off. Then the call begins again.
     BeginsAgain,
 }
 
-/// A keeper, and the call that begins again after a cut.
+/// A keeper, and the call that begins again after damage was cut off.
 #[derive(Drop)]
 pub struct CuttingKeeper<D: Device> {
     pub(crate) keeper: Keeper<D>,
@@ -34,8 +34,8 @@ pub struct CuttingKeeper<D: Device> {
 }
 
 impl<D: Device> CuttingKeeper<D> {
-    /// Creates a keeper that has seen no file. A journal is restarted when its size has reached
-    /// both `limit` and twice the size of a new journal's head.
+    /// Creates a keeper that has not looked at any file yet. The keeper restarts a journal when the
+    /// journal's size has reached both `limit` and twice the size of a new journal's head.
     pub fn new(alloc: Global, force: Force, limit: u64) -> CuttingKeeper<D>
         ensures { caller_of D.spot result ≡ idle (newborn force limit) }
     {
@@ -78,7 +78,7 @@ impl<D: Device> CuttingKeeper<D> {
         self.keeper.ask()
     }
 
-    /// Returns the keeper's current or last job, which is the job of the call or a cut.
+    /// Returns the keeper's current or last job: either the job of the call, or `Cut`.
     pub fn job(&self) -> Job
         ensures { result ≡ (caller_of D.spot self.now).holder.job }
     {
@@ -92,7 +92,7 @@ impl<D: Device> CuttingKeeper<D> {
         self.keeper.out()
     }
 
-    /// Returns the response of the last call, if that call is done.
+    /// Returns the response of the last call, if that call succeeded.
     pub fn response(&self) -> &[u8]
         ensures { result.now ≡ (caller_of D.spot self.now).holder.response }
     {
@@ -112,8 +112,8 @@ impl<D: Device> CuttingKeeper<D> {
         next
     }
 
-    /// If the call that ended found damage that has to be cut off, begins a cut. If a cut was done,
-    /// begins the original call again.
+    /// If the call that ended found damage that has to be cut off, begins the job `Cut`. If this
+    /// job succeeded, begins the original call again.
     fn goes_on(&mut self)
         ensures { caller_of D.spot self.new ≡ goes_on (caller_of D.spot self.old) }
     {

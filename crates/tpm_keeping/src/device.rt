@@ -29,7 +29,7 @@ pub trait Device: Drop + Sized {
         ensures { IfOk result (λ begun. MatchOption begun (journal.begun seed.now ≡ None)
             (λ device. journal.begun seed.now ≡ Some (spot device).state)) };
 
-    /// Opens the device of a journal, and returns it with the number of bytes executed. Returns
+    /// Opens a device from a journal, and returns it with the number of bytes executed. Returns
     /// None if the bytes are not a journal.
     fn open(alloc: Global, text: &[u8]) -> Result<Option<(Self, usize)>, Exhausted>
         ensures { IfOk result (λ opened. MatchOption opened (journal.opened text.now ≡ None)
@@ -42,8 +42,8 @@ pub trait Device: Drop + Sized {
             (journal.followed (spot self.old) text.now ≡ None)
             (λ taken. journal.followed (spot self.old) text.now ≡ Some (spot self.new, taken))) };
 
-    /// Returns the device of the undamaged beginning of a damaged journal, and the number of bytes
-    /// executed. Returns None if there is no such beginning.
+    /// Returns the device after the undamaged beginning of a damaged journal, and the number of
+    /// bytes executed. Returns None if the journal has no undamaged beginning.
     fn salvage(alloc: Global, text: &[u8]) -> Result<Option<(Self, usize)>, Exhausted>
         ensures { IfOk result (λ salvaged. MatchOption salvaged (journal.salvaged text.now ≡ None)
             (λ found. journal.salvaged text.now ≡ Some (spot found.0, found.1))) };
@@ -86,7 +86,8 @@ pub trait Device: Drop + Sized {
         ensures { OnOk result (out.new.items
             ≡ out.old.items ++ journal.head (spot self.now).state) };
 
-    /// Does what `show` does; the device's next entry continues the journal with this head.
+    /// Like `show`, but the device's next entry then continues the journal that begins with this
+    /// head.
     fn renew(&mut self, out: &mut Vec<u8>) -> Result<(), Exhausted>
         ensures spot { OnOk result (spot self.new ≡ started journal (spot self.old).state) }
         ensures head { OnOk result (out.new.items

@@ -4,7 +4,7 @@ ghost use Rattle.std.specs.Prelude.{◌≡◌};
 ghost use Rattle.tpm_keeping.specs.Holder.{fault_of};
 ghost use Rattle.tpm_keeping.specs.Sentence.{sentence};
 
-/// When a holder syncs its writes to the disk: its `force` setting, also called its word of force.
+/// A holder's `force` setting, which determines when the holder syncs its writes to the disk.
 #[derive(Clone, Copy, PartialEq, Eq)]
 pub enum Force {
     /// Only when the holder writes a new journal.
@@ -68,9 +68,9 @@ pub enum Fault {
 }
 
 impl Fault {
-    /// Returns the message for the fault, to be written after a path. The path is the lock's for
-    /// `Lock`, the new journal's for `Make` and `Name`, the folder's for `Settle`, and the
-    /// journal's for all other faults.
+    /// Returns the message for the fault, to be written after a path. The path is that of the lock
+    /// for `Lock`, of the new journal for `Make` and `Name`, of the folder for `Settle`, and of the
+    /// journal for all other faults.
     pub fn sentence(self) -> &'static str
         ensures { result.now ≡ sentence self }
     {

@@ -79,8 +79,8 @@ pub struct Keeper<D: Device> {
 }
 
 impl<D: Device> Keeper<D> {
-    /// Creates a keeper that has seen no file. A journal is restarted when its size has reached
-    /// both `limit` and twice the size of a new journal's head.
+    /// Creates a keeper that has not looked at any file yet. The keeper restarts a journal when the
+    /// journal's size has reached both `limit` and twice the size of a new journal's head.
     pub fn new(alloc: Global, force: Force, limit: u64) -> Keeper<D>
         ensures { holder_of D.spot result ≡ newborn force limit }
     {
@@ -132,7 +132,7 @@ impl<D: Device> Keeper<D> {
         &self.out
     }
 
-    /// Returns the response of the last call, if that call is done.
+    /// Returns the response of the last call, if that call succeeded.
     pub fn response(&self) -> &[u8]
         ensures { result.now ≡ self.now.response.items }
     {
@@ -146,8 +146,8 @@ impl<D: Device> Keeper<D> {
         self.place.saturating_sub(self.unsure.len() as u64)
     }
 
-    /// Begins a call. A call that is still in progress is dropped. Before that, the host that
-    /// interrupted the call, or a fork of that host, has to close the lock's file.
+    /// Begins a call. A call that is still in progress is dropped, but first the host that
+    /// interrupted that call, or a fork of this host, has to close the lock's file.
     pub fn begin(&mut self, job: Job, command: &[u8]) -> Result<(), Exhausted>
         ensures ok { OnOk result (holder_of D.spot self.new
             ≡ asked (rests (holder_of D.spot self.old)) job command.now) }

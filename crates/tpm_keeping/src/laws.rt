@@ -1,4 +1,4 @@
-//! States what holds after every run of all holders.
+//! Laws about every run of the holders.
 
 ghost use Rattle.std.specs.Prelude.{◌≡◌, ◌+◌, ◌<◌, ◌≤◌, ◌∷◌, ℕ, Bool, List, None, false, length, true};
 ghost use Rattle.std.specs.List.{AllByRecursion};
@@ -33,8 +33,8 @@ pub fn calls_advance()
 {}
 
 /// A call ends if its host does all tasks and memory suffices. The call succeeds, unless there is
-/// no journal and none can begin, or the bytes to execute do not encode a command. The call takes
-/// at most six steps, plus one for each byte of the file, and then the lock is free.
+/// no journal and none can be created, or the bytes to execute do not encode a command. The call
+/// takes at most six steps, plus one for each byte of the file, and then the lock is free.
 pub fn calls_end()
     ensures { (j : Journal) (start : World) (events : List Event) (p : ℕ) (e : End) (job : Job)
         (command : List ℕ) (mores : List ℕ) → IsJournal j → IsStart j start
@@ -53,7 +53,7 @@ pub fn promises_are_kept()
 {}
 
 /// If all commands of the journal at the start and all requested commands have a property, then all
-/// commands of the history have it. Therefore, nothing else is executed.
+/// commands of the history have it. Therefore, no other command is executed.
 pub fn only_what_was_asked()
     ensures { (j : Journal) (start : World) (events : List Event) (test : List ℕ → Bool)
         → IsJournal j → IsStart j start → AllByRecursion (λ c. test c ≡ true) start.shared.history
@@ -72,8 +72,9 @@ pub fn snapshots_are_true()
         (run j (happen j events start).shared.origin (happen j events start).shared.history) }
 {}
 
-/// A cut replaces a damaged journal with the head of the state after a prefix of the journal. The
-/// size of this prefix is the number of bytes that the keeper then reports as executed.
+/// The job `Cut` replaces a damaged journal with the head for the state after a prefix of that
+/// journal. The size of this prefix is the number of bytes that the keeper then reports as
+/// executed.
 pub fn cuts_keep_a_front()
     ensures { (j : Journal) (k : Holder) (told : Told) → IsJournal j → k.job ≡ Cut
         → rank k.phase < 3 → (k.device ≡ None → k.place ≡ 0)
@@ -82,8 +83,8 @@ pub fn cuts_keep_a_front()
 {}
 
 /// A step of a keeper that cuts off damage is a step of an ordinary keeper, possibly followed by a
-/// request for another call. Therefore, whatever holds after every run of all holders also holds
-/// with cuts.
+/// request for another call. Therefore, every law about the runs of holders also holds if damage is
+/// cut off.
 pub fn cuts_are_calls()
     ensures { (j : Journal) (c : Caller) (told : Told)
         → IsOrIsAsked (next_of j c.holder told) (next_call j c told).holder }

@@ -110,9 +110,9 @@ impl<D: Device> Keeper<D> {
         self.acts(device)
     }
 
-    /// Handles damage in the bytes that were read, which are the whole file. A cut begins a new
-    /// journal in the state after the undamaged beginning, if there is one. Otherwise the call
-    /// fails.
+    /// Handles damage in the bytes that were read, which are the whole file. If the file has an
+    /// undamaged beginning, the job `Cut` begins a new journal in the state after that beginning.
+    /// Otherwise the call fails.
     fn salvages(&mut self) -> Result<(), Exhausted>
         ensures ok { OnOk result (holder_of D.spot self.new ≡ salvages D.journal self.old.job None
             (holder_of D.spot self.old)) }
@@ -134,7 +134,8 @@ impl<D: Device> Keeper<D> {
     }
 
     /// Records that the first `taken` of the bytes that were read are executed. A holder that syncs
-    /// before each response remembers these bytes, because it does not know them to be synced.
+    /// before each response remembers these bytes, because it does not know whether they are
+    /// synced.
     fn caught_up(&mut self, taken: usize) -> Result<(), Exhausted>
         ensures ok { OnOk result (holder_of D.spot self.new
             ≡ caught_up (holder_of D.spot self.old) taken) }
@@ -212,9 +213,9 @@ impl<D: Device> Keeper<D> {
         Ok(head.len() as u64 <= self.place / 2)
     }
 
-    /// Executes a command that has an entry. The keeper then has to write the bytes that the holder
-    /// does not know to be synced, followed by the entry. If the journal has grown, it has to write
-    /// a new journal that begins with the entry.
+    /// Executes a command that has an entry. The keeper then has to write the bytes that may not be
+    /// synced yet, followed by the entry. If the journal has grown, it has to write a new journal
+    /// that begins with the entry.
     fn enters(&mut self, mut device: D) -> Result<(), Exhausted>
         requires out { self.old.out.items ≡ [] }
         requires response { self.old.response.items ≡ [] }
@@ -269,7 +270,7 @@ impl<D: Device> Keeper<D> {
     }
 
     /// Stores the device; the call adds no entry. A holder that syncs before each response first
-    /// has to write and sync the bytes that it does not know to be synced.
+    /// has to write and sync the bytes that may not be synced yet.
     fn shows(&mut self, device: D) -> Result<(), Exhausted>
         requires out { self.old.out.items ≡ [] }
         ensures ok { OnOk result (holder_of D.spot self.new ≡ shows (holder_of D.spot self.old)

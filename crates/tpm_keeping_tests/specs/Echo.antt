@@ -1,7 +1,7 @@
 -- A device without a state, whose response to each command is the command itself. Its journal has
 -- one byte for the head and one byte, 101, for each entry. The journal is damaged if its first
--- entry is another byte. A command that begins with a zero has no entry, and empty bytes are not a
--- command.
+-- entry is another byte. A command that begins with a zero has no entry, and the empty list is not
+-- a command.
 use Rattle.std.specs.Prelude.{ℕ, zero, suc, ◌==◌, Bool, true, false, cond, List, [], ◌∷◌, length, Option, Some, None}
 use Rattle.tpm_keeping.specs.Journal.{Journal, Spot}
 

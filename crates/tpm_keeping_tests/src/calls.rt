@@ -31,7 +31,7 @@ fn ends<R: Abort>(
     assert!(rt; folder.journal.as_slice() == journal);
 }
 
-/// Checks that a call is done after exactly these tasks, and leaves this journal.
+/// Checks that a call succeeds after exactly these tasks, and leaves this journal.
 fn check<R: Abort>(
     rt: &R,
     folder: &mut Folder,
@@ -202,8 +202,8 @@ fn a_cut_of_a_whole_journal_changes_nothing(rt: HostRuntime) {
     answers(&rt, &always, b"");
 }
 
-// The undamaged beginning of this journal is its head. Only a cut continues from there, in a new
-// journal.
+// The undamaged beginning of this journal is its head. Only the job `Cut` continues from there, in
+// a new journal.
 #[test]
 fn a_cut_begins_a_damaged_journal_anew(rt: HostRuntime) {
     let mut folder = Folder::new(rt.alloc());
@@ -229,8 +229,8 @@ fn a_cut_begins_a_damaged_journal_anew(rt: HostRuntime) {
     check(&rt, &mut folder, &mut power, Job::Execute, b"LKPU", b"he");
 }
 
-// The file no longer matches the device in memory, so the first cut drops the device. The second
-// cut reads the file.
+// The file no longer matches the device in memory, so the first `Cut` drops the device. The second
+// `Cut` reads the file.
 #[test]
 fn a_device_in_memory_is_dropped_before_a_cut(rt: HostRuntime) {
     let mut folder = Folder::new(rt.alloc());

@@ -12,9 +12,10 @@ const STEPS: u32 = 40;
 /// The number of bytes that are read at once.
 const PART: usize = 3;
 
-/// The journal; the new file that has no name yet; the size of the part of the old journal that had
-/// been executed when the new file was written; and a letter for each task that the host did in the
-/// last call. An exclamation mark means that the keeper ran out of memory.
+/// A folder contains the journal, and the new file that has no name yet. `whole` is the size of the
+/// part of the old journal that had been executed when the new file was written. `did` has a letter
+/// for each task that the host did in the last call; an exclamation mark means that the keeper ran
+/// out of memory.
 #[derive(Drop)]
 pub struct Folder {
     pub number: u64,
@@ -73,7 +74,7 @@ impl Folder {
         Ok(End::Failed(Fault::Idle))
     }
 
-    /// Records that the keeper ran out of memory.
+    /// If the keeper ran out of memory, records an exclamation mark.
     fn marks(&mut self, went_on: bool) -> Result<(), AllocError> {
         if !went_on {
             self.did.push(b'!')?;

@@ -19,8 +19,8 @@ use Rattle.tpm_kept_journal.proofs.texts.NextAt.{damage_tells, torn_tells}
 pub none_more : (sum : ℕ) (text : List ℕ) → entry_at sum text ≡ None → entries_size sum text ≡ 0
 none_more sum text none = ap (λ (es : List PlainEntry). length (entries_text sum es)) (entries_again sum [] text tt none)
 
--- If the bytes begin with an entry, the size of all entries at their start is the size of this
--- entry plus the size of the entries after it.
+-- If the bytes begin with an entry, the size of the entries at their start is the size of this
+-- entry plus the size of the entries that follow.
 pub one_more : (sum size : ℕ) (text : List ℕ) (e : PlainEntry) → IsEntry e → size ≤ length text → take size text ≡ entry_text sum e
     → entries_size sum text ≡ size + entries_size (sum_after sum e) (drop size text)
 one_more sum size text e is within front =
@@ -41,7 +41,9 @@ entry_some sum size text e within front =
 
 -- ---- reading the bytes entry by entry
 
--- The first `taken` bytes are entries, and the bytes after them begin with the other entries.
+-- The size of the entries at the start of the bytes is `taken` plus the size of the entries after
+-- the first `taken` bytes. `sum` is the checksum before the bytes, and `after` is the checksum
+-- after the first `taken` bytes.
 abbrev pub Takes : (sum after taken : ℕ) → (text : List ℕ) → Type 0
 Takes sum after taken text = entries_size sum text ≡ taken + entries_size after (drop taken text)
 

@@ -1,4 +1,4 @@
--- Decoding an encoded command or seed gives the same command or seed.
+-- Decoding an encoded command or seed gives the same command or seed again.
 use Rattle.std.proofs.Common.{◌≡◌, ◌≤◌, ◌<◌, ◌^◌, ℕ, suc, zero, Bool, true, false, List, [], ◌∷◌, ◌++◌, length, Result, Ok, refl, subst, ap, ◌∙◌, arith, le-leb, append-nil}
 use Rattle.std.specs.Int.{w8, w32, w64, to_be_bytes}
 use Rattle.tpm_bytes.specs.Reading.{AreBytes, or_fault}

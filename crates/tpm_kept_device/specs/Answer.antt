@@ -1,4 +1,4 @@
--- The response of a keeper to a TPM command.
+-- A keeper's response to a TPM command.
 use Rattle.std.specs.Prelude.{ℕ, List, length, nat_lt, Result, Ok}
 use Rattle.std.specs.Int.{w8, w16, w32}
 use Rattle.tpm_bytes.specs.Reading.{◌>>=◌, refused_if}

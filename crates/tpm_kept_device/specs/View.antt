@@ -47,7 +47,7 @@ spot_in parts = spot_of parts.journal (slot_record parts.machine.keep)
 abbrev pub seen_in : Parts → Seen
 seen_in parts = seen_of slot_record parts.machine parts.journal.layer parts.outcome
 
--- the encoding of the report of a device's latest command and of its response
+-- the report on a device's latest command, followed by the device's response
 abbrev pub answer_in : Parts → List ℕ
 answer_in parts = reported (seen_in parts)
 

@@ -14,7 +14,7 @@ use tpm_types::BUFFER_LIMIT;
 /// The answer to a TPM command.
 #[derive(Clone, Copy)]
 pub struct Answer<'a> {
-    /// The command code; 0 if none was found.
+    /// The command code; 0 if no command code was found.
     pub code: u32,
     /// The number of the check that refused the command; 0 if the command was accepted.
     pub check: u8,

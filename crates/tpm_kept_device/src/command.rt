@@ -55,7 +55,7 @@ pub(crate) enum Command<'a> {
         now_ms: u64,
         start: u64,
     },
-    /// Replaces the device by the device of a seed, for example to restore a snapshot.
+    /// Replaces the device with one that is created from a seed, for example to restore a snapshot.
     Begin {
         seed: &'a [u8],
     },
@@ -69,7 +69,7 @@ pub(crate) fn read_command<'a>(text: &'a [u8]) -> Result<Command<'a>, Malformed>
     read_any(text)
 }
 
-/// Decodes a command from a list whose elements are bytes.
+/// Decodes a command. The contract adds that the elements of `text` are bytes.
 #[tactic(auto, unfolding(tpm_kept_journal::specs::Command::command_in))]
 fn read_any<'a>(text: &'a [u8]) -> Result<Command<'a>, Malformed>
     ensures value { Gives plain_command (command_in text.now) result }

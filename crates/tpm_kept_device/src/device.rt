@@ -97,8 +97,8 @@ impl KeptDevice {
     ghost use Rattle.tpm_kept_journal.specs.Seed.{begun_in};
     ghost use Rattle.tpm_kept_device.specs.View.{state_of};
 
-    /// If the bytes encode a valid seed, replaces the device by the device of this seed. Appends a
-    /// byte that says whether the device was replaced.
+    /// If the bytes encode a valid seed, replaces the device with one that is created from this
+    /// seed. Appends a byte that says whether the device was replaced.
     fn begin_anew(&mut self, seed: &[u8], response: &mut Vec<u8>) -> Result<(), Exhausted>
         ensures state { OnOk result (state_of self.new.parts.value
             ≡ begun_or (begun_in seed.now) (state_of self.old.parts.value)) }

@@ -1,4 +1,5 @@
-//! The parts of a kept device, and what it does.
+//! The parts of a kept device ([`Parts`]), and the calls that create a device, open it, execute its
+//! commands and write its head.
 
 ghost use Rattle.std.specs.Prelude.{◌≡◌, ◌≤◌, ◌++◌, IfOk, OnOk, false, length, option_copied, replicate, take, true};
 ghost use Rattle.std.specs.Option.{MatchOption};
@@ -82,7 +83,7 @@ impl Parts {
         };
     }
 
-    /// Creates the device of a seed. Returns None if the bytes do not encode a valid seed.
+    /// Creates a device from a seed. Returns None if the bytes do not encode a valid seed.
     #[tactic(auto, unfolding(tpm_kept_journal::specs::Seed::begun_of))]
     pub fn begin(alloc: Global, seed: &[u8]) -> Result<Option<Box<Parts>>, Exhausted>
         ensures { IfOk result (BeginsAs (λ b. b.value) (begun_in seed.now)) }
@@ -149,7 +150,7 @@ impl Parts {
         let _time = self.journal.time;
     }
 
-    /// Opens the device of a journal. Returns None if the bytes are not a journal.
+    /// Opens a device from a journal. Returns None if the bytes are not a journal.
     pub fn open(alloc: Global, text: &[u8]) -> Result<Option<(Box<Parts>, usize)>, Exhausted>
         ensures { IfOk result (λ opened. MatchOption opened (opened_text text.now ≡ None)
             (λ found. opened_text text.now ≡ Some (spot_in found.0.value, found.1))) }
@@ -161,8 +162,8 @@ impl Parts {
         }
     }
 
-    /// Opens the device of the head and the complete entries at the start of a journal, and ignores
-    /// all bytes after them. Returns None if this part does not open.
+    /// Opens a device from the head and the complete entries at the start of a journal, and ignores
+    /// all bytes after them. Returns None if the head and these entries do not open as a journal.
     #[tactic(auto, unfolding(tpm_kept_journal::specs::Salvage::salvaged_text))]
     pub fn salvage(alloc: Global, text: &[u8]) -> Result<Option<(Box<Parts>, usize)>, Exhausted>
         ensures { IfOk result (λ opened. MatchOption opened (salvaged_text text.now ≡ None)
@@ -172,8 +173,9 @@ impl Parts {
         Parts::open(alloc, front)
     }
 
-    /// Turns a new device, whose secrets are zeros, into the device of a journal. If it returns
-    /// None, the device's state is unspecified.
+    /// Opens a device from a journal in place: turns this new device, whose secrets are zeros, into
+    /// the device that the journal contains. If the call returns None, the device's state is
+    /// unspecified.
     fn open_in_place(&mut self, text: &[u8]) -> Option<usize>
         requires { slot_record self.old.machine.keep ≡ manufactured (replicate 256 0) }
         ensures { MatchOption result (opened_text text.now ≡ None)
@@ -225,7 +227,7 @@ impl Parts {
         self.put_answer(response)
     }
 
-    /// Appends the report on the latest command, and its response.
+    /// Appends the report on the latest command, and the response to this command.
     fn put_answer(&self, out: &mut Vec<u8>) -> Result<(), Exhausted>
         requires { latest_drawn self.now.machine ≤ 256 }
         ensures { OnOk result (out.new.items ≡ out.old.items ++ answer_in self.now) }
@@ -243,9 +245,9 @@ impl Parts {
         }
     }
 
-    /// Executes a command that gets an entry in the journal. Returns the size of the entry, which
-    /// is in the buffer. The response is in the outcome, and the report is in the outcome and the
-    /// machine.
+    /// Executes a command that gets an entry in the journal, writes the entry to the buffer
+    /// `entry`, and returns the entry's size. The response is in `outcome`. The report is in
+    /// `outcome` and in the machine.
     fn perform(&mut self, command: &[u8]) -> usize
         requires { device_journal.is_entered command.now ≡ true }
         ensures spot { spot_in self.new ≡ stepped device_journal (spot_in self.old) command.now }
@@ -283,8 +285,8 @@ impl Parts {
         )
     }
 
-    /// Power-cycles the device. The completing layer keeps its start number, and forgets the
-    /// contexts of sessions, and its sequence objects.
+    /// Power-cycles the device. The completing layer keeps its start number, and forgets its
+    /// sequence objects and the contexts of sessions.
     #[tactic(auto, unfolding(tpm_completion::specs::Completed::passed))]
     pub fn cycle_power(&mut self, now_ms: u64)
         ensures { state_of self.new ≡ cycled_at (state_of self.old) now_ms }
@@ -327,7 +329,8 @@ impl Parts {
         Ok(text)
     }
 
-    /// Chains the next entry to a head with this checksum.
+    /// Continues the journal after a head with this checksum: the next entry is chained to this
+    /// head.
     pub fn chain_to(&mut self, sum: u64)
         ensures { spot_in self.new ≡ record (spot_in self.old) { chain = sum } }
     {

@@ -82,7 +82,7 @@ pub fn power_cycle(alloc: Global, now_ms: u64, start: u64) -> Result<Vec<u8>, Al
     Ok(text)
 }
 
-/// Encodes a command that replaces the device by the device of this seed.
+/// Encodes a command that replaces the device with one that is created from this seed.
 #[tactic(auto, using(crate::proofs::Texts::beginning_read))]
 pub fn beginning(alloc: Global, seed: &[u8]) -> Result<Vec<u8>, AllocError>
     ensures text { IfOk result (λ text. text.items ≡ 2 ∷ seed.now) }
@@ -94,7 +94,7 @@ pub fn beginning(alloc: Global, seed: &[u8]) -> Result<Vec<u8>, AllocError>
     Ok(text)
 }
 
-/// Encodes the seed of a new device, whose secrets are these random bytes.
+/// Encodes the seed for a new device, whose secrets are these random bytes.
 pub fn seed_of_random(
     alloc: Global,
     now_ms: u64,
@@ -107,7 +107,7 @@ pub fn seed_of_random(
     seed(alloc, 0, now_ms, start, random)
 }
 
-/// Encodes the seed of the device that a state text contains.
+/// Encodes the seed for the device that a state text contains.
 pub fn seed_of_state(
     alloc: Global,
     now_ms: u64,

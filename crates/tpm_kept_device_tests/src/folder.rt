@@ -6,7 +6,7 @@ use tpm_keeping::holder::{End, Job};
 use tpm_keeping::keeper::{Ask, Got, Keeper};
 use tpm_kept_device::KeptDevice;
 
-/// More steps than any call takes.
+/// More steps than any call in these tests takes.
 const STEPS: u32 = 40;
 
 /// The journal and its number, and the new file that has no name yet.
@@ -27,7 +27,8 @@ impl Folder {
         }
     }
 
-    /// Does what a keeper requests until the call has ended, and returns whether it succeeded.
+    /// Begins a call of a keeper, and does what the keeper requests until the call ends. Returns
+    /// whether the call succeeded.
     pub fn runs(
         &mut self,
         keeper: &mut Keeper<KeptDevice>,
@@ -45,7 +46,7 @@ impl Folder {
         Ok(false)
     }
 
-    /// Does one task, and reports it to the keeper.
+    /// Does what the keeper requests, and reports the result to the keeper.
     fn does(&mut self, keeper: &mut Keeper<KeptDevice>, ask: Ask) -> Result<(), AllocError> {
         match ask {
             Ask::Read(from) => {

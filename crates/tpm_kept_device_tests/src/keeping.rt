@@ -1,4 +1,5 @@
-//! A keeper creates a device, executes commands, is dropped, and opens the device again.
+//! A keeper creates a device in a folder and executes commands. Later keepers open the device
+//! again.
 
 use crate::folder::Folder;
 use crate::words::{cycle, given, given_after, restoring, seed};
@@ -30,7 +31,7 @@ const READ_CLOCK: &[u8] = &[0x80, 1, 0, 0, 0, 10, 0, 0, 1, 0x81];
 
 const CLOCK_READ: &[u8] = &[0, 0, 1, 0x81, 0, 0, 0];
 
-/// Checks that a call is done, and returned this response.
+/// Checks that a call of the keeper succeeds and returns this response.
 fn answers<R: Abort>(
     rt: &R,
     folder: &mut Folder,
@@ -174,7 +175,8 @@ fn what_is_no_state_is_refused(rt: HostRuntime) {
     );
 }
 
-/// Returns the Time in a report that is followed by the response to TPM2_ReadClock.
+/// Returns the value of Time in `response`: the report on a TPM2_ReadClock, followed by the
+/// device's response.
 fn time_in(response: &[u8]) -> u64 {
     match response.get(17..25) {
         Some([a, b, c, d, e, f, g, h]) => u64::from_be_bytes([*a, *b, *c, *d, *e, *f, *g, *h]),

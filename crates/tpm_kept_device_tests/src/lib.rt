@@ -1,6 +1,6 @@
 #![tactic(auto)]
 
-//! Tests of a kept device, for behaviour that no contract covers: a keeper can keep such a device,
+//! Tests of a kept device, for behaviour that no contract covers: a keeper can store such a device,
 //! each call can succeed, and a TPM responds through the keeper as expected.
 //!
 //! The crate uses `tpm_kept_device`, and no crate uses it.

@@ -48,7 +48,7 @@ pub fn cycle(alloc: Global, now_ms: u64) -> Result<Vec<u8>, AllocError> {
     Ok(text)
 }
 
-/// A command that restores a state text at this time.
+/// A command that restores a device from a state text at this time.
 pub fn restoring(alloc: Global, now_ms: u64, state: &[u8]) -> Result<Vec<u8>, AllocError> {
     let mut text = Vec::new(alloc);
     text.extend_from_slice(&[2, 2])?;

@@ -1,4 +1,4 @@
--- A new device's completing layer has the start number of the seed.
+-- A new device's completing layer has the start number from the seed.
 use Rattle.std.proofs.Common.{◌≡◌, ◌==◌, ℕ, Bool, true, false, cond, length, Option, Some, None, Result, Ok, Err, refl, subst}
 use Rattle.tpm_image_text.specs.Image.{image_of}
 use Rattle.tpm_image_text.specs.NonVolatile.{NonVolatile}

@@ -1,4 +1,4 @@
--- A device's execution of a command has the effect that the journal's functions define.
+-- When a device executes a command, the effect is the one that the journal's functions define.
 use Rattle.std.proofs.Common.{◌≡◌, ◌≤◌, ℕ, Bool, false, List, [], length, Option, Some, None, Result, Ok, refl, subst, sym, ap, ◌∙◌, arith}
 use Rattle.tpm_completion.specs.Execution.{Seen}
 use Rattle.tpm_completion.proofs.Exactly.{exactly}
@@ -22,7 +22,7 @@ module _ (j : Journal) (r : Record) (is : IsDeviceState (state_in j r)) (text : 
   abbrev s : DeviceState
   s = state_in j r
 
-  -- `with_both` returns `f` of this state and this command, since both are decoded.
+  -- `with_both` returns `f` applied to this state and this command, because both can be decoded.
   said : {X : Type 0} (other : X) (f : DeviceState → KeptCommand → X) → with_both (state_of_bytes (bytes_of s)) (command_of text) other f ≡ f s c
   said other f =
       ap (λ (o : Option DeviceState). with_both o (command_of text) other f) (state_told s is)

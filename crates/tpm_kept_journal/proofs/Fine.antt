@@ -14,11 +14,12 @@ use Rattle.tpm_completion.specs.Saving.{Reply}
 use Rattle.tpm_completion.specs.Sequences.{in_slot, no_sequences, sequence_limit, with_sequence, without_sequence}
 use Rattle.tpm_completion.specs.declared.completion.Completion.{Completion}
 
--- A layer is valid: it has all its slots, and its numbers fit their integer types.
+-- A layer is valid if a state text can encode it (`IsLayer`): it has the right number of slots, and
+-- its numbers fit their integer types.
 abbrev pub IsFine : Completion → Type 0
 IsFine c = IsLayer (layer_of c)
 
--- A reply leaves a valid layer.
+-- The layer after a reply is valid.
 abbrev pub LeavesFine : Reply → Type 0
 LeavesFine x = IsFine x.after
 
@@ -52,7 +53,7 @@ new_fine start small = record {
 
 -- ---- sequence objects
 
--- what a slot contains is valid
+-- the content of a slot is valid
 pub in_slot_is : (c : Completion) (slot : ℕ) → IsFine c → IsSlot (in_slot c slot)
 in_slot_is c slot is =
     elim (cases_lt slot (length c.sequences)) [

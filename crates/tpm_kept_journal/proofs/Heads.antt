@@ -1,4 +1,4 @@
--- The head of a state starts a device in that state, whatever follows the head.
+-- The head that encodes a state starts a device in that state, whatever bytes follow the head.
 use Rattle.std.proofs.Common.{◌≡◌, ◌≤◌, ◌+◌, ◌==◌, ◌&&◌, ℕ, suc, Bool, true, false, cond, List, [], ◌∷◌, ◌++◌, length, take, Option, Some, None, Result, Ok, Err, refl, sym, ap, ◌∙◌, append-nil, arith, drop_at, take_at, take_all, get_or-drop, length-append, length-drop, eq-eqb, eqb-true, le-leb, drop_of_length-le}
 use Rattle.std.specs.Prelude.{is_some, nat_le}
 use Rattle.std.specs.Int.{w64, to_be_bytes}
@@ -57,7 +57,7 @@ writable text is =
       small = (Decides-leb (length (content_in text)) (content_limit State)).0 others.1;
     }
 
--- The part of a list of bytes after the first eight bytes consists of bytes.
+-- If every element of a list is a byte, every element after the first eight is also a byte.
 content_bytes : (text : List ℕ) → AreBytes text → AreBytes (content_in text)
 content_bytes text are i = rw get_or-drop (are (8 + i))
 
@@ -99,7 +99,8 @@ text_again text is =
 
 -- ---- heads
 
--- If the bytes begin with a head, they are read with `head_at`, and not as the head of `no_head`.
+-- If the bytes begin with the encoding of a head, `started_at` reads it with `head_at`, and does
+-- not treat it as a `no_head`.
 head_first : (kind : HeadKind) (clock : ℕ) (content rest : List ℕ)
     → started_at (head_text kind clock content ++ rest) ≡ started_by (head_at (head_text kind clock content ++ rest))
 unfolding head_text marked_line
@@ -123,7 +124,7 @@ state_starts text is =
 whole_is : (size : ℕ) (p : Spot) → whole_head size (Some (p, size)) ≡ Some p
 whole_is size p = so_told (size == size) p (eq-eqb size size refl)
 
--- ---- the head of a state
+-- ---- the head for a state
 
 head_by : (so : Bool) (text : List ℕ) → (so ≡ true → IsWritable text)
     → whole_head (length (cond so (head_text State (time_in text) (content_in text)) (no_head text)))

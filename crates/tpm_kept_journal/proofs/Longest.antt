@@ -1,4 +1,5 @@
--- Opening a prefix of a journal executes at most as many bytes as salvaging the journal does.
+-- If a prefix of a journal opens, its head and its executed entries are at most as long as the part
+-- of the journal that can be salvaged.
 use Rattle.std.proofs.Common.{◌≡◌, ◌≤◌, ◌+◌, ◌==◌, ℕ, zero, suc, List, [], ◌∷◌, ◌++◌, length, drop, take, Option, Some, None, Result, Ok, Err, refl, subst, sym, ap, ◌∙◌, append-nil, append_assoc, arith, drop_at, take_at, length-append}
 use Rattle.std.specs.List.{AllByRecursion}
 use Rattle.std.proofs.lemmas.List.{take-append-drop}
@@ -93,7 +94,8 @@ walk_parts zero p q taken n text leads = absurd cc
 walk_parts (suc bound) p q taken n text leads =
     found_walked bound p q taken n text leads (λ s from left on. walk_parts bound s q from n left on) (finding p text)
 
--- ---- the executed entries are entries of the journal, and all of them if nothing follows
+-- ---- the executed entries are at the start of the journal; if no entry follows, they are all its
+-- entries
 
 few_entries : (sum : ℕ) (text : List ℕ) (entries : List PlainEntry) (rest : List ℕ) → AllByRecursion IsEntry entries
     → text ≡ entries_text sum entries ++ rest → length (entries_text sum entries) ≤ entries_size sum text
@@ -152,7 +154,7 @@ module _ (h : PlainHead) (rest : List ℕ) (p : Spot) (n : ℕ) (has : HasHead h
   opened_parts : IsWalked (head_sum h.clock h.content) (length (text_of_head h)) n rest
   opened_parts = parts_by (start_by h.kind h.clock h.content) refl
 
--- ---- the sizes compared
+-- ---- comparing the sizes
 
 -- The salvaged part has the size of the intact part.
 salvaged_size : (text : List ℕ) (p : Spot) (n : ℕ) (found : Option PlainHead) → head_at text ≡ found
@@ -169,7 +171,8 @@ salvaged_size text p n (Some h) at leads =
     ap (take (length head + many)) found.1 ∙ take-append-add head rest many in
     all_walked sum (length head) n rest (opened_parts h (take many rest) p n found.0 (sym (ap opened_text so) ∙ leads))
 
--- Opening a prefix of a journal executes at most as many bytes as the journal's intact part has.
+-- If a prefix of a journal opens, its head and its executed entries are at most as long as the
+-- journal's intact part.
 front_size : (text : List ℕ) (m : ℕ) (q : Spot) (k : ℕ) (found : Option PlainHead) → AreBytes text → head_at (take m text) ≡ found
     → opened_text (take m text) ≡ Some (q, k) → k ≤ size_with (head_at text) text
 front_size text m q k None are at leads =

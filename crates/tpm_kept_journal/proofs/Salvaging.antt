@@ -1,4 +1,4 @@
--- The device that is salvaged from a journal is the device of a prefix of that journal.
+-- Salvaging a journal creates the same device as opening some prefix of that journal.
 use Rattle.std.proofs.Common.{◌≡◌, ◌≤◌, ◌<◌, ◌+◌, ℕ, zero, suc, List, [], ◌++◌, length, drop, take, Option, Some, None, Result, Ok, Err, refl, sym, ap, ◌∙◌, arith, length-append}
 use Rattle.std.proofs.lemmas.List.{length-take, length-take-le, take-take}
 use Rattle.std.proofs.Math.Seq.{take-append-add}
@@ -54,7 +54,8 @@ abbrev pub taken_of : Option (Spot × ℕ) → ℕ
 taken_of None = 0
 taken_of (Some found) = found.1
 
--- Walking over only the executed bytes reaches the same position as walking over all bytes.
+-- A walk from position p over only the executed bytes, which are n - `taken` in number, ends at
+-- position q.
 record IsFront (p q : Spot) (taken n : ℕ) (text : List ℕ) : Type 0 where
   size : ℕ
   is : n ≡ taken + size
@@ -122,7 +123,8 @@ walk_front (suc bound) p q taken n text leads =
 
 -- ---- a head and the bytes after it
 
--- If a journal opens, its head and its executed bytes alone also open, with the same result.
+-- The head and the executed bytes after it, which are n bytes together, open on their own, with
+-- position p.
 record IsFrontOf (h : PlainHead) (rest : List ℕ) (p : Spot) (n : ℕ) : Type 0 where
   size : ℕ
   is : n ≡ length (text_of_head h) + size

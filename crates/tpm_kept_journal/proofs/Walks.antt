@@ -1,4 +1,4 @@
--- The entries of commands are executed again, one after another.
+-- Executing the entries for commands again reaches the position after these commands.
 use Rattle.std.proofs.Common.{◌≡◌, ◌<◌, ◌+◌, ◌==◌, ℕ, zero, suc, true, List, [], ◌∷◌, ◌++◌, length, drop, Option, Some, None, Result, refl, subst, sym, ap, ◌∙◌, append_assoc, arith, drop_at, length-append, eq-eqb}
 use Rattle.tpm_completion.specs.Execution.{Seen}
 use Rattle.tpm_image_text.specs.declared.fault.Malformed.{Malformed}
@@ -81,8 +81,9 @@ walk_otherwise bound p e taken rest is performed =
 abbrev pub spot_made : List ℕ → ℕ → Spot
 spot_made state chain = record { state = state; chain = chain }
 
--- If a command has an entry, the position after the command is the position after its entry. If the
--- position does not encode a state, the command's entry is empty, and the position stays the same.
+-- The effect of a command on a position. `Nowhere`: the command's entry is empty, and the position
+-- stays the same. `Further`: the command has an entry, and the position after the command is the
+-- position after this entry.
 pub data Leads (p : Spot) (c : List ℕ) : Type 0 where
   Nowhere : (device_journal.entry p c ≡ []) → (stepped device_journal p c ≡ p) → Leads p c
   Further : (e : PlainEntry) → IsEntry e → (device_journal.entry p c ≡ entry_text p.chain e)
@@ -98,7 +99,7 @@ module _ (p : Spot) (c : List ℕ) (found : IsEntered c) where
   abbrev entry : DeviceState → PlainEntry
   entry s = entry_of (command s) (effect s (command s))
 
-  -- `with_both` returns `f` of this state and the command, since both are decoded
+  -- `with_both` returns `f` applied to this state and the command, because both can be decoded
   said : {X : Type 0} (other : X) (f : DeviceState → KeptCommand → X) (s : DeviceState) → state_of_bytes p.state ≡ Some s
       → with_both (state_of_bytes p.state) (command_of c) other f ≡ f s given_command
   said other f s is =
@@ -120,7 +121,8 @@ module _ (p : Spot) (c : List ℕ) (found : IsEntered c) where
       (performed_again s (command s) found.given.1)
       ∙ so_told (sum_of seen.step.response == sum_of seen.step.response) (spot_after s) (eq-eqb _ _ refl)
 
-  -- If the position encodes a state, the command leads to a next position.
+  -- If the position encodes a state, the position after the command is the position after the
+  -- command's entry.
   further : (s : DeviceState) → state_of_bytes p.state ≡ Some s → Leads p c
   further s is =
       let entry_is : entry_at_spot p c ≡ Some (entry s) = said None entered s is in
@@ -146,7 +148,7 @@ module _ (p : Spot) (c : List ℕ) (found : IsEntered c) where
 pub leads : (p : Spot) (c : List ℕ) → device_journal.is_entered c ≡ true → Leads p c
 leads p c is = leads_by p c (is_entered c is) (state_of_bytes p.state) refl
 
--- ---- the entries of commands
+-- ---- the entries for commands
 
 abbrev pub all : Spot → List (List ℕ) → List ℕ
 all p cs = entries device_journal p cs
@@ -154,8 +156,8 @@ all p cs = entries device_journal p cs
 abbrev pub end_of : Spot → List (List ℕ) → Spot
 end_of p cs = trail device_journal p cs
 
--- If walking over the entries of `cs` ends at the right position, so does walking over the entry of
--- `c` and then over these entries.
+-- If walking over the entries of `cs` ends at the position after `cs`, walking over the entry of
+-- `c` and then over these entries ends at the same position.
 walk_led : (c : List ℕ) (cs : List (List ℕ)) (bound : ℕ) (p : Spot) (taken : ℕ) (tail : List ℕ)
     → ((bound taken : ℕ) → length (all (stepped device_journal p c) cs ++ tail) < bound
     → walk bound (stepped device_journal p c) taken (all (stepped device_journal p c) cs ++ tail)

@@ -16,7 +16,7 @@ pub data Moment : Type 0 where
 -- A command. `Executes`: a TPM command, with its moment, its locality, whether the completing layer
 -- is used, 256 random bytes, and its buffer. `Cycles`: a power cycle at this time of the host's
 -- clock; `start` has no effect, since the completing layer keeps its start number. `Begins`: the
--- device is replaced by the device of this seed, for example to restore a snapshot.
+-- device is replaced with one that is created from this seed, for example to restore a snapshot.
 pub data KeptCommand : Type 0 where
   Executes : Moment → (locality : ℕ) → (completes : Bool) → (random buffer : List ℕ) → KeptCommand
   Cycles : (now start : ℕ) → KeptCommand
@@ -48,8 +48,8 @@ executed_after_in text = do
   elapsed ← number_in w32 text
   executed_in (After elapsed.0) elapsed.1
 
--- a power cycle, without the byte for the kind: eight bytes for the host's clock, and eight for the
--- number that has no effect
+-- a power cycle, without the byte for the kind: eight bytes for the host's clock, and eight for
+-- `start`, which has no effect
 unfoldable pub cycled_in : List ℕ → Result KeptCommand Malformed
 cycled_in text = do
   now ← number_in w64 text

@@ -32,7 +32,7 @@ command_on s moment locality completes random buffer =
 abbrev pub effect : DeviceState → Command → Seen
 effect s c = completed c.completes s.layer s.device (given c)
 
--- the state after an effect, when `elapsed` milliseconds have passed
+-- the state after a command with this effect, `elapsed` milliseconds after the previous command
 abbrev pub left_by : DeviceState → (elapsed : ℕ) → Seen → DeviceState
 left_by s elapsed seen =
     record { time = time_after s.time elapsed; layer = seen.layer; device = seen.step.after }

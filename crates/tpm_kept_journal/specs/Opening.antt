@@ -52,9 +52,9 @@ found_next p Damaged = Fails
 unfoldable pub found_at : Spot → List ℕ → Found
 found_at p text = found_next p (next_at p.chain text)
 
--- the position after the entries at the start of the bytes, and the size of all executed bytes,
--- `taken` of which were executed before; None if the bytes do not continue the journal. `bound`
--- must exceed the number of entries
+-- the position after executing the entries at the start of the bytes, and `taken` plus the size of
+-- these entries; None if the bytes do not continue the journal. `bound` must exceed the number of
+-- entries
 unfoldable pub walk : (bound : ℕ) → Spot → (taken : ℕ) → List ℕ → Option (Spot × ℕ)
 walk zero p taken text = None
 walk (suc bound) p taken text = elim (found_at p text) [
@@ -68,7 +68,7 @@ walked p taken text = walk (suc (length text)) p taken text
 
 -- ---- the heads of journals
 
--- whether the bytes encode a state, and its state text fits in a head
+-- whether the bytes encode a state whose state text fits in a head
 unfoldable pub is_state_text : List ℕ → Bool
 is_state_text text =
     are_bytes text

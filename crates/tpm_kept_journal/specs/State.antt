@@ -23,7 +23,8 @@ pub record DeviceState : Type 0 where
 abbrev pub whole_of : DeviceState → WholeState
 whole_of s = record { device = s.device; layer = Some (layer_of s.layer) }
 
--- A state that a device can have: each of its parts has the right size and fits its integer type.
+-- A state that a device can have: each part has the right size, and each number fits its integer
+-- type.
 pub record IsDeviceState (s : DeviceState) : Type 0 where
   pub time : s.time < 2 ^ 64
   pub whole : IsWholeState (whole_of s)

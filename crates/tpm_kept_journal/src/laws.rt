@@ -23,8 +23,8 @@ pub fn device_journal_laws()
     ensures { IsJournal device_journal }
 {}
 
-/// The encoding of a state that a device can have determines this state. A journal that begins in
-/// this state begins with the head that contains the state text. The other heads of
+/// If a device can have a state, decoding the state's encoding returns the state. A journal that
+/// begins in this state begins with the head that contains the state text. The other heads of
 /// `device_journal` belong to bytes that do not encode a state.
 #[inline(always)]
 #[tactic(auto, using(crate::proofs::States::state_told, crate::proofs::Shown::head_shown))]
@@ -44,7 +44,8 @@ pub fn start_laws()
         → s.layer.start ≡ seed.start }
 {}
 
-/// Salvaging a list of bytes creates the device of its longest prefix that opens as a journal.
+/// Salvaging a list of bytes creates the same device as opening its longest prefix that opens as a
+/// journal.
 #[inline(always)]
 #[tactic(auto, using(crate::proofs::Salvaging::salvages, crate::proofs::Longest::longest))]
 pub fn salvage_laws()

@@ -72,8 +72,8 @@ pub fn next_laws()
         → (entry_at sum text ≡ None) × (is_torn_text sum text ≡ false) }
 {}
 
-/// The remains of an entry after a crash are torn: nothing; a proper prefix of the entry; or a
-/// prefix of earlier torn bytes, followed by zeros.
+/// What a crash can leave of an entry is torn: nothing; a proper prefix of the entry; or a prefix
+/// of earlier torn bytes, followed by zeros.
 #[inline(always)]
 pub fn litter_laws()
     ensures nothing { (sum : ℕ) → is_torn_text sum [] ≡ true }

@@ -55,8 +55,8 @@ pub fn put_area<W: Write>(fields: &mut Cursor, line: &mut W) -> Result<(), Spell
     Ok(())
 }
 
-/// Adds an entry to the line: as a password if it is exactly a password's entry, and otherwise as a
-/// session.
+/// Adds an entry to the line. An entry whose session is TPM_RS_PW, whose nonce is empty and whose
+/// attributes are 01 is written as a password. Any other entry is written as a session.
 fn put_entry<W: Write>(entry: &AuthEntry, line: &mut W) -> fmt::Result {
     let attributes = entry.attributes.octet;
     if entry.session == Handle::PASSWORD && entry.nonce.is_empty() && attributes == 1 {

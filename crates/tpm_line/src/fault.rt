@@ -1,4 +1,4 @@
-//! Why no line was found for a buffer.
+//! The error if no line was returned for a buffer.
 
 ghost use Rattle.std.specs.Prelude.{◌≡◌};
 

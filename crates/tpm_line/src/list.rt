@@ -1,4 +1,5 @@
-//! Writes lists in words: selections of PCRs, digests with their algorithm, and sized buffers.
+//! Writes lists in words: lists of PCR selections, of digests with their algorithms, and of sized
+//! buffers.
 
 use crate::fault::SpellFault;
 use crate::word::{hash_word, put_buffer, put_digits};

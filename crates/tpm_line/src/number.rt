@@ -1,5 +1,5 @@
-//! Writes numbers in words: in decimal, except that codes, sets of bits and handles are
-//! hexadecimal.
+//! Writes numbers as words of a line: codes, sets of bits and handles in hexadecimal, and all other
+//! numbers in decimal.
 
 use std::fmt::{self, Write};
 use tpm_commands::CommandCode;
@@ -14,8 +14,8 @@ pub enum Form {
 }
 
 impl Form {
-    /// Returns the form of a number with fewer than eight bytes, by its position among the
-    /// parameters of a command.
+    /// Returns the form of a parameter that is a number of fewer than eight bytes. `place` is the
+    /// number's position among the parameters of the command.
     pub fn of(code: CommandCode, place: usize) -> Form {
         match code {
             CommandCode::FlushContext | CommandCode::EvictControl => Form::Handle,

@@ -40,7 +40,8 @@ fn put_parameter<W: Write>(
         ParameterKind::U32 | ParameterKind::PersistentHandle => {
             put_number(u64::from(fields.u32()?), form, line)?;
         }
-        // Every parameter of eight bytes is a set of bits, so it is written in hexadecimal.
+        // The only parameter of eight bytes, `bits` of TPM2_NV_SetBits, is a bit mask. It is
+        // written in hexadecimal.
         ParameterKind::U64 => put_number(fields.u64()?, Form::Hexadecimal, line)?,
         ParameterKind::Hash | ParameterKind::HashOrNull => put_hash(fields, line)?,
         ParameterKind::Symmetric => put_symmetric(fields, line)?,

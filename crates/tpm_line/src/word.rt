@@ -15,7 +15,7 @@ pub fn put_digits<W: Write>(bytes: &[u8], line: &mut W) -> fmt::Result {
     Ok(())
 }
 
-/// Adds bytes in hex to the line, or `-` if there are none.
+/// Adds bytes in hex to the line, or `-` for an empty list of bytes.
 pub fn put_bytes<W: Write>(bytes: &[u8], line: &mut W) -> fmt::Result {
     if bytes.is_empty() {
         line.write_str("-")

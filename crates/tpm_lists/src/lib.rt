@@ -1,6 +1,6 @@
 #![tactic(auto)]
 
-//! Runs tasks with the device's state in lists that grow.
+//! Runs tasks on a device whose state is stored in growable lists.
 //!
 //! The type of that state consists of nested containers. The prover resolves the impls of all these
 //! containers at each call, which takes longer the deeper they are nested. Therefore, each function
@@ -17,7 +17,7 @@ use tpm_record::{Keep, PersistentObjects};
 use tpm_session::Session;
 use tpm_types::{NV_INDEX_LIMIT, OBJECT_LIMIT, PERSISTENT_LIMIT, SESSION_LIMIT};
 
-/// A computation on the state that works for every type that implements `Keep`.
+/// A computation on the device's state that works for every type that implements `Keep`.
 pub trait Task<Fault> {
     /// Whether the task may return this result.
     ghost may_give: { Self → Result (Unit {0}) Fault → Type 0 };

@@ -4,8 +4,8 @@ use Rattle.tpm_lockout.specs.declared.fields.LockoutFields.{LockoutFields}
 
 -- the lockout state
 pub record LockoutState : Type 0 where
-  -- the part that survives a power cycle: failedTries, the parameters of the protection, and
-  -- whether lockoutAuth is disabled
+  -- the part that survives a power cycle: failedTries, the parameters of dictionary attack
+  -- protection, and whether lockoutAuth is disabled
   pub fields : LockoutFields
   -- the milliseconds that already count towards forgiving the next failed try
   pub forgiving_time : ℕ
@@ -39,7 +39,7 @@ times_restarted s = record s { forgiving_time = 0; closed_time = 0 }
 abbrev pub restored : LockoutFields → LockoutState
 restored fields = record { fields = fields; forgiving_time = 0; closed_time = 0 }
 
--- the lockout state after TPM2_DictionaryAttackParameters set these parameters, with both times at
+-- the lockout state after TPM2_DictionaryAttackParameters has set these parameters; both times are
 -- zero
 abbrev pub with_parameters : (max_tries recovery_time lockout_recovery : ℕ)
     → LockoutState → LockoutState

@@ -1,5 +1,5 @@
--- lockoutAuth: how a failed attempt to authorize with it disables it, and when it is enabled again.
--- TPM 2.0 Library, Part 1, section 19.8 (dictionary attack protection: lockoutAuth and
+-- lockoutAuth: how it is disabled by a failed attempt to authorize with it, and when it is enabled
+-- again. TPM 2.0 Library, Part 1, section 19.8 (dictionary attack protection: lockoutAuth and
 -- lockoutRecovery).
 use Rattle.std.specs.Prelude.{ℕ, ◌+◌, ◌==◌, ◌&&◌, not, nat_le, Bool, true, false, if◌then◌else◌}
 use Rattle.tpm_lockout.specs.Lockout.{LockoutState, milliseconds}
@@ -20,8 +20,8 @@ closed_by_failure s =
 abbrev pub opens_by_time : LockoutFields → Bool
 opens_by_time f = f.closed && not (f.lockout_recovery == 0)
 
--- the lockout state when lockoutAuth has been disabled for this time. If lockoutRecovery has
--- passed, lockoutAuth is enabled again
+-- the lockout state after lockoutAuth has been disabled for this time. If the time is at least
+-- lockoutRecovery, lockoutAuth is enabled again
 abbrev pub opened_at : (time : ℕ) → LockoutState → LockoutState
 opened_at time s =
     if nat_le (milliseconds s.fields.lockout_recovery) time
@@ -29,8 +29,8 @@ opened_at time s =
     else record s { closed_time = time }
 
 -- the lockout state after some milliseconds. If lockoutAuth is disabled and lockoutRecovery is not
--- 0, the time counts, and lockoutAuth is enabled again once lockoutRecovery has passed. Otherwise,
--- this time is 0
+-- 0, the milliseconds count towards lockoutRecovery, after which lockoutAuth is enabled again.
+-- Otherwise, `closed_time` becomes 0
 unfoldable pub opened_after : (elapsed : ℕ) → LockoutState → LockoutState
 opened_after elapsed s =
     if opens_by_time s.fields then opened_at (s.closed_time + elapsed) s

@@ -17,9 +17,9 @@ is_locked f = counts_tries f && nat_le f.max_tries f.failed_tries
 abbrev pub with_tries : ℕ → LockoutState → LockoutState
 with_tries tries s = record s { fields = record s.fields { failed_tries = tries } }
 
--- the lockout state after a failed try: failedTries is incremented, and the time until a failed try
--- is forgiven restarts. Nothing changes if failed tries are not counted, or if the protected
--- entities are locked out
+-- the lockout state after a failed try: failedTries is incremented, and the time that counts
+-- towards forgiving a failed try restarts at zero. Nothing changes if failed tries are not counted,
+-- or if the protected entities are locked out
 unfoldable pub after_failure : LockoutState → LockoutState
 after_failure s =
     if counts_tries s.fields && not (is_locked s.fields)
@@ -31,7 +31,7 @@ after_failure s =
 abbrev pub tries_left : LockoutFields → (time : ℕ) → ℕ
 tries_left f time = f.failed_tries - time / milliseconds f.recovery_time
 
--- the lockout state when this time has counted towards forgiving failed tries: each full
+-- the lockout state after this time was counted towards forgiving failed tries. Each full
 -- recoveryTime forgives one failed try. If failed tries are left, the remaining time counts towards
 -- forgiving the next failed try
 abbrev pub forgiven_at : (time : ℕ) → LockoutState → LockoutState
@@ -42,7 +42,7 @@ forgiven_at time s =
     }
 
 -- the lockout state after some milliseconds: each full recoveryTime forgives a failed try. If
--- recoveryTime is 0, no try is forgiven, and the time towards forgiving is 0
+-- recoveryTime is 0, no try is forgiven, and `forgiving_time` becomes 0
 unfoldable pub forgiven_after : (elapsed : ℕ) → LockoutState → LockoutState
 forgiven_after elapsed s =
     if counts_tries s.fields then forgiven_at (s.forgiving_time + elapsed) s

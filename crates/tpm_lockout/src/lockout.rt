@@ -11,8 +11,8 @@ ghost use Rattle.tpm_lockout.specs.Tries.{after_failure, forgiven_after, is_lock
 use crate::fields::LockoutFields;
 use std::marker::Model;
 
-/// Dictionary attack protection: its fields and two times. Contracts represent it by a
-/// `LockoutState`.
+/// The state of dictionary attack protection: the fields that an image contains, and two times.
+/// Contracts represent it by a `LockoutState`.
 #[derive(Drop)]
 pub struct Lockout {
     fields: LockoutFields,
@@ -43,7 +43,7 @@ fn milliseconds(seconds: u32) -> u64
     1000 * u64::from(seconds)
 }
 
-/// The number of failed tries left after this number of tries was forgiven.
+/// The number of failed tries left after this number of tries has been forgiven.
 fn tries_left(tries: u32, forgiven: u64) -> u32
     ensures { result ≡ tries - forgiven }
 {
@@ -107,7 +107,7 @@ impl Lockout {
         self.closed_time
     }
 
-    /// The fields, which survive a power cycle.
+    /// The fields that survive a power cycle.
     pub fn fields(&self) -> LockoutFields
         ensures value { result ≡ self.now.fields }
         // Each field and each time is within its range.
@@ -224,7 +224,7 @@ impl Lockout {
         self.fields.closed = false;
     }
 
-    /// Restarts both times, as a power cycle does.
+    /// Restarts both times after a power cycle.
     pub fn power_cycle(&mut self)
         ensures { self.new ≡ times_restarted self.old }
     {

@@ -35,8 +35,7 @@ length-pieces_to piece size each zero = omega arith
 length-pieces_to piece size each (suc n) =
     rw (pieces_to-suc piece n, length-append, each (1 + n), length-pieces_to piece size each n) (omega arith)
 
--- if a list starts with the first n blocks, and block n + 1 is written after them, it starts with
--- the first n + 1 blocks
+-- if block n + 1 is written after the first n blocks, the list starts with the first n + 1 blocks
 pub take-piece_written : (piece : ℕ → List ℕ) (size : ℕ) → ((i : ℕ) → length (piece i) ≡ size)
     → (old new block : List ℕ) (n : ℕ) → n * size ≤ length old
     → take (n * size) old ≡ take (length old) (pieces_to piece n)

@@ -17,7 +17,8 @@ zeros_overwritten zeros bytes written blank same =
     let none : ℕ = 0 in
     rw (blank, same, drop-replicate (length bytes) 64 none) refl
 
--- Masking byte i after the first i bytes masks the first i + 1 bytes.
+-- If the first i bytes of a key are masked, and byte i is then masked too, the first i + 1 bytes
+-- are masked.
 pub masked_more : (key bytes : List ℕ) (pad i : ℕ) → i < length key
     → bytes ≡ masked_key pad (take i key) ++ drop i key
     → slice_set bytes i (bit_xor (slice_index_or bytes i 0) pad) ≡ masked_key pad (take (i + 1) key) ++ drop (i + 1) key
@@ -28,8 +29,9 @@ masked_more key bytes pad i within so_far =
     map_over_more (λ (x : ℕ). bit_xor x pad) key bytes i byte within so_far
     (sym (get_or_default_zero bytes i byte (omega arith)))
 
--- The first bytes of a list that starts with a block, as many as the block has, are the written
--- part of the block. Nothing follows a block that is truncated.
+-- A list consists of the first `room` bytes of a block, followed by the bytes `rest`, which are
+-- empty if the block is longer than `room`. The first `length block` bytes of this list are the
+-- first `room` bytes of the block.
 take-cut_block : (block rest : List ℕ) (room : ℕ) → (room < length block → rest ≡ [])
     → take (length block) (take room block ++ rest) ≡ take room block
 take-cut_block block rest room none =
@@ -38,8 +40,8 @@ take-cut_block block rest room none =
       | inr fits ↦ rw (take_all room block fits) (take_at block rest (length block) refl)
     ]
 
--- If a block is written after some bytes, truncated if it does not fit, then the list starts with
--- these bytes and the block.
+-- If a block is written after some bytes, and is truncated if it does not fit, the list then starts
+-- with these bytes, followed by the block.
 pub take-block_written : (old before block : List ℕ) → length before ≤ length old
     → take (length before + length block)
     (before ++ take (length old - length before) block ++ drop (length before + length block) old)

@@ -35,7 +35,8 @@ pub fn kdfa(
         take_text(&mut copy, counter, label, context_u, context_v, &bits);
         write_front(out, index * size, copy.finish().as_slice());
     }
-    // The last block consumes the HMAC. Therefore a single block needs no copy of it.
+    // The last block uses up the HMAC itself. Therefore, if there is only one block, no copy is
+    // made.
     let counter = last as u32 + 1;
     take_text(&mut mac, counter, label, context_u, context_v, &bits);
     write_front(out, last * size, mac.finish().as_slice());

@@ -11,9 +11,9 @@ use crate::mac::Mac;
 use arrayvec::ArrayVec;
 use std::marker::Model;
 
-/// An HMAC that was fed only its key, and this key. The next HMAC with the same key starts from a
-/// copy of this HMAC, which saves hashing both blocks of the key. The contracts do not mention the
-/// stored key, because it does not change the result of any HMAC.
+/// An HMAC that was fed only its key, together with this key. The next HMAC with the same key
+/// starts from a copy of this HMAC, which saves hashing both blocks of the key. The contracts do
+/// not mention the stored key, because it does not change the result of any HMAC.
 #[derive(Drop)]
 pub struct KeyedMac {
     alg: HashAlg,

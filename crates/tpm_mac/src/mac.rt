@@ -54,8 +54,8 @@ impl Mac {
         }
     }
 
-    /// Masks the key with `ipad` for the inner hash and with `opad` for the outer hash, and feeds
-    /// both results.
+    /// Masks the key with `ipad` and feeds it to the inner hash. Masks the key with `opad` and
+    /// feeds it to the outer hash.
     #[inline(always)]
     #[tactic(auto, unfolding(crate::specs::Mac::MacHolds, crate::specs::Mac::IsUnkeyed))]
     pub(crate) fn take_key(&mut self, alg: HashAlg, key: &[u8])

@@ -60,8 +60,8 @@ accepted_answers can r random c grants (Ok a) answer effect response after (same
     ∙ ap (λ (x : List (Option Grant)). answer_to a.command x (written_of a.success.answer) a.success.after random) (sym granted) in
     answers_exactly can r random (Ok a) _ (λ i. record { response = (whole i).response; row = record { code = code_number (back i).code; check = 0 }; after = settled (back i).code (whole i).after })
 
--- an accepted command stays within the limits (`IsModest`), because its answer fits the buffer and
--- nonces are short
+-- an accepted command stays within the limits (`IsModest`), because its answer fits in the buffer
+-- and its nonces are short
 pub accepted_modest : (random : List ℕ) (c : Whole) (grants : List (Option Grant)) (a : Result Accepted Refused) (answer : Answer) (effect : Record) → answer.drawn ≤ 96 → length answer.parameters ≤ answer_limit → DrawsFew random effect c.entries answer.drawn → Succeeds a c grants answer effect → IfOk a (IsModest random)
 accepted_modest random c grants (Err e) answer effect few short drawn never = tt
 accepted_modest random c grants (Ok a) answer effect few short drawn (same, granted, written, left) = (
@@ -72,7 +72,8 @@ accepted_modest random c grants (Ok a) answer effect few short drawn (same, gran
       (subst (λ (x : Record). DrawsFew random x c.entries answer.drawn) left drawn)),
 )
 
--- an accepted command drew as many random bytes as `drawn_by_command` defines
+-- the number of random bytes that an accepted command drew is the number that `drawn_by_command`
+-- defines
 pub accepted_draws : (random : List ℕ) (c : Whole) (grants : List (Option Grant)) (a : Result Accepted Refused) (answer : Answer) (effect : Record) (n : ℕ) → n ≡ bytes_drawn random effect c.entries answer.drawn → Succeeds a c grants answer effect → n ≡ drawn_by_command random (in_command c.code a) 0
 accepted_draws random c grants (Err e) answer effect n is never = absurd never
 accepted_draws random c grants (Ok a) answer effect n is (same, granted, written, left) =
@@ -80,7 +81,7 @@ accepted_draws random c grants (Ok a) answer effect n is (same, granted, written
     ∙ ap (λ (x : Record). bytes_drawn random x c.entries a.success.answer.drawn) left
     ∙ ap (λ (x : Whole). bytes_drawn random a.success.after x.entries a.success.answer.drawn) (sym same)
 
--- the rules with which the execution of an authorized command is proved
+-- the lemmas that the prover uses to verify the execution of an authorized command
 pub ruleset acting = (accepted_answers, accepted_modest, accepted_draws, refused_answers)
 
 -- a command that is refused, or that runs out of memory, draws no random bytes
@@ -89,7 +90,8 @@ refused_so can random c (Err refused) e is = refl
 refused_so can random c (Ok a) e (may, same, grows, is) =
     ap (λ (f : Refused). drawn_by_command random (in_command c.code (Ok a)) (check_number f.check)) (sym is)
 
--- if the row reports the check that failed, the command draws no random bytes
+-- a command that is refused, or that runs out of memory, draws no random bytes; `check` is the
+-- check that its row reports
 pub refused_draws : (can : Bool) (random : List ℕ) (c : Whole) (a : Result Accepted Refused) (e : Refused) (check : ℕ) → check ≡ check_number e.check → RefusesOrWantsMemory can c a e → 0 ≡ drawn_by_command random (in_command c.code a) check
 refused_draws can random c a e check reported is =
     subst (λ (n : ℕ). 0 ≡ drawn_by_command random (in_command c.code a) n) (sym reported) (refused_so can random c a e is)

@@ -17,15 +17,15 @@ use Rattle.tpm_machine.specs.Drawn.{bytes_drawn}
 pub framed_alone : (tag code : ℕ) → framed tag code [] ≡ to_be_bytes w16 tag ++ to_be_bytes w32 10 ++ to_be_bytes w32 code
 framed_alone tag code = ap (λ (l : List ℕ). to_be_bytes w16 tag ++ to_be_bytes w32 10 ++ l) (append-nil (to_be_bytes w32 code))
 
--- if a command has at least one entry, its response contains the size of the parameters, and the
--- answers to the entries after the parameters
+-- if a command has at least one entry, its response contains parameterSize, followed by the
+-- parameters, followed by the answers to the entries
 success_some : (entries : List Entry) (handle : Option Handle) (answer area : List ℕ) → 1 ≤ length entries → success_text entries handle answer area ≡ framed 0x8002 0 (handle_answer handle ++ to_be_bytes w32 (length answer) ++ answer ++ area)
 unfolding success_text
 success_some [] handle answer area some = absurd (let none : ⊥ = omega arith in none)
 success_some (entry ∷ entries) handle answer area some = refl
 
 -- If the code draws new nonces, encrypts the parameters, answers the entries and then encodes the
--- response, the result is as `answer_to` defines it.
+-- response, the result is the one that `answer_to` defines.
 answered_by : (c : Whole) (grants : List (Option Grant)) (a : Written) (effect : Record) (random : List ℕ) (mid after : Record) (left parameters area text : List ℕ) → 1 ≤ length c.entries
     → entries_rolled effect c.entries (drop a.drawn random) ≡ record { after = mid; left = left }
     → parameters ≡ encrypted_answer mid (granted_entries c grants) a.parameters
@@ -55,8 +55,8 @@ answered_with c grants a effect random mid after entries granted draws left para
     spelled
     (rw (← paired) ended)
 
--- after the row and the new nonces have drawn their bytes, as many random bytes are left as
--- `entries_rolled` leaves
+-- if the code draws the same new nonces as `entries_rolled`, the same number of random bytes is
+-- left
 left_behind : (r mid : Record) (entries sent : List Entry) (draws left random : List ℕ) (drawn : ℕ)
     → entries ≡ sent → draws ≡ drop drawn random → entries_rolled r entries draws ≡ record { after = mid; left = left } → length left ≡ length (entries_rolled r sent (drop drawn random)).left
 left_behind r mid entries sent draws left random drawn same behind rolled =

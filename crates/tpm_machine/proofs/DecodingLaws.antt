@@ -40,7 +40,7 @@ decodes_short r buffer (Ok command) fits decoded =
     short_of (whole_of command) (command_takes buffer (whole_of command, []) fits (spells r buffer (whole_of command) decoded)).0.size
 decodes_short r buffer (Err e) fits decoded = tt
 
--- ---- if no entry decrypts, the decrypted parameters are those that were sent
+-- ---- if no entry asks for decryption, the decrypted parameters are the parameters as sent
 
 neither : (a b : Bool) → (a || b) ≡ false → (a ≡ false) × (b ≡ false)
 neither true b e = absurd (false≢true (sym e))

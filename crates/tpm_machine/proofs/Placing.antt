@@ -1,4 +1,4 @@
--- Placing an object is the execution of an event.
+-- Placing an object counts as the execution of an event.
 use Rattle.std.proofs.Common.{◌≡◌, ◌<◌, ℕ, Bool, List, Option, Some, None, option_map, Result, Ok, Err, sym, ap, subst, ◌∙◌}
 use Rattle.tpm_containers.specs.Slots.{lowest_free}
 use Rattle.tpm_containers.specs.declared.slots.SlotFault.{SlotFault}
@@ -23,7 +23,7 @@ places can old object (Ok handle) new (adds, is) = ap (option_map object_handle)
 places can old object (Err Full) new (adds, is) = (ap (option_map object_handle) adds.0, is ∙ ap (λ (objects : List (Option Object)). record old { objects = objects }) adds.1)
 places can old object (Err NoMemory) new (adds, is) = (adds.2, is ∙ ap (λ (objects : List (Option Object)). record old { objects = objects }) adds.3)
 
--- adding an object results in the record after the event `Placed`
+-- the record after adding an object is the record after the event `Placed`
 placed_is : (old : Record) (object : Object) (found : Option ℕ) → lowest_free old.objects ≡ found → record old { objects = placed_at found object old.objects } ≡ placed old object
 placed_is old object found free = ap (λ (x : Option ℕ). record old { objects = placed_at x object old.objects }) (sym free)
 
@@ -48,9 +48,8 @@ if_memory P Q (Ok handle) so holds = so holds
 if_memory P Q (Err Full) so holds = so holds
 if_memory P Q (Err NoMemory) so holds = tt
 
--- What holds after an attempt to place an object on a device. The result is as `Places` says.
--- Unless an allocation failed, the call executed an event, and the device still follows its
--- history.
+-- What holds after an attempt to place an object on a device. The result satisfies `Places`. Unless
+-- an allocation failed, the call executed an event, and the device still follows its history.
 pub record Tells (can : Bool) (old : Record) (object : Object) (result : Result Handle SlotFault) (new : Record) : Type 0 where
   pub places : Places can old result new
   pub executes : IfMemory result (Executes can old (Placed object) (placing_seen new))

@@ -1,5 +1,5 @@
--- The response to a refusal encodes the refusal. A refusal changes only the time and the lockout
--- state.
+-- The response to a refused command encodes the refusal. A refusal changes only the time and the
+-- lockout state.
 use Rattle.std.proofs.Common.{◌≡◌, ◌≢◌, ℕ, List, length, Bool, true, false, cond, Result, Ok, Err, refl, ap, sym, ◌∙◌}
 use Rattle.std.proofs.lemmas.Bool.{false≢true}
 use Rattle.tpm_types_command.specs.Command.{Whole}
@@ -16,8 +16,9 @@ use Rattle.tpm_step.specs.step.Safe.{IsHarmless}
 use Rattle.tpm_step.specs.step.Step.{Accepted, Answers, RefusesOrWantsMemory, Stepped, Steps, refusal_step, accepted, stepped_of, counted_in, refusal_without_memory, answer_without_memory, step, step_where, success_step}
 use Rattle.tpm_step.specs.declared.refused_command.RefusedCommand.{RefusedCommand}
 
--- A refusal has a response of ten bytes and reports its check. After the elapsed time was added to
--- the record, it changes only the lockout state.
+-- If the row reports a failed check, the response is the ten bytes of a refusal by this check. The
+-- refusal changes only the lockout state of `r`, the record to which the elapsed time was already
+-- added.
 abbrev LeavesRecord : Record → Stepped → Type 0
 LeavesRecord r x = x.row.check ≢ 0 → (length x.response ≡ 10) × (refused : Refused) × (x.response ≡ refusal_text refused) × (x.row.check ≡ check_number refused.check) × (x.after ≡ counted_in refused.counted r)
 
@@ -47,12 +48,11 @@ step_harmless true r (Placed object) = λ refused. absurd (refused refl)
 pub steps_harmless : (can : Bool) (r : Record) (event : PlainEvent) (x : Stepped) → Steps can r event x → IsHarmless r event x
 steps_harmless can r event x (refused, only, is) = rw is (step_harmless refused r event)
 
--- an outcome equal to the step satisfies `Steps`, as the case without a failed allocation
+-- an outcome that equals the event's step satisfies `Steps`, because no allocation failed
 pub steps_exactly : (can : Bool) (r : Record) (event : PlainEvent) (x : Stepped) → x ≡ step r event → Steps can r event x
 steps_exactly can r event x e = (false, λ t. absurd (false≢true t), e)
 
--- an answer equal to the defined answer satisfies `Answers`, as the case without a failed
--- allocation
+-- an answer that equals the defined answer satisfies `Answers`, because no allocation failed
 pub answers_exactly : (can : Bool) (r : Record) (random : List ℕ) (a : Result Accepted RefusedCommand) (x : Stepped) → x ≡ stepped_of r random a → Answers can r random a x
 answers_exactly can r random a x e = (false, λ t. absurd (false≢true t), e)
 

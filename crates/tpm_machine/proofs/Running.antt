@@ -11,7 +11,7 @@ use Rattle.tpm_step.specs.step.Step.{Stepped, Steps, outcome_step, step}
 use Rattle.tpm_step.specs.declared.event.Event.{Event}
 use Rattle.tpm_step.specs.declared.event.Outcome.{Outcome}
 
--- executing event i, and then the later events in a run, is a run of the events from i on
+-- executing event i, followed by a run of the later events, is a run of the events from i on
 pub run_more : {F : Type 0} {g : Mut F (Bor Outcome × Unit {0}) (Unit {0})} (can : Bool) (old mid new : Record) {p next : F} (q : F) (events : List Event) (i : ℕ) (event : Event) (outcome : Outcome) → i < length events → event ≡ get_or events i event → Executes can old (plain_event event) (outcome_step mid outcome) → CalledAt g p outcome tt next → Runs g can mid next (map plain_event (drop (i + 1) events)) new q → Runs g can old p (map plain_event (drop i events)) new q
 run_more can old mid new q events i event outcome below is executed called rest = rw (drop_more events i event below, ← is) (outcome, _, _, executed, called, rest)
 

@@ -1,4 +1,5 @@
--- The number of random bytes that an event draws. It draws them in order, starting with the first.
+-- How many of its random bytes an event draws. It draws these bytes in order, starting with the
+-- first.
 use Rattle.std.specs.Prelude.{ℕ, zero, suc, ◌-◌, List, drop, length, Result, Ok, Err}
 use Rattle.tpm_types_command.specs.AuthEntry.{Entry}
 use Rattle.tpm_record.specs.Record.{Record}
@@ -7,8 +8,8 @@ use Rattle.tpm_step.specs.step.Entries.{entries_rolled}
 use Rattle.tpm_step.specs.step.Events.{PlainEvent, Given, Cycled, Placed}
 use Rattle.tpm_step.specs.step.Step.{Accepted, accepted}
 
--- the number of random bytes that a command draws in all: `drawn` by its row, and then the bytes
--- for the new nonces of its entries
+-- the total number of random bytes that a command draws: `drawn` bytes for its row, and then the
+-- bytes for the new nonces of its entries
 abbrev pub bytes_drawn : List ℕ → Record → List Entry → (drawn : ℕ) → ℕ
 bytes_drawn random r entries drawn =
     length random - length (entries_rolled r entries (drop drawn random)).left

@@ -46,8 +46,8 @@ fn refusal_by(code: CommandCode, check: Check, rc: Rc) -> RefusedCommand
     RefusedCommand::of(code, Refused::by(check, rc))
 }
 
-/// Refuses a command that has sessions although it must not, or has none although a handle needs
-/// authorization.
+/// Refuses a command with sessions if the command must not have any, and a command without sessions
+/// if one of its handles needs authorization.
 #[tactic(auto, unfolding(tpm_step::specs::step::General::sessions_pass))]
 fn check_tag(code: CommandCode, tag: Tag) -> Result<(), Refused>
     ensures { result ≡ sessions_pass code tag }

@@ -1,4 +1,4 @@
-//! The random bytes of an event, from which new nonces are drawn in order.
+//! The random bytes of an event. New nonces are drawn from these bytes, in order.
 
 ghost use Rattle.std.specs.Prelude.{◌≡◌, ◌≤◌, ℕ, List, length, take, drop};
 

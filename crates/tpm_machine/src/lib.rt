@@ -1,17 +1,18 @@
 #![tactic(auto)]
 
-//! The device: it executes one event at a time, a command or a power cycle.
+//! The device, which executes one event at a time: a command or a power cycle.
 //!
 //! A command is executed in these steps. [`decoding`] decodes it and makes the general checks.
-//! tpm_auth checks its authorizations. If a session decrypts, `parameters` decrypts the first
-//! parameter. [`table`] calls the command's row in tpm_actions_device, tpm_actions_policy,
-//! tpm_actions_object, tpm_actions_capability or tpm_nvactions. [`response`] writes the response;
-//! for this, `entries` draws new nonces, answers the entries and ends sessions.
+//! tpm_auth checks its authorizations. If a session has the attribute decrypt, `parameters`
+//! decrypts the first parameter. [`table`] calls the command's row in tpm_actions_device,
+//! tpm_actions_policy, tpm_actions_object, tpm_actions_capability or tpm_nvactions. [`response`]
+//! writes the response; for this, `entries` draws new nonces, answers the entries and ends
+//! sessions.
 //!
 //! The definitions of tpm_step specify this behavior: General, Table, Answer, the step of an event
 //! (Step) and runs of events (Run). [`machine::Machine::execute`] and [`machine::Machine::run`] are
-//! proved to follow them, for every type that stores the state. A [`Saver`] saves a device while it
-//! is in use, and a [`Witness`] is called with each executed event.
+//! proved to follow these definitions, for every type that stores the state. A [`Saver`] saves a
+//! device while it is in use, and a [`Witness`] is called with each executed event.
 
 pub mod decoding;
 mod draws;

@@ -38,7 +38,8 @@ pub struct Machine<K: Keep> {
     /// The buffer of a command's answer, which is cleared for each command. It is not part of the
     /// state.
     answer: Answer,
-    /// The key of the latest HMAC, and the latest Name. They are cached, and not part of the state.
+    /// The key of the latest HMAC, and the latest Name. Both are cached; neither is part of the
+    /// state.
     cache: Cache,
     /// The number of random bytes that the latest event drew, which is not part of the state.
     drawn: usize,
@@ -49,8 +50,8 @@ impl<K: Keep> Machine<K> {
     ghost use Rattle.tpm_machine.specs.State.{latest_drawn, with_keep};
     ghost use Rattle.tpm_machine.specs.contracts.machine.Machine.{the_row as machine_row};
 
-    /// Manufactures a device. Its memory comes from `alloc`, and the secrets of its hierarchies
-    /// come from the random bytes.
+    /// Manufactures a device. Allocates its memory from `alloc`, and takes the secrets of its
+    /// hierarchies from the random bytes.
     pub fn manufacture(alloc: Global, random: &[u8; 256]) -> Result<Machine<K>, NoMemory>
         // An error is possible only if an allocation for an empty state can fail.
         ensures refused { OnErr result (K.empty_can_refuse ≡ true) }
@@ -116,7 +117,7 @@ impl<K: Keep> Machine<K> {
 
         // If the device followed a history, it now follows that history, extended by this event if
         // it was accepted. `FollowsOn` lists what the history then determines, and what holds for
-        // each replay and for each use of a handle in it.
+        // each replay and for each use of a handle in this history.
         ensures follows { FollowsOn (state_of K.record_of self.old) (plain_event event.now)
             (outcome_step (state_of K.record_of self.new) result) }
     {
@@ -131,7 +132,7 @@ impl<K: Keep> Machine<K> {
         ensures executes { Executes K.can_refuse (state_of K.record_of self.old)
             (plain_event event.now) (outcome_step (state_of K.record_of self.new) outcome.new) }
 
-        // Afterwards, the machine knows how many of the event's random bytes were drawn.
+        // Afterwards, `drawn` returns how many of the event's random bytes were drawn.
         ensures drawn { latest_drawn self.new ≡ drawn_by (state_of K.record_of self.old)
             (plain_event event.now) outcome.new.row.check }
 

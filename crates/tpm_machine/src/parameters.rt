@@ -1,5 +1,5 @@
-//! Parameter encryption. A session whose attributes ask for it decrypts the first parameter of a
-//! command, or encrypts the first parameter of the response.
+//! Parameter encryption. A session with the attribute decrypt decrypts the first parameter of a
+//! command. A session with the attribute encrypt encrypts the first parameter of the response.
 
 ghost use Rattle.std.specs.Prelude.{◌≡◌, ◌≤◌, length, map};
 ghost use Rattle.std.specs.List.{zip};
@@ -89,9 +89,9 @@ fn pass_by<K: Keep>(
     }
 }
 
-/// Decrypts the first parameter of a command, or encrypts the first parameter of its answer, with
-/// the session of the first entry that asks for it. `grants` says which handle each entry
-/// authorizes, if any.
+/// Decrypts the first parameter of a command, or encrypts the first parameter of its answer. Uses
+/// the session of the first entry whose attributes ask for decryption or encryption, respectively.
+/// `grants` says which handle each entry authorizes, if any.
 pub fn pass_parameters<K: Keep>(
     direction: Direction,
     keep: &K,

@@ -23,7 +23,7 @@ use tpm_step::{Direction, Response};
 use tpm_types::{ANSWER_LIMIT, Check, Handle, Refused};
 use tpm_types_command::{AuthEntry, Command, HEADER_SIZE, Tag};
 
-/// The tag of a response to a command whose tag is unknown (TPM_ST_RSP_COMMAND, TPM 2.0 Library,
+/// The tag of the response to a command with an unknown tag (TPM_ST_RSP_COMMAND, TPM 2.0 Library,
 /// Part 2, section 6.9).
 const BAD_TAG_RESPONSE: u16 = 0x00c4;
 
@@ -111,7 +111,8 @@ fn write_with_area(handle: Option<Handle>, parameters: &[u8], area: &[u8], text:
     append(text, area);
 }
 
-/// Encrypts the first parameter of an answer in place, if the session of an entry asks for it.
+/// Encrypts the first parameter of an answer in place, if the attributes of an entry ask for
+/// encryption.
 fn encrypt_answer<K: Keep>(
     keep: &K,
     entries: &[AuthEntry],

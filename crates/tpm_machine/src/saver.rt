@@ -4,8 +4,8 @@
 //!
 //! A script that uses a device calls a saver at each change and at the end. A server calls a
 //! witness with each command before it sends the response. The contract of code that uses a saver
-//! says which devices the saver receives, in which order. The saver's own contract says what it
-//! does with them. Witnesses work the same way.
+//! says which devices the saver receives, and in which order. The saver's own contract says what
+//! the saver does with these devices. The same holds for witnesses.
 
 ghost use Rattle.std.specs.Prelude.{◌≡◌, Bool, OnErr, OnOk, false, true};
 ghost use Rattle.tpm_step.specs.history.Executions.{Execution};
@@ -18,7 +18,7 @@ use crate::machine::Machine;
 use tpm_record::Keep;
 use tpm_step::{Event, Outcome};
 
-/// The error that the device could not be saved.
+/// The error that a saver returns if it could not save the device.
 #[derive(Clone, Copy, PartialEq, Eq)]
 pub struct Unsaved;
 
@@ -26,11 +26,11 @@ pub struct Unsaved;
 /// the saver before the call, the record of the device, and the saver after the call.
 pub trait Saver {
     /// The relation between a saver before and after it saves a device with this record, including
-    /// its clock.
+    /// the device's clock.
     ghost saves: { Self → Record → Self → Type 0 };
 
     /// The relation between a saver before and after it saves a device with this record. If only
-    /// the clock changed, the saver need not save.
+    /// the clock has changed, the saver need not save the device.
     ghost saves_change: { Self → Record → Self → Type 0 };
 
     /// Whether a save has failed. Once true, this stays true.
@@ -75,7 +75,7 @@ pub trait Witness {
         ensures stays { note_failed self.old ≡ true → note_failed self.new ≡ true };
 }
 
-/// A saver and witness that saves nothing, for a device that is no longer needed afterwards.
+/// A saver and witness that saves nothing, for a device whose state is not needed later.
 #[derive(Clone, Copy, PartialEq, Eq)]
 pub struct SavesNothing;
 

@@ -140,7 +140,8 @@ fn act<K: Keep>(
     }
 }
 
-/// Returns the parameters of a command, decrypted if a session asks for it.
+/// Returns the parameters of a command, and decrypts the first parameter if a session asks for
+/// decryption.
 fn plain_parameters<K: Keep>(
     keep: &K,
     entries: &[AuthEntry],

@@ -1,5 +1,5 @@
-//! Time, Clock and resetCount near their maximum values, which a script would take too long to
-//! reach.
+//! Tests Time, Clock and resetCount near their maximum values. A script would take too long to
+//! reach these values.
 
 use super::comparison::check;
 use super::keeps::{Trial, run_over_both};

@@ -1,5 +1,5 @@
-//! A device, its host, and the bytes that are sent to it. The functions have no contracts, so that
-//! the prover does not look at the bytes.
+//! Creates a device and its host, and sends bytes to the device's connections. The functions have
+//! no contracts, so that the prover does not look at the bytes.
 
 use std::alloc::Global;
 use std::test::Fail;
@@ -11,7 +11,7 @@ use tpm_wire::{ConnectionNumber, Host, Mux, NoConnection, Turn};
 
 pub const STARTUP: &[u8] = &[0x80, 1, 0, 0, 0, 12, 0, 0, 1, 0x44, 0, 0];
 
-/// A device that was never started, and its connections.
+/// A device that has not been started yet, with its connections.
 pub fn mux<K: Keep>(alloc: Global) -> Result<Mux<K>, Fail> {
     Ok(Mux::new(Machine::manufacture(alloc, &[0; 256])?))
 }

@@ -1,5 +1,5 @@
-//! Tests of three connections that extend PCRs, in several orders. Afterwards TPM2_PCR_Read returns
-//! the value that the accepted commands determine.
+//! Tests of three connections that extend PCRs, in several orders. Afterwards, TPM2_PCR_Read must
+//! return the value that the accepted commands determine.
 
 use super::comparison::check;
 use super::device::{STARTUP, answer, feed, mux};
@@ -11,7 +11,7 @@ use tpm_mac::{Digest, HashAlg, digest_parts};
 use tpm_record::Keep;
 use tpm_wire::{ConnectionNumber, Mux};
 
-/// A command's measurement into PCR 16, in the SHA-256 bank.
+/// What a command does to PCR 16 in the SHA-256 bank.
 #[derive(Clone, Copy)]
 enum Measurement {
     /// TPM2_PCR_Extend with a digest that repeats this byte 32 times.

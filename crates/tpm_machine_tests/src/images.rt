@@ -12,10 +12,11 @@ use tpm_record::Keep;
 use tpm_step::Event;
 use tpm_types::Locality;
 
-/// Bytes in pieces. Each piece consists of hex digits, and the number of zero bytes after them.
+/// Bytes, written as a list of pieces. Each piece is a string of hex digits, with the number of
+/// zero bytes after it.
 type Pieces = &'static [(&'static str, usize)];
 
-/// The image of a new device, made from the random bytes 00 to ff, as in
+/// The image of a new device that was manufactured with the random bytes 00 to ff: the bytes in
 /// tests/images/version_1/new.hex.
 const NEW: Pieces = &[
     (
@@ -156,7 +157,7 @@ fn random() -> [u8; 256] {
     random
 }
 
-/// The image of the device that is opened from an image.
+/// The image that is saved by a device that was opened from an image.
 fn saved_again<K: Keep>(alloc: Global, image: Pieces) -> Result<Vec<u8>, Fail> {
     let machine: Machine<K> = opened(alloc, image)?;
     image_of(alloc, &machine)
@@ -195,7 +196,7 @@ fn fault_of<K: Keep>(
     Ok(outcome.err())
 }
 
-/// The size of an image, the offset of its changed byte, and the error.
+/// Each size to which the image is truncated, with the offset of the changed byte, and the error.
 const FAULTS: [(usize, usize, ImageFault); 5] = [
     (41, 0, ImageFault::Short),
     (355, 0, ImageFault::Magic),
@@ -221,7 +222,7 @@ fn a_cut_or_changed_image_has_a_fault(rt: HostRuntime) -> Result<(), Fail> {
     run_over_both(Faults, &rt, rt.alloc())
 }
 
-/// A buffer in hex, and its response.
+/// A command buffer in hex, and the response to it.
 type Exchange = (&'static str, Pieces);
 
 /// TPM2_Startup(STATE).

@@ -1,5 +1,5 @@
-//! Trials: each test is written once for all types that implement `Keep`, and runs with two such
-//! types.
+//! Trials: each test is written once for all types that implement `Keep`, and runs with two of
+//! these types.
 
 use std::alloc::Global;
 use std::process::Abort;

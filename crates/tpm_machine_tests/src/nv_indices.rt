@@ -40,7 +40,7 @@ const WRITTEN: &[u8] = b"\x01\0\0\x01\0\x0b\x20\x04\0\x04\0\0\0\x08";
 /// A counter of four bytes.
 const SHORT_COUNTER: &[u8] = b"\x01\0\0\x02\0\x0b\0\x04\0\x14\0\0\0\x04";
 
-/// The SHA-1 digest of twenty zeros and "abc".
+/// The SHA-1 digest of twenty zero bytes followed by "abc".
 const DIGEST: &[u8] =
     b"\x82\x6e\xb4\x34\xa3\xb9\x98\xd5\x2e\x8f\x8d\x6f\xf9\x74\x18\xcb\x60\xd5\x25\x6e";
 
@@ -79,7 +79,7 @@ fn is_read<N: Indices>(indices: &N, handle: Handle, size: u16, bytes: &[u8]) -> 
     }
 }
 
-/// The fault when the first byte of an index is read, or None if the read succeeds.
+/// The fault of reading the first byte of an index, or None if the read succeeds.
 fn read_fault<N: Indices>(indices: &N, handle: Handle) -> Option<ReadFault> {
     indices.read(handle, 0, 1).err()
 }
@@ -160,7 +160,7 @@ fn changes<N: Indices>(rt: &impl Abort, indices: &mut N) {
     check(rt, indices.undefine(FIRST), false);
 }
 
-/// Increments a counter, starting from the largest count; and sets bits in a bit field.
+/// Increments a counter, starting from the largest count so far, and sets bits in a bit field.
 fn counts<N: Indices>(rt: &impl Abort, indices: &mut N) {
     check(rt, defined(indices, COUNTER), Outcome::Answered(Ok(())));
     indices.set_max_count(7);
@@ -217,8 +217,9 @@ fn counters<N: Indices>(rt: &impl Abort, mut indices: N) {
     locks(rt, &mut indices);
 }
 
-/// Makes each call on NV indices that are stored in `N`. This function is called from two others,
-/// each with a specific `N`, because a function with a specific `N` is slow to prove.
+/// Makes each call on NV indices that are stored in `N`. A function with a specific `N` is slow to
+/// prove. Therefore this function is generic, and two other functions call it, each with a specific
+/// `N`.
 fn exercise<N: Indices, R: Abort>(rt: &R, alloc: Global) {
     ordinary(rt, N::new(alloc));
     counters(rt, N::new(alloc));

@@ -1,4 +1,4 @@
-//! What a run reports about each of its events.
+//! Tests what a run reports about each of its events.
 
 use super::comparison::check;
 use super::keeps::{Trial, run_over_both};
@@ -14,7 +14,7 @@ const STARTUP: u32 = 0x144;
 
 const GET_RANDOM: u32 = 0x17b;
 
-/// The event of a command from locality 0, with no elapsed time and random bytes that are all 0.
+/// The event of a command from locality 0. No time has elapsed, and all random bytes are 0.
 fn event_of(buffer: &[u8]) -> Event {
     Event::of_command(buffer, Locality::new(0).unwrap(), 0, [0; 256])
 }

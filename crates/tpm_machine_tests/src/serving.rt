@@ -122,7 +122,7 @@ fn pieces_of_one_byte_and_of_all_are_one_stream(rt: HostRuntime) -> Result<(), F
 }
 
 /// A trial in which each read of one byte fails in turn. The buffers that were complete before the
-/// failure get their responses. Each buffer has twelve bytes.
+/// failure get their responses. Each buffer is twelve bytes long.
 #[derive(Drop)]
 struct EachRead;
 
@@ -143,7 +143,7 @@ fn each_read_fails(rt: HostRuntime) -> Result<(), Fail> {
 }
 
 /// For each write: the number of bytes written before it, and the number of commands executed by
-/// then. The responses have ten, thirteen and fourteen bytes.
+/// then. The responses are ten, thirteen and fourteen bytes long.
 const WRITES: [(usize, u64); 8] = [
     (0, 1),
     (5, 1),

@@ -1,5 +1,6 @@
-//! Tests of sessions by handle, in both kinds of slots. Other programs computed the expected
-//! values: Python's `hmac` and `hashlib` the HMACs and hashes, and OpenSSL the encrypted parameter.
+//! Tests of the calls that access a session by its handle, with both kinds of slots. Python's
+//! `hmac` and `hashlib` computed the expected HMACs and hashes, and OpenSSL computed the expected
+//! encrypted parameter.
 
 ghost use Rattle.std.specs.Prelude.{◌≡◌, ◌≤◌, length};
 
@@ -52,8 +53,8 @@ const ENCRYPTED: &[u8] = b"\xa2\x50\xc0\xbe\x24\xaf\x83\xc1\xd4\x33\x10\xe8\x13\
 const MASKED: &[u8] = b"\xb9\xa7\x60\x5e\xe4\x00\x34\x4b\xa2\xa5\x9c\x4f\x9c\x9d\xc9\x93\
     \x3c\xd9\x6c\x50\x40\xb3\xcc\x47\x08";
 
-/// Returns its argument. The prover knows only the size of bytes that a call returns, and therefore
-/// computes nothing with them.
+/// Returns its argument. The contract states only the size of the result. Therefore the prover does
+/// not compute with the bytes.
 fn short(bytes: &[u8]) -> &[u8]
     requires { length bytes.now ≤ 32 }
     ensures { length result.now ≡ length bytes.now }
@@ -162,7 +163,7 @@ fn roll_policy<S: Slots<Session, SESSION_LIMIT>, R: Abort>(rt: &R, sessions: &mu
     check(rt, nonce_of(sessions, 0x0300_0002), Some(NONCE_TPM));
 }
 
-/// Flushes the policy session. A new session then gets its number.
+/// Flushes the policy session. Then starts a session, which gets the number of the flushed session.
 fn flush_policy<S: Slots<Session, SESSION_LIMIT>, R: Abort>(rt: &R, sessions: &mut Sessions<S>) {
     check(rt, sessions.flush(POLICY), true);
     check(rt, sessions.flush(POLICY), false);
@@ -237,7 +238,7 @@ fn bound_session<R: Abort>(rt: &R, symmetric: SymmetricDefinition) -> Session {
     .expect(rt, "the sizes are those of SHA-256")
 }
 
-/// An unbound session with SHA-256, or None if a nonce of this size or this key is not allowed.
+/// An unbound session with SHA-256, or None if the size of the nonce or the key is not allowed.
 fn unbound_session(nonce: usize, key: SessionKey) -> Option<Session>
     requires { nonce ≤ 32 }
 {
@@ -267,8 +268,8 @@ fn a_session_has_the_sizes_of_its_hash(rt: HostRuntime) {
 
 const ATTRIBUTES: SessionAttributes = SessionAttributes { octet: 0x21 };
 
-/// The data that the HMAC of a command's entry covers, including the nonces of the sessions that
-/// decrypt and encrypt.
+/// The data that the HMAC of a command's entry covers, including the nonces of the decrypt session
+/// and of the encrypt session.
 fn command_text() -> CommandText<'static> {
     CommandText {
         hash: COMMAND_HASH,

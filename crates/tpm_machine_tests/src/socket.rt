@@ -1,4 +1,4 @@
-//! A client and a served device in one process, connected by a socket.
+//! Tests a client and a device that run in one process and are connected by a socket.
 
 use super::comparison::check;
 use super::connections::{FIRST, FIRST_ANSWERS};
@@ -14,7 +14,7 @@ use tpm_record::Keep;
 use tpm_slots::SlotKeep;
 use tpm_wire::{Mux, ServeFault, serve};
 
-/// The file of the socket, in the folder where the tests run.
+/// The socket's file, in the folder in which the tests run.
 const PATH: &str = "served.sock";
 
 /// Serves a new device over a stream.

@@ -1,4 +1,4 @@
--- Lemmas about the number that the digits of a text encode in a radix.
+-- Lemmas about the number that a string of digits encodes in a radix.
 use Rattle.std.proofs.Common.{◌≡◌, ℕ, zero, suc, ◌<◌, ◌≤◌, ◌^◌, ◌-◌, ◌≢◌, true, false, List, [], ◌∷◌, length, slice_index, Result, Ok, Err, Some, arith, subst, refl, ap, sym, ◌∙◌}
 use Rattle.std.specs.Bool.{Decides}
 use Rattle.std.specs.Char.{digit_value}
@@ -33,7 +33,7 @@ first_is_no_plus radix (c ∷ cs) small some d = λ plus. absurd (worthless c pl
     worthless : (c : ℕ) → c ≡ 43 → digit_value c < radix → ⊥
     worthless c plus h = let same = ap digit_value plus in omega (arith, same)
 
--- A text is not a number if it is empty or contains a byte that is not a digit.
+-- A string is not a number if it is empty or contains a byte that is not a digit.
 pub no_digits : (most radix : ℕ) (digits : List ℕ) → length digits ≡ 0 → at_most most (numeral radix digits) ≡ Err Bad
 unfolding at_most numeral
 no_digits most radix [] none = refl
@@ -44,11 +44,11 @@ unfolding at_most numeral
 other_bytes most radix [] other = absurd cc
 other_bytes most radix (c ∷ cs) other = rw other refl
 
--- A text of digits is valid UTF-8.
+-- A string of digits is valid UTF-8.
 pub digits_are_utf8 : (radix : ℕ) (digits : List ℕ) → radix ≤ 36 → list_all (is_digit radix) digits ≡ true → IsUtf8 digits
 digits_are_utf8 radix digits small all = IsUtf8-from_ascii digits (digits_are_ascii radix digits small ((each_decides radix digits).0 all))
 
--- A text of one or more digits encodes the value of these digits.
+-- One or more digits encode the value that the digits have in the radix.
 is_number : (radix : ℕ) (digits : List ℕ) → 0 < length digits → list_all (is_digit radix) digits ≡ true → numeral radix digits ≡ Some (digits_value radix digits)
 unfolding numeral
 is_number radix [] some all = absurd (omega arith)

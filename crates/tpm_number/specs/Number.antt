@@ -12,7 +12,7 @@ use Rattle.tpm_number.specs.declared.number.Radix.TheVariants as radix
 use Rattle.tpm_number.specs.declared.fault.TokenFault.{TokenFault}
 use Rattle.tpm_number.specs.declared.fault.TokenFault.TheVariants.{Bad, Range}
 
--- whether a text is this word
+-- whether a string is this word
 abbrev pub is_word : List ℕ → List ℕ → Bool
 is_word word text = pointwise nat_eq text word
 
@@ -36,8 +36,7 @@ unfoldable pub number_of : List ℕ → Option ℕ
 number_of token =
     if starts_with nat_eq token (codes "0x") then numeral 16 (drop 2 token) else numeral 10 token
 
--- the number that was read, if a number was read. Fails with Bad if there is no number, or with
--- Range if the number exceeds this limit
+-- the number `written`, or a fault: Bad if `written` is None, Range if the number exceeds `most`
 unfoldable pub at_most : ℕ → Option ℕ → Result ℕ TokenFault
 at_most most written = do
   number ← ok_or written Bad
@@ -48,7 +47,7 @@ abbrev pub number_in : ℕ → List ℕ → Result ℕ TokenFault
 number_in most token = at_most most (number_of token)
 
 -- the number below 2^32 that one or more decimal digits encode, possibly with leading zeros, or
--- None for any other text
+-- None for any other string
 abbrev pub decimal_of : List ℕ → Option ℕ
 decimal_of digits = result_ok (at_most (2 ^ 32 - 1) (numeral 10 digits))
 

@@ -11,7 +11,7 @@ use crate::fault::TokenFault;
 use std::str;
 use tpm_types::Locality;
 
-/// Whether a text is this word.
+/// Whether a string is this word.
 pub fn is_word(word: &str, text: &[u8]) -> bool
     ensures { result ≡ is_word word.now text.now }
 {
@@ -86,8 +86,8 @@ pub fn number_in(most: u64, token: &[u8]) -> Result<u64, TokenFault>
 }
 
 /// Returns the number that these decimal digits encode. There must be at least one digit, leading
-/// zeros are allowed, and there is no sign. For any other text, and for 2^32 or more, the result is
-/// `None`.
+/// zeros are allowed, and there is no sign. For any other string, and for 2^32 or more, the result
+/// is `None`.
 #[tactic(auto, unfolding(crate::specs::Number::at_most))]
 pub fn decimal(digits: &[u8]) -> Option<u32>
     ensures { result ≡ decimal_of digits.now }
@@ -98,7 +98,7 @@ pub fn decimal(digits: &[u8]) -> Option<u32>
     }
 }
 
-/// Returns the locality with this decimal number, or None if it is not 0 to 4.
+/// Returns the locality with this decimal number, or None if the number is not between 0 and 4.
 pub fn locality(digits: &[u8]) -> Option<Locality>
     ensures { option_map locality_number result
         ≡ option_and_then locality_of (decimal_of digits.now) }

@@ -1,4 +1,5 @@
--- If all checks of a call pass, the call returns what its definition returns after the checks.
+-- If all checks of a call on an NV index pass, the call's definition is a success, with the new
+-- contents or the data that were read.
 use Rattle.std.proofs.Common.{◌≡◌, ℕ, ◌+◌, ◌<◌, ◌≤◌, ◌^◌, false, true, List, ◌++◌, length, Ok, refl}
 use Rattle.std.specs.Prelude.{◌&&◌, ◌||◌, ◌==◌, not, bit_or}
 use Rattle.std.specs.Int.{w64, to_be_bytes}

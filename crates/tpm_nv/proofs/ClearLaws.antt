@@ -24,7 +24,7 @@ module _ (start size place : ℕ) (area : List ℕ) (inside : start + size ≤ l
   moved_back : drop (place + size) (moved_down start size place area) ≡ drop (place + size) area
   moved_back = rw in_two (drop_at (take place area ++ piece_of start size area) (drop (place + size) area) (place + size) front_long)
 
-  -- Moving a piece down does not change the bytes after its old position.
+  -- Moving a piece down does not change the bytes after the piece's old position.
   pub moved_behind : drop (start + size) (moved_down start size place area) ≡ drop (start + size) area
   moved_behind =
       let far : start + size ≡ place + size + (start - place) = omega (arith, lower) in

@@ -1,5 +1,5 @@
--- If the heads (the NV indices without their data) and the area with their data change together,
--- the NV indices that they represent change accordingly.
+-- NV indices are represented by heads (the indices without their data) and by an area with all
+-- data. If the heads and the area change together, the indices change accordingly.
 use Rattle.std.proofs.Common.{◌≡◌, ◌≢◌, ℕ, ◌+◌, ◌-◌, ◌<◌, ◌≤◌, cond, eqb, leb, zero, suc, List, [], ◌∷◌, ◌++◌, length, get_or, take, drop, replicate, Option, Some, None, refl, sym, ap, subst, ◌∙◌, arith, inl, inr, append_assoc, length-append, length-drop}
 use Rattle.std.proofs.Math.Seq.{drop-append-add, take-append-add}
 use Rattle.std.specs.List.{sum_by}
@@ -58,7 +58,8 @@ none_below [] key low above under = refl
 none_below (e ∷ es) key low above under =
     rw (ne_eqb e.0 key (λ same. omega (arith, same, above.0, under))) (none_below es key low above.1 under)
 
--- In a sorted list, a key below an entry's key is not found from that entry on.
+-- In a sorted list, a search that starts at an entry does not find a key below the key of this
+-- entry.
 pub none_from : (es : Entries Head) (i key : ℕ) (d : ℕ × Head) → i < length es → Ascends (drop i es) → key ≤ (get_or es i d).0 → key ≢ (get_or es i d).0 → at_key (drop i es) key ≡ None
 none_from [] i key d in_es up under apart = absurd (omega (arith, in_es))
 none_from (e ∷ es) zero key d in_es up under apart =
@@ -85,7 +86,7 @@ piece_fits (e ∷ es) key h up there =
 rest_fits : (e : ℕ × Head) (es : Entries Head) (area : List ℕ) → total (e ∷ es) ≤ length area → total es ≤ length (drop (size_of e.1) area)
 rest_fits e es area fits = omega (arith, fits, length-drop (size_of e.1) area)
 
--- ---- the index found by a key
+-- ---- the index that a search for a key finds
 
 pub found_among : (es : Entries Head) (area : List ℕ) (key : ℕ) (h : Head) → Ascends es → at_key es key ≡ Some h → at_key (indices_of es area) key ≡ Some (index_with h (piece_of (start_of es key) (size_of h) area))
 found_among [] area key h up there = absurd cc

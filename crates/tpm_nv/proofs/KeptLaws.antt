@@ -53,13 +53,13 @@ there_is es area count handle (Some h) kept is =
       },
     )
 
--- If the result of a search has a property, the index that the search found has this property.
+-- If a search's result has a property, so does the index that the search found.
 pub known_of : (P : NvIndex → Type 0) (found : Option NvIndex) (x : NvIndex) → found ≡ Some x → IsSomeAnd found P → P x
 known_of P None x is known = absurd cc
 known_of P (Some y) x is known = let same : y ≡ x = cc in subst P same known
 
--- If the new heads and area represent the old indices with one index changed, the contents change
--- in the same way.
+-- If new heads and a new area represent the old indices with one index changed, the contents change
+-- in this index only.
 pub contents_changed : (es new : Entries Head) (area after : List ℕ) (count : ℕ) (handle : Handle) (shown : NvContents) (x : NvIndex) (f : NvIndex → NvIndex) → (let view : NvContents = record { indices = indices_of es area; max_count = count } in view ≡ shown) → at_key (indices_of es area) handle.number ≡ Some x → indices_of new after ≡ changed_key (indices_of es area) handle.number (f x) → (index : NvIndex) → index_at shown handle ≡ Some index → (let view : NvContents = record { indices = indices_of new after; max_count = count } in view ≡ changed_index shown handle (f index))
 contents_changed es new area after count handle shown x f view found seen index is =
     let there : at_key (indices_of es area) handle.number ≡ Some index = ap (λ (s : NvContents). index_at s handle) view ∙ is in
@@ -106,7 +106,8 @@ kept_changed es area after key h g kept there is same_size same_length =
       each = heads_changed es key g kept.each is;
     }
 
--- If a head changes and its bytes do not, the index that they represent changes accordingly.
+-- If a head changes and its bytes do not, the index that the head and the bytes represent changes
+-- accordingly.
 pub seen_changed : (es : Entries Head) (area : List ℕ) (key : ℕ) (h g : Head) → AreKept es area → at_key es key ≡ Some h → size_of g ≡ size_of h → indices_of (changed_key es key g) area ≡ changed_key (indices_of es area) key (index_with g (piece_of (start_of es key) (size_of h) area))
 seen_changed es area key h g kept there same_size =
     let s = start_of es key in
@@ -129,15 +130,16 @@ is_head_marked key h one is =
     let a = h.public.attributes in
     is_head_with key h (with_attribute a one) is (are_attributes.set_named a one is.public.attributes) (are_attributes.set_type a one)
 
--- ---- putting data
+-- ---- writing data
 
 pub length_filled : (is_written : Bool) (start size byte : ℕ) (area : List ℕ) → start + size ≤ length area → length (filled is_written start size byte area) ≡ length area
 length_filled true start size byte area fits = refl
 length_filled false start size byte area fits =
     length_put start (replicate size byte) area (omega (arith, fits, length-replicate {A = ℕ} size byte))
 
--- Filling an unwritten piece and then writing bytes into it has the same result in the area as in a
--- copy that then replaces the piece.
+-- Two ways to write bytes into a piece of the area have the same result. The first way fills the
+-- piece in the area if it is unwritten, and then writes the bytes. The second way does this in a
+-- copy of the piece, which then replaces the piece.
 filled_put : (is_written : Bool) (start size offset byte : ℕ) (bytes area : List ℕ) → start + size ≤ length area → offset + length bytes ≤ size → put_over (start + offset) bytes (filled is_written start size byte area) ≡ put_over start (put_over offset bytes (cond is_written (piece_of start size area) (replicate size byte))) area
 filled_put true start size offset byte bytes area fits within = put_within start size offset bytes area fits within
 filled_put false start size offset byte bytes area fits within =
@@ -195,8 +197,8 @@ kept_put es area bytes key offset byte h kept there within =
     refl
     (length_put_filled es area bytes key offset byte h kept there within)
 
--- Replaces the code's offset, size and written state in the result of a write by the equal values
--- of the index.
+-- In the result of a write, the offset, the size and the written state that the code found can be
+-- replaced by the index's own, because they are equal.
 pub put_is : (after bytes area : List ℕ) (is_written : Bool) (start size offset byte from many : ℕ) (b : Bool) → after ≡ put_over (from + offset) bytes (filled b from many byte area) → b ≡ is_written → from ≡ start → many ≡ size → after ≡ put_over (start + offset) bytes (filled is_written start size byte area)
 put_is after bytes area is_written start size offset byte from many b is written from_is size_is =
     is
@@ -239,8 +241,8 @@ start_is es area count handle shown view =
 pub known_some : (P : NvIndex → Type 0) (found : Option NvIndex) (x : NvIndex) → found ≡ Some x → P x → IsSomeAnd found P
 known_some P found x is known = subst (λ (o : Option NvIndex). IsSomeAnd o P) (sym is) known
 
--- If a pass over the heads finds no head, there is no index. If it finds a head, the index consists
--- of this head and its bytes.
+-- If a pass over the heads finds no head for a handle, no index has this handle. If it finds a
+-- head, the index consists of this head and of the bytes that belong to the head.
 module _ (es : Entries Head) (area : List ℕ) (count : ℕ) (handle : Handle) (shown : NvContents) (view : (let kept : NvContents = record { indices = indices_of es area; max_count = count } in kept ≡ shown)) where
   pub found_none : (found : Option Found) → IfNone found (at_key es handle.number ≡ None) → IfNone found (index_at shown handle ≡ None)
   found_none None none = none_at es area count handle shown view none
@@ -305,7 +307,7 @@ kept_removed es area key h kept there =
       each = heads_removed es key kept.each;
     }
 
--- ---- adding an index, and room for it
+-- ---- adding an index, and whether there is room for it
 
 pub room_is : (es : Entries Head) (area : List ℕ) (count size : ℕ) → AreKept es area → has_room (record { indices = indices_of es area; max_count = count }) size ≡ (nat_lt (length es) nv_index_limit && nat_le (length area + size) nv_space_limit)
 room_is es area count size kept = rw (length_among es area, bytes_among es area, kept.whole) refl
@@ -388,7 +390,8 @@ type_of_writable type index e =
     let a = bind_ok (refused_if (has index.public.attributes attribute.WriteLocked) Locked) (λ _. refused_if (not (is_of index.public.attributes type)) Attributes) tt e in
     not_false (is_of index.public.attributes type) (passed (not (is_of index.public.attributes type)) Attributes tt a.2)
 
--- If an index is of this type and its public area has an allowed size, the type allows that size.
+-- If an index is of this type, and the type of the index allows its size, then this type allows
+-- that size.
 pub size_of_type : (p : NvPublic) (kind : NvType) → is_of p.attributes kind ≡ true → has_type_size p ≡ true → is_type_size p (Some kind) ≡ true
 size_of_type p kind is sized =
     let number : type_number p.attributes ≡ nv_type_number kind = eqb-true _ _ is in

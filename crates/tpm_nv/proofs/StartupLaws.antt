@@ -1,5 +1,5 @@
 -- A startup changes the heads (NV indices without their data) one by one. These lemmas say which
--- heads and indices result after each step.
+-- heads and indices there are after each step.
 use Rattle.std.proofs.Common.{◌≡◌, ◌≢◌, ℕ, zero, suc, ◌+◌, ◌<◌, ◌≤◌, Bool, true, false, cond, List, [], ◌∷◌, ◌++◌, length, take, drop, get_or, Some, refl, sym, ap, subst, ◌∙◌, arith}
 use Rattle.std.specs.Prelude.{◌&&◌, map}
 use Rattle.std.proofs.lemmas.Bool.{cond_both, cond-true, cond-false, eq-eqb, ne_eqb}
@@ -35,13 +35,13 @@ entry_there [] i inside = absurd (omega arith)
 entry_there (f ∷ es) zero inside = (f, refl)
 entry_there (f ∷ es) (suc i) inside = entry_there es i (omega arith)
 
--- The startup does not change an entry before its turn.
+-- After the startup has changed the first i heads, head i is still unchanged.
 pub same_in_turn : (es : Entries Head) (i : ℕ) (e : ℕ × Head) → i < length es → get_or (started_up_to i es) i e ≡ get_or es i e
 same_in_turn [] i e inside = absurd (omega arith)
 same_in_turn (f ∷ es) zero e inside = refl
 same_in_turn (f ∷ es) (suc i) e inside = same_in_turn es i e (omega arith)
 
--- A search for the key of an entry whose turn has not come yet finds the entry.
+-- After the startup has changed the first i heads, a search for the key of head i finds head i.
 pub found_in_turn : (es : Entries Head) (i : ℕ) (e : ℕ × Head) → Ascends es → i < length es → get_or es i e ≡ e → at_key (started_up_to i es) e.0 ≡ Some e.1
 found_in_turn [] i e up inside is = absurd (omega arith)
 found_in_turn (f ∷ es) zero e up inside is =
@@ -50,7 +50,7 @@ found_in_turn (f ∷ es) (suc i) e up inside is =
     let apart : f.0 ≢ e.0 = λ same. let above = key_above f.0 es i e up.0 (omega arith) is in omega arith in
     cond-false _ _ _ (ne_eqb f.0 e.0 apart) ∙ found_in_turn es i e up.1 (omega arith) is
 
--- Changing the next entry increases the number of changed entries by one.
+-- If head i is changed after the first i heads, the first i + 1 heads have been changed.
 pub started_in_turn : (es : Entries Head) (i : ℕ) (e : ℕ × Head) → Ascends es → i < length es → get_or es i e ≡ e → changed_key (started_up_to i es) e.0 (started_head e.1) ≡ started_up_to (suc i) es
 started_in_turn [] i e up inside is = absurd (omega arith)
 started_in_turn (f ∷ es) zero e up inside is =

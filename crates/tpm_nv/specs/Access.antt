@@ -30,11 +30,11 @@ abbrev pub ChangesContents : {F : Type 0} → Result NvContents F
 ChangesContents answer old (Ok done) new = answer ≡ Ok new
 ChangesContents answer old (Err fault) new = (answer ≡ Err fault) × (new ≡ old)
 
--- the index with this handle, or this fault if there is none
+-- the index with this handle, or this fault if no index has this handle
 abbrev pub index_or_fault : {F : Type 0} → NvContents → Handle → F → Result NvIndex F
 index_or_fault contents handle fault = ok_or (index_at contents handle) fault
 
--- the fault of a missing index, for a call that has no other fault
+-- the fault of a call that can fail only because no index has this handle
 abbrev pub undefined : Undefined
 undefined = record {}
 
@@ -56,7 +56,7 @@ marked index attribute =
 abbrev pub with_data : NvIndex → List ℕ → NvIndex
 with_data index bytes = record (marked index attribute.Written) { bytes = bytes }
 
--- the data of an index or, before the first write, as many copies of `byte` as the index has bytes
+-- the data of an index or, before the first write, `byte` repeated to the size of the data
 abbrev pub data_or : ℕ → NvIndex → List ℕ
 data_or byte index =
     if index_has index attribute.Written then index.bytes else replicate index.public.data_size byte
@@ -80,9 +80,9 @@ check_writable contents handle type = do
   index ← index_or_fault contents handle write_fault.Undefined
   writable type index
 
--- the contents after TPM2_NV_Write: the bytes overwrite the data at an offset. They must lie within
--- the data, and must cover all of it if the index has WRITEALL. The first write sets all other
--- bytes to FF (a choice of this implementation)
+-- the contents after TPM2_NV_Write: the bytes overwrite the data at an offset. The write must not
+-- extend past the end of the data, and must cover all of the data if the index has WRITEALL. The
+-- first write sets all other bytes to FF (a choice of this implementation)
 unfoldable pub written : NvContents → Handle → (offset : ℕ) → List ℕ
     → Result NvContents WriteFault
 written contents handle offset bytes = do
@@ -94,8 +94,8 @@ written contents handle offset bytes = do
       write_fault.Partial
   Ok (changed_index contents handle (with_data index (put_over offset bytes (data_or 0xff index))))
 
--- the contents after a counter reached this value. If no counter has ever had a larger value, this
--- is the new largest value
+-- the contents after a counter has reached this value. If no counter has ever had a larger value,
+-- this value becomes the largest value
 abbrev pub counted : NvContents → ℕ → NvContents
 counted contents count = record contents { max_count = max contents.max_count count }
 
@@ -139,7 +139,7 @@ readable index = do
   unlocked ← refused_if (index_has index attribute.ReadLocked) read_fault.Locked
   refused_if (not (index_has index attribute.Written)) read_fault.Uninitialized
 
--- the part of an index's data with this offset and size
+-- `size` bytes of an index's data, starting at this offset
 unfoldable pub read_at : NvContents → Handle → (offset size : ℕ) → Result (List ℕ) ReadFault
 read_at contents handle offset size = do
   index ← index_or_fault contents handle read_fault.Undefined
@@ -166,7 +166,7 @@ read_locked contents handle = do
   lockable ← refused_if (not (index_has index attribute.ReadStClear)) lock_fault.Attributes
   Ok (changed_index contents handle (marked index attribute.ReadLocked))
 
--- the contents after the authorization value of an index was replaced. The command, not this
+-- the contents after an index's authorization value has been replaced. The command, not this
 -- definition, checks the length of the value
 unfoldable pub with_auth_value : NvContents → Handle → List ℕ → Result NvContents Undefined
 with_auth_value contents handle value = do

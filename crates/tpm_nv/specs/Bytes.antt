@@ -23,18 +23,18 @@ opened start size bytes = take start bytes ++ (replicate size 0 ++ drop start by
 abbrev pub closed_up : (start size : ℕ) → List ℕ → List ℕ
 closed_up start size bytes = take start bytes ++ drop (start + size) bytes
 
--- the bytes after the last `size` bytes were moved to an offset
+-- the result of moving the last `size` bytes to an offset
 unfoldable pub moved_from_end : (start size : ℕ) → List ℕ → List ℕ
 moved_from_end start size bytes =
     let behind : List ℕ = drop start bytes in
     take start bytes ++ (drop (length behind - size) behind ++ take (length behind - size) behind)
 
--- the bytes after `size` bytes at an offset were moved to the end
+-- the result of moving `size` bytes at an offset to the end
 abbrev pub moved_to_end : (start size : ℕ) → List ℕ → List ℕ
 moved_to_end start size bytes =
     take start bytes ++ (drop (start + size) bytes ++ piece_of start size bytes)
 
--- the bytes after `size` bytes at `start` were copied to the lower offset `place`
+-- the result of copying `size` bytes at `start` to the lower offset `place`
 abbrev pub moved_down : (start size place : ℕ) → List ℕ → List ℕ
 moved_down start size place bytes =
     take place bytes ++ (piece_of start size bytes ++ drop (place + size) bytes)

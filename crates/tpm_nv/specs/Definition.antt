@@ -48,10 +48,10 @@ undefinable_attributes =
     attribute.Written ∷ attribute.ReadLocked ∷ attribute.WriteLocked
     ∷ attribute.PolicyDelete ∷ attribute.GlobalLock ∷ attribute.Orderly ∷ []
 
--- for each fault that the attributes of a new index can have, whether they have it: the type is not
--- supported; an attribute is set that a definition may not set; nobody may write; nobody may read;
--- the index is a counter that a startup clears; PLATFORMCREATE is set but the owner defines the
--- index, or not set but the platform does
+-- tests for the faults that the attributes of a new index can have, one for each fault: the type is
+-- not supported; an attribute is set that a definition may not set; nobody may write; nobody may
+-- read; the index is a counter that a startup clears; PLATFORMCREATE is set although the owner
+-- defines the index, or clear although the platform does
 abbrev pub index_attribute_conflicts : (by_platform : Bool) → NvAttributes → List Bool
 index_attribute_conflicts by_platform a =
     not (is_some (index_type a))
@@ -89,12 +89,12 @@ definition_passes by_platform p auth_size = do
 
 -- ---- the effect of a definition
 
--- a newly defined index, which has no data
+-- a newly defined index, whose data is empty
 abbrev pub defined_index : NvPublic → List ℕ → NvIndex
 defined_index public auth_value = record { public = public; auth_value = auth_value; bytes = [] }
 
--- The result says whether an index with this public area can be added. The fault says why not: the
--- handle already has an index, or there is no room for the index.
+-- The result says whether an index with this public area can be added. A fault says why it cannot
+-- be added: the handle already has an index, or there is no room for the index.
 abbrev pub HasRoomFor : NvContents → NvPublic → Result (Unit {0}) RestoreFault → Type 0
 HasRoomFor contents public (Ok done) =
     (index_at contents public.nv_index ≡ None) × (has_room contents public.data_size ≡ true)
@@ -128,8 +128,9 @@ Restores can old index (Err NoMemory) new =
 abbrev pub IsDefinable : NvPublic → Type 0
 IsDefinable public = (has public.attributes attribute.Written ≡ false) × (has_type_size public ≡ true)
 
--- On success, the index was defined. On failure, nothing changed: the index's public area has
--- WRITTEN set, its type does not allow its size, or it could not be added with its handle.
+-- On success, the index was defined. On failure, nothing changed, and the fault is the first that
+-- applies: WRITTEN is set in the public area; the type does not allow the size; the handle already
+-- has an index; there is no room for the index; or an allocation failed.
 abbrev pub Defines : Bool → NvContents → NvIndex → Result (Unit {0}) DefineFault → NvContents
     → Type 0
 Defines can old index (Ok done) new = IsDefinable index.public × Restores can old index (Ok done) new

@@ -1,6 +1,6 @@
--- How NV indices are stored in memory. The standard leaves this open. A head is an index without
+-- How NV indices are stored in memory, which the standard leaves open. A head is an index without
 -- its data. The heads are keyed by handle, and the data of all indices is in one area, in order of
--- handle. Each index occupies as many bytes as its head says, even before it is written.
+-- handle. Each index occupies as many bytes as its head says, even before the first write.
 use Rattle.tpm_types.specs.Limits.{nv_index_limit, nv_space_limit}
 use Rattle.std.specs.Prelude.{◌≡◌, ℕ, ◌+◌, ◌≤◌, nat_le, Bool, true, List, [], ◌∷◌, ◌++◌, length, take, drop, Some, if◌then◌else◌, map}
 use Rattle.tpm_containers.specs.SortedMap.{Ascends, Entries}
@@ -42,12 +42,12 @@ indices_of [] area = []
 indices_of (e ∷ es) area =
     (e.0, index_with e.1 (take (size_of e.1) area)) ∷ indices_of es (drop (size_of e.1) area)
 
--- the number of bytes of all these indices
+-- the number of bytes that the indices with these heads occupy
 abbrev pub total : Entries Head → ℕ
 total [] = 0
 total (e ∷ es) = size_of e.1 + total es
 
--- the number of bytes of the indices with keys below this key
+-- the number of bytes that the indices with keys below this key occupy
 abbrev pub start_of : Entries Head → ℕ → ℕ
 start_of [] key = 0
 start_of (e ∷ es) key = if nat_le key e.0 then 0 else size_of e.1 + start_of es key
@@ -83,7 +83,7 @@ with_attributes head attributes =
     record head { public = record head.public { attributes = attributes } }
 
 -- The index with this handle has this head and these bytes. The head determines the number of
--- bytes; if WRITTEN is set, the bytes are the index's data.
+-- bytes, which the index's type allows. If WRITTEN is set, the bytes are the index's data.
 pub record IsIndexOf (contents : NvContents) (handle : Handle) (head : Head) (bytes : List ℕ)
     : Type 0
   where
@@ -99,7 +99,7 @@ started_head head = with_attributes head (started_attributes head.public.attribu
 abbrev pub stays : Head → Bool
 stays head = is_by_platform head.public
 
--- the bytes of an index if TPM2_Clear keeps it, or no bytes otherwise
+-- the bytes of an index if TPM2_Clear keeps the index; otherwise the empty list
 abbrev pub kept_piece : Head → List ℕ → List ℕ
 kept_piece head bytes = if stays head then bytes else []
 

@@ -9,8 +9,9 @@ use Rattle.tpm_types_nv.specs.declared.nv_attributes.NvAttribute.TheVariants as 
 use Rattle.tpm_nv.specs.Definition.{has_type_size}
 use Rattle.tpm_nv.specs.Index.{NvContents, NvIndex, data_bytes}
 
--- The key of an index is its handle. Its public area can be encoded, and its type allows its size.
--- If WRITTEN is set, its data is as long as the public area says; otherwise its data is empty.
+-- The key of an index is its handle. Its public area can be encoded, its type allows its size, and
+-- its authorization value can be stored. If the index has WRITTEN set, its data is as long as the
+-- public area says; otherwise the data is empty.
 pub record IsIndex (key : ℕ) (index : NvIndex) : Type 0 where
   pub named : key ≡ index.public.nv_index.number
   pub public : IsNvPublic index.public

@@ -1,4 +1,4 @@
--- The location of an index in the stored state. A call looks it up once and passes it on.
+-- The location of an index in the stored state. Each call looks it up only once.
 use Rattle.std.specs.Prelude.{◌≡◌, ℕ, List, IsSomeAnd}
 use Rattle.tpm_types.specs.declared.handle.Handle.{Handle}
 use Rattle.tpm_types_nv.specs.NvAttributes.{has}

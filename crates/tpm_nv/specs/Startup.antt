@@ -22,7 +22,7 @@ unlocked a =
 abbrev pub started_attributes : NvAttributes → NvAttributes
 started_attributes a = unlocked (kept_written a)
 
--- an index after a startup with CLEAR. If WRITTEN is then clear, the index has no data
+-- an index after a startup with CLEAR. If WRITTEN is then clear, the index's data is empty
 abbrev pub started_index : NvIndex → NvIndex
 started_index index = record {
   public = record index.public { attributes = started_attributes index.public.attributes };

@@ -15,7 +15,7 @@ use tpm_types_nv::{NvAttribute, NvAttributes, NvPublic, NvType};
 pub enum DefinitionFault {
     /// The authorization value is longer than a nameAlg digest.
     AuthValueSize,
-    /// authPolicy is neither empty nor of the size of a nameAlg digest.
+    /// authPolicy is neither empty nor as long as a nameAlg digest.
     AuthPolicySize,
     /// An attribute is set that a definition may not set, or the attributes contradict each other.
     Attributes,

@@ -21,8 +21,9 @@ use std::alloc::Global;
 use tpm_types::{AuthValue, Handle};
 use tpm_types_nv::NvPublic;
 
-/// The NV indices of a device, keyed by handle, within the limits on their number and data. A call
-/// that fails changes nothing. These calls do not check who may read or write.
+/// The NV indices of a device, keyed by handle, within the limits on the number of indices and on
+/// the size of their data. A call that fails changes nothing. These calls do not check who may read
+/// or write.
 pub trait Indices: Drop + Sized {
     /// The indices, and the largest value that any counter has ever had.
     ghost contents: { Self → NvContents };
@@ -42,8 +43,8 @@ pub trait Indices: Drop + Sized {
     fn heads(&self) -> &[(u32, Head)]
         ensures { result.now ≡ heads_of (contents self.now) };
 
-    /// The bytes of all indices, in ascending order of handle. Each index occupies as many bytes
-    /// as its public area says; they are its data once it is written.
+    /// The bytes of all indices, in ascending order of handle. Each index occupies as many bytes as
+    /// its public area says. Once the index is written, these bytes are its data.
     fn bytes(&self) -> &[u8]
         ensures seen { indices_of (heads_of (contents self.now)) result.now
             ≡ (contents self.now).indices }
@@ -53,8 +54,8 @@ pub trait Indices: Drop + Sized {
     fn next(&self, handle: Handle) -> Option<u32>
         ensures { result ≡ next_index (contents self.now) handle.number };
 
-    /// Defines an index, initially without data (TPM 2.0 Library, Part 3, section 31.3). The checks
-    /// that this call does not make are in [`crate::definition::check_definition`].
+    /// Defines an index, initially without data (TPM 2.0 Library, Part 3, section 31.3). The other
+    /// checks of a definition are in [`crate::definition::check_definition`].
     fn define(&mut self, public: NvPublic, auth_value: AuthValue) -> Result<(), DefineFault>
         requires { IsNvPublic public }
         ensures { Defines can_refuse (contents self.old) (defined_index public auth_value) result
@@ -75,7 +76,7 @@ pub trait Indices: Drop + Sized {
             (record { public = public; auth_value = auth_value; bytes = bytes.now }) result
             (contents self.new) };
 
-    /// Removes an index and its data. Returns whether there was one (Part 3, section 31.4).
+    /// Removes an index and its data. Returns whether the index existed (Part 3, section 31.4).
     fn undefine(&mut self, handle: Handle) -> bool
         ensures there { result ≡ is_some (index_at (contents self.old) handle) }
         ensures after { contents self.new ≡ without_index (contents self.old) handle };
@@ -120,12 +121,12 @@ pub trait Indices: Drop + Sized {
         ensures { ChangesContents (with_auth_value (contents self.old) handle value)
             (contents self.old) result (contents self.new) };
 
-    /// Changes all indices as TPM2_Startup with CLEAR does (Part 3, section 9.3).
+    /// Applies the effect of a TPM2_Startup with CLEAR to all indices (Part 3, section 9.3).
     fn startup(&mut self)
         ensures { contents self.new ≡ started (contents self.old) };
 
-    /// Removes the indices that the platform did not define, as TPM2_Clear does (Part 3, section
-    /// 24.6). Moves the bytes of each remaining index at most once.
+    /// Applies the effect of TPM2_Clear: removes the indices that the platform did not define (Part
+    /// 3, section 24.6). Moves the bytes of each remaining index at most once.
     fn clear(&mut self)
         ensures { contents self.new ≡ cleared (contents self.old) };
 

@@ -1,5 +1,5 @@
-//! Two kinds of area for all NV data: a list that grows, which may fail to allocate memory, and an
-//! area of fixed size, which never allocates memory.
+//! Two kinds of area that can contain all NV data: a growable list, which may fail to allocate
+//! memory, and an area of fixed size, which never allocates memory.
 
 ghost use Rattle.tpm_types.specs.Limits.{nv_space_limit};
 ghost use Rattle.std.specs.Prelude.{◌≡◌, ◌≤◌, ◌+◌, ◌++◌, length, replicate, true, OnErr, OnOk};
@@ -48,7 +48,7 @@ pub struct ItemArea<B: ByteItems> {
     bytes: B,
 }
 
-/// An area in a list that grows.
+/// An area in a growable list, which may fail to allocate memory.
 pub type ListArea = ItemArea<Vec<u8>>;
 
 /// An area of fixed size, which never allocates memory.

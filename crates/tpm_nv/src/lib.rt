@@ -9,9 +9,9 @@
 //! trait [`indices::Indices`] contains the calls on indices. Contracts treat the indices as a
 //! finite map from handles to public areas, authorization values and data, together with the
 //! largest value that any counter has ever had. One equation specifies each call.
-//! [`stored_indices::StoredIndices`] stores the indices in lists that grow or in fixed-size
-//! storage: the heads, which are the indices without their data, in a map sorted by handle, and the
-//! bytes of all indices in one area. Only a definition may allocate memory; a call that fails
+//! [`stored_indices::StoredIndices`] stores the indices in growable lists or in fixed-size storage.
+//! It has a map sorted by handle for the heads, which are the indices without their data, and one
+//! area for the bytes of all indices. Only a definition may allocate memory; a call that fails
 //! changes nothing. [`check_definition`] checks whether an index may be defined. Other crates check
 //! who may read or write an index.
 

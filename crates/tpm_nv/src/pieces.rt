@@ -24,7 +24,7 @@ pub(crate) fn piece_at(bytes: &[u8], start: usize, size: usize) -> &[u8]
     &bytes[start..start + size]
 }
 
-/// Inserts `size` bytes at an offset: the data, padded with zeros.
+/// Inserts `size` bytes at an offset: the given data, padded with zeros.
 #[tactic(auto, using(crate::proofs::Cuts::put_opened))]
 pub(crate) fn put_between<R: Area>(
     area: &mut R,

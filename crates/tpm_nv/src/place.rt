@@ -1,4 +1,4 @@
-//! The location of an index in the stored state, which each call looks up once.
+//! The location of an index in the stored state. Each call looks it up once.
 
 ghost use Rattle.std.specs.Prelude.{◌≡◌};
 ghost use Rattle.tpm_nv.specs.Place.{piece_at_place, place_of};

@@ -53,7 +53,7 @@ fn entry_at(entries: &[(u32, Head)], place: usize) -> (u32, NvAttributes)
     (entry.0, entry.1.public.attributes)
 }
 
-/// Changes all heads as a startup with CLEAR does.
+/// Applies the effect of a startup with CLEAR to all heads.
 pub(crate) fn start_heads<H: SortedMap<Head, NV_INDEX_LIMIT>>(heads: &mut H)
     requires { Ascends (H.entries heads.old) }
     ensures { H.entries heads.new ≡ map (λ e. (e.0, started_head e.1)) (H.entries heads.old) }

@@ -1,5 +1,5 @@
 //! How NV indices are stored: the heads in a map keyed by handle, and the data of all indices in
-//! one area. One type covers both kinds of storage: lists that grow, and storage of fixed size.
+//! one area. One type covers both kinds of storage: growable lists, and storage of fixed size.
 
 ghost use Rattle.std.specs.Prelude.{◌≡◌, ◌≢◌, ◌<◌, ◌≤◌, ◌+◌, ◌||◌, ℕ, List, ◌++◌, None, Some, Ok, Err};
 ghost use Rattle.std.specs.Prelude.{IfErr, IfNone, IfOk, IfSome, IsSomeAnd, OnErr, OnOk};
@@ -45,7 +45,7 @@ pub struct StoredIndices<H: SortedMap<Head, NV_INDEX_LIMIT>, R: Area> {
     max_count: u64,
 }
 
-/// NV indices in lists that grow. A definition can run out of memory.
+/// NV indices in growable lists. A definition can run out of memory.
 pub type ListIndices = StoredIndices<ListMap<Head, NV_INDEX_LIMIT>, ListArea>;
 
 /// NV indices in fixed-size storage. Nothing is ever allocated, so no allocation can fail. A value
@@ -87,8 +87,8 @@ impl<H: SortedMap<Head, NV_INDEX_LIMIT>, R: Area> StoredIndices<H, R> {
         found_at(self.heads.as_slice(), handle.number)
     }
 
-    /// Finds the index with this handle. Returns a fault if there is none, or if a command for
-    /// indices of this type may not write it.
+    /// Finds the index with this handle. Returns a fault if no index has this handle, or if a
+    /// command for indices of this type may not write the index.
     fn writable(&self, handle: Handle, kind: NvType) -> Result<Found<'_>, WriteFault>
         ensures refused { IfErr result (λ fault. check_writable self.now handle kind ≡ Err fault) }
         ensures there { IfOk result (λ found. (old : List ℕ)
@@ -122,7 +122,7 @@ impl<H: SortedMap<Head, NV_INDEX_LIMIT>, R: Area> StoredIndices<H, R> {
         set_attributes(&mut self.heads, handle.number, written);
     }
 
-    /// Sets one more attribute of an index, whose current attributes are `of`.
+    /// Sets one more attribute of an index. `of` contains the index's current attributes.
     fn mark(&mut self, handle: Handle, of: NvAttributes, attribute: NvAttribute)
         requires there { IsSomeAnd (index_at self.old handle) (λ index.
             of ≡ index.public.attributes) }

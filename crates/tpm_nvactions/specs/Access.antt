@@ -1,6 +1,6 @@
--- The common part of the commands on NV indices: the refusals if authHandle may not read or write
--- an index, or if an index cannot be written or locked. TPM 2.0 Library, Part 3, section 31
--- (non-volatile storage). The response codes and the order of the checks are choices of this
+-- What the commands on NV indices have in common: how they are refused if authHandle may not read
+-- or write an index, or if an index cannot be written or locked. TPM 2.0 Library, Part 3, section
+-- 31 (non-volatile storage). The response codes and the order of the checks are choices of this
 -- implementation.
 use Rattle.tpm_types.specs.declared.action_check.ActionCheck.TheVariants as action
 use Rattle.std.specs.Prelude.{not, Result, Ok}
@@ -58,8 +58,8 @@ lock_refusal lock_fault.Undefined = handle_refusal
 abbrev pub changed_nv : Record → NvContents → Success
 changed_nv r nv = record { answer = nothing; after = record r { nv = nv } }
 
--- the row of a command that changes an index according to its parameters: check A1, then the checks
--- of the change
+-- the row of a command that changes an index as its parameters say: check A1 comes first, and then
+-- the checks that belong to the change
 abbrev pub write_row : {P : Type 0} → Record → Request → Result P Refused
     → (P → Handle → Result NvContents WriteFault) → Result Success Refused
 write_row r q read change = do

@@ -36,7 +36,7 @@ parameters_in text = do
 abbrev pub parameters_of : DefinitionParameters → Parameters
 parameters_of asked = record { auth_value = asked.auth_value; public = asked.public }
 
--- the refusals by checks A1 to A4 of a definition
+-- the refusals of a definition by checks A1 to A4
 abbrev pub definition_refusal : DefinitionFault → Refused
 definition_refusal fault.AuthValueSize = parameter_refusal action.First 1 code.Size
 definition_refusal fault.AuthPolicySize = parameter_refusal action.Second 2 code.Size

@@ -17,7 +17,7 @@ use Rattle.tpm_record.specs.declared.rows.target.Target.{Target}
 use Rattle.tpm_record.specs.rows.Target.{target_of}
 use Rattle.tpm_nvactions.specs.Access.{changed_nv}
 
--- whether the owner requests the removal of an index that the platform defined
+-- whether the owner asks to remove an index that the platform defined
 abbrev pub is_kept_from : Target → Bool
 is_kept_from target =
     target.auth_handle.number == owner_handle.number && has target.attributes attribute.PlatformCreate

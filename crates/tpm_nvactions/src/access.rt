@@ -1,5 +1,5 @@
-//! The common part of the commands on NV indices: which authHandle may write or read an index, and
-//! the refusals if an index cannot be written or locked.
+//! What the commands on NV indices have in common: which authHandle may write or read an index, and
+//! how a write or a lock is refused.
 
 ghost use Rattle.std.specs.Prelude.{◌≡◌};
 ghost use Rattle.tpm_nvactions.specs.Access.{lock_refusal, reader_passes, writing_refusal, writer_passes};

@@ -1,9 +1,9 @@
 #![tactic(auto)]
 
-//! What each command on NV indices does. Each file contains one command with one public call,
-//! which decodes the plaintext parameters, checks them, and changes the record last (TPM 2.0
-//! Library, Part 3, section 31). [`access`] contains what the commands have in common: who may
-//! read and write an index, and the refusals.
+//! What each command on NV indices does. Each file implements one command as one public function,
+//! which decodes the plaintext parameters, checks them, and finally changes the record (TPM 2.0
+//! Library, Part 3, section 31). [`access`] contains what the commands have in common: the checks
+//! of who may read and write an index, and the refusals.
 //!
 //! The crate uses `tpm_record::rows`, and `tpm_nv` for the indices. `specs/` contains a row for
 //! each command, with the same name. Each call is proved to do what its row specifies, for every

@@ -49,8 +49,7 @@ integrity_small parent name protected =
       length-hmac_of parent.public.name_alg (integrity_key parent) (protected ++ name),
     )
 
--- If the input consists of an integrity value and the bytes that it protects, reading it returns
--- these bytes.
+-- Reading an integrity value, followed by the bytes that it protects, returns these bytes.
 protected_again : (parent : Object) (name protected : List ℕ)
     → protected_in parent name (authenticated_text parent name protected) ≡ Ok protected
 unfolding protected_in
@@ -62,8 +61,8 @@ protected_again parent name protected =
       (bytes_eq-Decides value value).1 refl,
     ) refl
 
--- If reading the input returns protected bytes, the input consists of their integrity value and
--- these bytes.
+-- If reading the input returns protected bytes, the input consists of their integrity value and of
+-- the bytes themselves.
 protected_found : (parent : Object) (name text protected : List ℕ)
     → AreBytes text → protected_in parent name text ≡ Ok protected
     → text ≡ authenticated_text parent name protected
@@ -82,7 +81,7 @@ protected_found parent name text protected fits e =
 
 -- ---- the encrypted area
 
--- Decoding an area's encoding in a sized buffer returns the area.
+-- Encoding an area in a sized buffer and then decoding it returns the area.
 area_again : (area : Sensitive) → IsSensitive area → area_in (sized_text (sensitive_text area)) ≡ Ok area
 unfolding area_in
 area_again area is =

@@ -2,7 +2,7 @@
 use Rattle.std.specs.Prelude.{Bool, List, [], ◌∷◌, if◌then◌else◌, Result, Ok, Err}
 use Rattle.std.specs.List.{list_any}
 
--- the fault of the first check that fails (its Bool is true), or success if none fails
+-- success, or the fault of the first check that fails; a check fails if its Bool is true
 abbrev pub first_fault : {F : Type 0} → List (Bool × F) → Result (Unit {0}) F
 first_fault [] = Ok tt
 first_fault (check ∷ checks) = if check.0 then Err check.1 else first_fault checks

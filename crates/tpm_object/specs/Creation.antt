@@ -23,9 +23,9 @@ use Rattle.tpm_object.specs.declared.creation.CreationFault.TheVariants as fault
 abbrev pub is_long_auth : SensitiveValues → Public → Bool
 is_long_auth given t = nat_lt (digest_size t.name_alg) (length (trimmed given.user_auth))
 
--- the conflicts of sensitiveDataOrigin: it is set, but the caller provides the key or data; it is
--- clear, but the caller provides neither; or it is set, and the device would have to generate the
--- data to seal
+-- tests for the conflicts that sensitiveDataOrigin can cause, one for each conflict: the attribute
+-- is set, but the caller provides the key or data; the attribute is clear, but the caller provides
+-- neither; or the attribute is set, and the device would have to generate the data to seal
 abbrev pub origin_conflicts : SensitiveValues → Public → List Bool
 origin_conflicts given t =
     let made : Bool = has t.attributes attribute.SensitiveDataOrigin in

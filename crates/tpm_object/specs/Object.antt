@@ -34,7 +34,7 @@ is_storage_parent p =
     && not (has p.attributes attribute.Sign)
 
 -- an object with these areas, under a parent with this qualified Name. Trailing zeros of its
--- authorization value are removed, and its type is the type of its public area
+-- authorization value are removed, and its public area determines its type
 abbrev pub loaded_object : HierarchyHandle
     → Public → Sensitive → (parent_qualified_name : List ℕ) → Object
 loaded_object hierarchy public area parent_qualified_name = record {

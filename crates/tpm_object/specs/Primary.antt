@@ -29,8 +29,8 @@ primary_bytes seed template given =
     (hash_of template.name_alg (sensitive_create_text given))
     (digest_size template.name_alg + generated_size template given)
 
--- both areas of a primary object. The first bytes of `primary_bytes`, as many as a digest has, are
--- the seedValue; the remaining bytes are the key
+-- both areas of a primary object. The seedValue is the first part of `primary_bytes`, as long as a
+-- nameAlg digest. The remaining bytes are the key
 unfoldable pub primary_areas : (seed : List ℕ) → Public → SensitiveValues → Created
 primary_areas seed template given =
     let bytes : List ℕ = primary_bytes seed template given in

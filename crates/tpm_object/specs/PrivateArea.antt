@@ -66,13 +66,14 @@ unfoldable pub private_text : (parent : Object) → (name iv : List ℕ) → Sen
 private_text parent name iv area =
     authenticated_text parent name (protected_text parent name iv area)
 
--- These bytes are the protected form of this sensitive area, made by the parent with some IV.
+-- These bytes are the protected form of this sensitive area, made by the parent with some IV of 16
+-- bytes.
 abbrev pub IsProtected : (parent : Object) → (name protected : List ℕ) → Sensitive → Type 0
 IsProtected parent name protected area =
     (iv : List ℕ) × (length iv ≡ 16) × (protected ≡ protected_text parent name iv area)
 
--- These bytes are a private area that the parent made from this sensitive area, with some IV, for a
--- public area of the same type.
+-- These bytes are a private area that the parent made from this sensitive area, with some IV of 16
+-- bytes, for a public area of the same type. The sensitive area satisfies `IsSensitive`.
 pub record IsWrapped (parent : Object) (public : Public) (text : List ℕ) (area : Sensitive)
     : Type 0 where
   pub typed : area.object_type ≡ object_type public
@@ -113,8 +114,8 @@ decrypted_area parent name protected = do
   whole ← refused_if (not (length iv.0 == 16)) integrity_fault
   area_in (cfb_decrypt_of (storage_key parent name) iv.0 iv.1)
 
--- the sensitive area in the private area of the object with this public area. The two areas must
--- have the same type
+-- the sensitive area that a private area contains, if the object has this public area. The
+-- sensitive area and the public area must have the same type
 unfoldable pub unwrapped : (parent : Object)
     → Public
     → (text : List ℕ)

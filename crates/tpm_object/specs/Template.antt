@@ -24,7 +24,7 @@ has_wrong_fixing parent_is_fixed a =
     if parent_is_fixed then not (beq (has a attribute.FixedTpm) (has a attribute.FixedParent))
     else has a attribute.FixedTpm
 
--- the possible conflicts among the attributes of a template
+-- tests for the conflicts that the attributes of a template can have, one for each conflict
 abbrev pub object_attribute_conflicts : (parent_is_fixed : Bool) → Public → List Bool
 object_attribute_conflicts parent_is_fixed t =
     let restricted : Bool = has t.attributes attribute.Restricted in

@@ -72,7 +72,7 @@ pub(crate) fn new_object_areas(
 }
 
 /// The areas of a new object (TPM 2.0 Library, Part 1, section 27). The first `drawn_by` bytes of
-/// `random` become its key, if the device generates it, followed by its seedValue.
+/// `random` become its key, if the device generates the key, and then its seedValue.
 #[tactic(auto, unfolding(crate::specs::Areas::created))]
 pub fn create(template: &Public, given: &SensitiveCreate, random: &[u8; 256]) -> Created
     ensures { result ≡ created template.now (sensitive_values_of given.now) random.now }

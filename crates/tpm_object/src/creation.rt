@@ -19,7 +19,7 @@ use tpm_types_object::{
 pub enum CreationFault {
     /// The authorization value is longer than a nameAlg digest.
     AuthValueSize,
-    /// sensitiveDataOrigin contradicts the caller's data or the use of the object.
+    /// sensitiveDataOrigin contradicts the caller's data, or what the object is used for.
     Attributes,
     /// The key does not have the key size of the cipher.
     DataSize,
@@ -91,7 +91,7 @@ pub fn key_size(template: &Public) -> usize
     parameters_key_size(template.name_alg, template.parameters)
 }
 
-/// The number of key bytes that the device generates: none if the caller provides the key or data.
+/// The number of key bytes that the device generates: 0 if the caller provides the key or data.
 pub fn generated_size(template: &Public, given: &SensitiveCreate) -> usize
     ensures value { result ≡ generated_size template.now (sensitive_values_of given.now) }
     ensures small { result ≤ 32 }

@@ -14,7 +14,7 @@ use tpm_types_object::{
 /// The reason why a template is refused.
 #[derive(Clone, Copy, PartialEq, Eq)]
 pub enum TemplateFault {
-    /// authPolicy is neither empty nor of the size of a nameAlg digest.
+    /// authPolicy is neither empty nor as long as a nameAlg digest.
     AuthPolicySize,
     /// The attributes conflict with each other, with the type, or with the parent.
     Attributes,

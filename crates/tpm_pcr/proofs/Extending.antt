@@ -1,4 +1,4 @@
--- If a PCR is extended with several digests, one after another, each digest counts as an update.
+-- If a PCR is extended with several digests in turn, each digest counts as an update.
 use Rattle.std.proofs.Common.{◌≡◌, ℕ, ◌+◌, ◌<◌, List, [], ◌∷◌, length, take, get_or, fold, refl, arith, ap, sym, ◌∙◌}
 use Rattle.std.proofs.lemmas.List.{take_more}
 use Rattle.std.proofs.lemmas.List.Sums.{fold-append}

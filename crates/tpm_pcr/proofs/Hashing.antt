@@ -20,7 +20,8 @@ abbrev pub text_below : BankValues → BankSelection → ℕ → List ℕ
 text_below all bank n =
     concat (map (pcr_value all bank.hash) (filter (is_selected bank.select) (numbers_below n)))
 
--- Choosing the number n appends `f n` to the concatenated lists; not choosing it appends nothing.
+-- If a number n is added to a list of numbers, `f n` is appended to the concatenated results of
+-- `f`; otherwise nothing is appended.
 joined_cond : (f : ℕ → List ℕ) (front : List ℕ) (n : ℕ) (b : Bool)
     → concat (map f (front ++ cond b (n ∷ []) [])) ≡ concat (map f front) ++ cond b (f n) []
 joined_cond f front n true =
@@ -57,8 +58,9 @@ banks_joined_more all banks i bank below =
     ∙ concat-append (flat_map (selected_values all) (take i banks)) _
     ∙ ap (λ (l : List (List ℕ)). concat (flat_map (selected_values all) (take i banks)) ++ concat l) (append-nil (selected_values all (get_or banks i bank)))
 
--- One step of the loop over the PCRs: a hasher that has taken the values of the selected PCRs below
--- n, and then the value of PCR n if it is selected, has taken the values below n + 1.
+-- One step of the loop over the PCRs: if a hasher was fed the values of the selected PCRs below n,
+-- and then the value of PCR n if PCR n is selected, it was fed the values of the selected PCRs
+-- below n + 1.
 pub taken_more : (all : BankValues) (bank : BankSelection) (n pcr : ℕ) (start before after : Hasher) → pcr ≡ n
     → Takes start (text_below all bank n) before
     → Takes before (cond (is_selected bank.select pcr) (pcr_value all bank.hash pcr) []) after
@@ -78,8 +80,8 @@ pub taken_all : (all : BankValues) (bank : BankSelection) (n : ℕ) (start after
 taken_all all bank n start after done so_far =
     subst (λ (text : List ℕ). Takes start text after) (ap (text_below all bank) done ∙ text_below_all all bank) so_far
 
--- One step of the loop over the banks: a hasher that has taken the values of the first i banks, and
--- then of bank i, has taken the values of the first i + 1 banks.
+-- One step of the loop over the banks: if a hasher was fed the values of the first i banks, and
+-- then the values of bank i, it was fed the values of the first i + 1 banks.
 pub held_more : (all : BankValues) (banks : List BankSelection) (i : ℕ) (bank : BankSelection) (hash : HashAlg)
     (before after : Hasher) → i < length banks → bank ≡ get_or banks i bank
     → Holds before hash (concat (flat_map (selected_values all) (take i banks)))

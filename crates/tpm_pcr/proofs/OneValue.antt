@@ -59,8 +59,8 @@ with_value_at banks alg.Sha1 alg.Sha256 i n v h below = refl
 with_value_at banks alg.Sha256 alg.Sha1 i n v h below = refl
 with_value_at banks alg.Sha256 alg.Sha256 i n v h below = let k = h alg.Sha256 in set_at banks.sha256 i n v (omega arith)
 
--- After zeros replace a PCR's value in both banks, that value is zeros, and every other value is
--- unchanged.
+-- If the values of a PCR in both banks are replaced by zeros, these two values are zeros, and every
+-- other value is unchanged.
 pub zeros_at : (pcr : ℕ) (banks : BankValues) (bank : HashAlg) (n : ℕ) → HaveAll banks → n < 24 → pcr_value (with_value alg.Sha256 pcr (replicate 32 0) (with_value alg.Sha1 pcr (replicate 20 0) banks)) bank n ≡ cond (pcr == n) (replicate (digest_size bank) 0) (pcr_value banks bank n)
 zeros_at pcr banks alg.Sha1 n h below = with_value_at banks alg.Sha1 alg.Sha1 pcr n (replicate 20 0) h below
 zeros_at pcr banks alg.Sha256 n h below = with_value_at banks alg.Sha256 alg.Sha256 pcr n (replicate 32 0) h below
@@ -71,7 +71,7 @@ both_same : (b : Bool) (x : List ℕ) → x ≡ cond b x x
 both_same true x = refl
 both_same false x = refl
 
--- If two numbers are equal, a function returns the same result for both.
+-- If i equals n, `f i` can be replaced by `f n`.
 at_pcr : (i n : ℕ) (f : ℕ → List ℕ) (old : List ℕ) → cond (i == n) (f i) old ≡ cond (i == n) (f n) old
 at_pcr i n f old = grind (arith, nat_tests)
 
@@ -99,8 +99,8 @@ extensions_at pcr (d ∷ ds) banks bank n h below =
     ∙ ap (λ (v : List ℕ). cond (pcr == n) (fold (value_extended bank) v ds) v) (extension_at pcr banks d bank n h below)
     ∙ first_extended (pcr == n) bank (pcr_value banks bank n) d ds
 
--- Extending a PCR with the digests of an event extends it, in each bank, with the event's digest
--- for that bank.
+-- If a PCR is extended with the digests of an event's data, its value in each bank is extended with
+-- the digest that the bank's hash algorithm computes.
 pub event_digest : (bank : HashAlg) (old event : List ℕ) → fold (value_extended bank) old (event_digests event) ≡ hash_of bank (old ++ hash_of bank event)
 event_digest alg.Sha1 old event = refl
 event_digest alg.Sha256 old event = refl

@@ -1,4 +1,4 @@
--- A read of PCRs returns values, and a selection of exactly the PCRs whose values it returns.
+-- A read of PCRs returns the values of some PCRs, and a selection of exactly these PCRs.
 use Rattle.tpm_bytes.specs.Numbers.{numbers_below}
 use Rattle.std.proofs.Common.{◌≡◌, ℕ, zero, suc, ◌-◌, ◌^◌, ◌<◌, ◌≤◌, ◌==◌, Bool, true, false, cond, List, [], ◌∷◌, ◌++◌, length, max, take, map, filter, refl, ap, sym, subst, ◌∙◌, arith, add-one, append-nil}
 use Rattle.std.proofs.lemmas.List.{take-map, length-map}
@@ -32,7 +32,7 @@ chosen_same p q (suc n) same =
     ∙ ap (λ b. filter q (numbers_below n) ++ cond b (n ∷ []) []) (same n (omega arith))
     ∙ sym (filter-append q (numbers_below n) (n ∷ []))
 
--- A number selects exactly these PCRs, which are all below n.
+-- The bitmap `select` selects exactly these PCRs, which are all below n.
 abbrev SelectsJust : ℕ → ℕ → List ℕ → Type 0
 SelectsJust n select pcrs = (filter (is_selected select) (numbers_below n) ≡ pcrs) × ((k : ℕ) → n ≤ k → bit_at select k ≡ 0)
 
@@ -57,7 +57,7 @@ just_one_more : (n : ℕ) (pcrs : List ℕ) (b : Bool) → SelectsJust n (select
 just_one_more n pcrs true just = subst (λ s. SelectsJust (suc n) s (pcrs ++ n ∷ [])) (sym (fold-append with_pcr 0 pcrs (n ∷ []))) (just_added n (select_with pcrs) pcrs just)
 just_one_more n pcrs false just = just_kept n (select_with pcrs) pcrs just
 
--- The number that is built from the first `room` chosen PCRs selects exactly these PCRs.
+-- The bitmap of the first `room` chosen PCRs selects exactly these PCRs.
 just_first : (p : ℕ → Bool) (room n : ℕ) → SelectsJust n (select_with (take room (filter p (numbers_below n)))) (take room (filter p (numbers_below n)))
 just_first p zero zero = (refl, λ k above. bit_at-zero k)
 just_first p (suc room) zero = (refl, λ k above. bit_at-zero k)

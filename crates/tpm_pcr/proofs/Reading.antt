@@ -21,8 +21,8 @@ le_false a b e = grind (arith, nat_tests)
 lt_false : (a b : ℕ) → nat_lt a b ≡ false → a < b → ⊥
 lt_false a b e below = let above : b ≤ a = grind (arith, nat_tests) in absurd (omega arith)
 
--- An element that is appended to a list with fewer than `room` elements is also appended to the
--- list's first `room` elements.
+-- If a list has fewer than `room` elements, appending an element also appends it to the first
+-- `room` elements.
 take_push_room : {X : Type 0} (room : ℕ) (xs : List X) (x : X) → nat_lt (length xs) room ≡ true → take room (xs ++ x ∷ []) ≡ take room xs ++ x ∷ []
 take_push_room room xs x e =
     let below : length xs < room = grind (arith, nat_tests) in
@@ -41,15 +41,15 @@ pub take_push : {X : Type 0} (room : ℕ) (xs : List X) (x : X) (b : Bool) → n
 take_push room xs x true e = take_push_room room xs x e
 take_push room xs x false e = take_push_full room xs x e
 
--- If two tests are equivalent, they have the same result.
+-- Two comparisons that imply each other have the same result.
 same_test : (a b c d : ℕ) (x y : Bool) → nat_lt a b ≡ x → nat_lt c d ≡ y → (a < b → c < d) → (c < d → a < b) → x ≡ y
 same_test a b c d true true e f h k = refl
 same_test a b c d false false e f h k = refl
 same_test a b c d true false e f h k = absurd (lt_false c d f (h (lt_true a b e)))
 same_test a b c d false true e f h k = absurd (lt_false a b e (k (lt_true c d f)))
 
--- If `old` values were read, and then up to k more until there were eight, another value can be
--- read exactly when k is below 8 - `old`.
+-- Suppose that `old` values were read, and then up to k more, but no more than eight in all. Then
+-- the number of values is less than eight exactly when k is less than 8 - `old`.
 pub room_left : (old k : ℕ) → nat_lt (old + min (8 - old) k) 8 ≡ nat_lt k (8 - old)
 room_left old k = same_test (old + min (8 - old) k) 8 k (8 - old) _ _ refl refl (λ h. omega arith) (λ h. omega arith)
 

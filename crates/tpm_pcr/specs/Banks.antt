@@ -59,7 +59,7 @@ selected_pcrs bank = filter (is_selected bank.select) all_pcrs
 abbrev pub selected_values : BankValues → BankSelection → List (List ℕ)
 selected_values banks bank = map (pcr_value banks bank.hash) (selected_pcrs bank)
 
--- the number that selects exactly these PCRs, computed by adding them one by one
+-- the bitmap that selects exactly these PCRs, computed by adding them one by one
 abbrev pub select_with : List ℕ → ℕ
 select_with pcrs = fold with_pcr 0 pcrs
 
@@ -67,8 +67,8 @@ select_with pcrs = fold with_pcr 0 pcrs
 unfoldable pub read_values : BankValues → ℕ → List BankSelection → List (List ℕ)
 read_values banks room selection = take room (flat_map (selected_values banks) selection)
 
--- the selection of exactly the PCRs whose values `read_values` returns: the first selected PCRs, up
--- to this number over all banks. A bank without a returned value remains in the list
+-- the selection of exactly the PCRs whose values `read_values` returns: the first selected PCRs of
+-- all banks together, up to this number. A bank without a returned value remains in the list
 abbrev pub answer_selection : ℕ → List BankSelection → List BankSelection
 answer_selection room [] = []
 answer_selection room (bank ∷ selection) =

@@ -1,8 +1,8 @@
 -- How PCRs change. TPM 2.0 Library, Part 3, sections 22.2 (TPM2_PCR_Extend), 22.3 (TPM2_PCR_Event)
 -- and 22.8 (TPM2_PCR_Reset); and the effect of 24.6 (TPM2_Clear) on the update counter. The use of
 -- each PCR follows the PC Client Platform TPM Profile (section on PCR attributes). Two things are
--- choices of this implementation, and simpler than in that profile: the localities from which each
--- PCR may be changed, and that every value counts as an update.
+-- choices of this implementation, which are simpler than the profile's rules: from which localities
+-- each PCR may be changed, and that every new value counts as an update.
 use Rattle.std.specs.Prelude.{◌≡◌, ℕ, ◌+◌, ◌-◌, ◌^◌, ◌==◌, not, nat_lt, nat_le, if◌then◌else◌}
 use Rattle.std.specs.Prelude.{Bool, true, false, List, [], ◌∷◌, ◌++◌, length, fold}
 use Rattle.std.specs.Prelude.{replicate, slice_set, Result, Ok, Err}
@@ -70,8 +70,8 @@ value_extended alg.Sha1 old (Sha256 digest) = old
 value_extended alg.Sha256 old (Sha1 digest) = old
 value_extended alg.Sha256 old (Sha256 digest) = hash_of alg.Sha256 (old ++ digest)
 
--- checks a change of this many values: fails if the PCR does not allow the change from the
--- locality, or if the update counter would exceed 2^64 - 1
+-- checks a change that counts as this number of updates: fails if the change is not allowed from
+-- the locality, or if the update counter would exceed 2^64 - 1
 abbrev pub change_check : Bool → ℕ → BankValues → Result (Unit {0}) ChangeFault
 change_check may updates banks = do
   locality ← refused_if (not may) fault.Locality
@@ -106,8 +106,8 @@ abbrev pub ChangesBanks : Result BankValues ChangeFault
 ChangesBanks change old (Ok u) new = change ≡ Ok new
 ChangesBanks change old (Err e) new = (change ≡ Err e) × (new ≡ old)
 
--- A change updated the banks as defined and returned these digests, or was refused and changed
--- nothing.
+-- A change updated the banks as defined and returned these digests, or was refused with the defined
+-- fault and changed nothing.
 abbrev pub AnswersDigests : List DigestValue → Result BankValues ChangeFault
     → BankValues → Result DigestValues ChangeFault → BankValues → Type 0
 AnswersDigests digests change old (Ok answer) new =

@@ -16,8 +16,8 @@ pub record BankValues : Type 0 where
 abbrev pub IsBank : ℕ → List (List ℕ) → Type 0
 IsBank size values = (length values ≡ 24) × All (λ value. length value ≡ size) values
 
--- The conditions that all banks satisfy: values are 20 bytes long for SHA-1 and 32 for SHA-256, and
--- the update counter fits in 64 bits.
+-- The conditions that all banks satisfy: each bank contains 24 values, of 20 bytes for SHA-1 and of
+-- 32 bytes for SHA-256; and the update counter fits in 64 bits.
 pub record IsBanks (banks : BankValues) : Type 0 where
   pub sha1 : IsBank 20 banks.sha1
   pub sha256 : IsBank 32 banks.sha256

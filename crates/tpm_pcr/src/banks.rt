@@ -43,7 +43,7 @@ impl Model for Banks {
 }
 
 /// The result of reading PCRs: their values in the order of the selection, at most eight, and a
-/// selection of exactly these PCRs.
+/// selection of exactly the PCRs that were read.
 #[derive(Drop)]
 pub struct PcrReading {
     pub selection: PcrSelection,
@@ -69,7 +69,7 @@ impl Banks {
     /// plus one for each TPM2_Clear.
     pub fn update_count(&self) -> u64
         ensures value { result ≡ self.now.update_count }
-        // Each bank contains 24 values of the size of its digests.
+        // Each bank contains 24 values, each as long as a digest of the bank's algorithm.
         ensures is_banks { IsBanks self.now }
     {
         self.update_count
@@ -138,7 +138,7 @@ impl Banks {
         self.update_count += 1;
     }
 
-    /// Resets the update counter to zero, as TPM2_Startup does.
+    /// Resets the update counter to zero, for a TPM2_Startup.
     pub fn restart_update_count(&mut self)
         ensures { self.new ≡ record self.old { update_count = 0 } }
     {

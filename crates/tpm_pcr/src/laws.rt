@@ -1,4 +1,4 @@
-//! Laws about the value of one PCR and about the update counter, after the banks change.
+//! Laws about how a change of the banks affects each PCR's value and the update counter.
 
 ghost use Rattle.std.specs.Prelude.{◌≡◌, ◌<◌, ◌+◌, ◌==◌, ℕ, List, cond, fold, length, replicate};
 ghost use Rattle.tpm_mac.specs.Digest.{digest_size};

@@ -66,8 +66,8 @@ impl SavedPcrs {
         &self.sha256
     }
 
-    /// States that each bank contains sixteen values of the size of its digests. This function is
-    /// only a proof: it has no effect at run time.
+    /// States that each bank contains sixteen values, each as long as a digest of the bank's
+    /// algorithm. This function is only a proof: it has no effect at run time.
     #[inline(always)]
     pub fn read_sizes(&self)
         ensures { IsSaved self.now }

@@ -1,4 +1,5 @@
--- For two numbers encoded in the same size, the first byte that differs decides which is less.
+-- If two numbers are encoded in the same number of bytes, the first byte in which they differ
+-- decides which number is less.
 use Rattle.std.proofs.Common.{◌≡◌, ℕ, suc, zero, ◌+◌, ◌-◌, ◌*◌, ◌%◌, ◌^◌, ◌<◌, ◌≤◌, Bool, true, false, ◌==◌, ◌&&◌, ◌||◌, nat_le, nat_lt, int_lt, List, [], ◌∷◌, length, drop, take, length-drop, slice_index, pos, negsuc, ◌-ℤ◌, refl, ap, arith, subst, sym, ◌∙◌}
 use Rattle.std.proofs.lemmas.Bool.{eq-eqb, eqb-true, eqb-false, ne_eqb, le-ltb, leb-false, leb-true, lt-ltb, ltb-false, ltb-true}
 use Rattle.std.proofs.Math.Seq.{take-length}
@@ -25,13 +26,14 @@ number_after_lt m n (x ∷ xs) (y ∷ ys) same fit less =
     let small : x < 256 = fit 0 in
     number_after_lt (m * 256 + x) (n * 256 + y) xs ys (omega arith) (λ i. fit (suc i)) (omega arith)
 
--- whether a number is less than another: the first byte that differs decides
+-- whether a number is less than another, as decided by the first byte in which they differ
 abbrev is_less : List ℕ → List ℕ → Bool
 is_less [] others = false
 is_less (byte ∷ bytes) [] = false
 is_less (byte ∷ bytes) (other ∷ others) = nat_lt byte other || (byte == other && is_less bytes others)
 
--- If all previous bytes are equal, the next bytes decide the comparison.
+-- If the previous bytes are equal, the next bytes x and y decide which number is less. If x and y
+-- are equal too, the remaining bytes decide.
 step_is : (m x y : ℕ) (xs ys : List ℕ) (lt eq : Bool) → length xs ≡ length ys
     → AreBytes xs → AreBytes ys
     → ((n : ℕ) → nat_lt (number_after n xs) (number_after n ys) ≡ is_less xs ys)
@@ -72,7 +74,7 @@ less_by_first x y xs ys same fit fits =
     ∙ ap (λ (less : Bool). nat_lt x y || (x == y && less))
     (sym (less_after xs ys same (λ i. fit (suc i)) (λ i. fits (suc i)) 0))
 
--- If a and b are ordered in the same way as x and y, both comparisons have the same result.
+-- If a and b are ordered like x and y, comparing a and b has the same result as comparing x and y.
 same_lt : (a b x y : ℕ) → (x < y → a < b) → (y ≤ x → b ≤ a) → nat_lt a b ≡ nat_lt x y
 same_lt a b x y up down = by (nat_lt x y) refl
   where

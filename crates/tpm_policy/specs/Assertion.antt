@@ -68,8 +68,8 @@ pub record NvParts : Type 0 where
   -- the offset of the compared bytes in the index
   pub offset : ℕ
   pub operation : Operation
-  -- the compared bytes of the index, as many as the operand has; or the error if these bytes cannot
-  -- be read
+  -- the bytes of the index that are compared with the operand, as many as the operand has; or the
+  -- error if these bytes cannot be read
   pub compared : Result (List ℕ) ActionFault
 
 -- the data of a TPM2_PolicyPCR assertion, as values instead of references
@@ -185,7 +185,7 @@ unfoldable pub password_asserted : HashAlg → Policy → Policy
 password_asserted hash policy = demanding hash demand.Password policy
 
 -- TPM2_PolicyCommandCode (section 23.11): only this command is allowed. It must be supported, and
--- no other command may have been recorded. A trial session checks this too (a choice of this
+-- no other command may have been recorded. A trial session makes both checks too (a choice of this
 -- implementation)
 unfoldable pub command_code_asserted : HashAlg → (number : ℕ)
     → Policy → Result Policy ActionFault
@@ -208,8 +208,8 @@ locality_asserted hash localities policy = do
   })
 
 -- TPM2_PolicyCpHash (section 23.13): only the command with this cpHash is allowed. The cpHash must
--- have the right size, and no other cpHash may have been recorded. A trial session checks this too
--- (a choice of this implementation)
+-- have the right size, and no other cpHash may have been recorded. A trial session makes both
+-- checks too (a choice of this implementation)
 unfoldable pub cp_hash_asserted : HashAlg → (cp_hash : List ℕ)
     → Policy → Result Policy ActionFault
 cp_hash_asserted hash cp_hash policy = do

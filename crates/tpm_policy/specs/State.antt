@@ -11,7 +11,7 @@ use Rattle.tpm_policy.specs.declared.state.Demand.TheVariants as demand
 pub record Policy : Type 0 where
   -- the policy digest
   pub digest : List ℕ
-  -- the PCRs' update counter at the last TPM2_PolicyPCR, if there was one
+  -- the PCRs' update counter at the last TPM2_PolicyPCR, or None if there was no TPM2_PolicyPCR
   pub update_count : Option ℕ
   -- the code of the only allowed command, if one is recorded
   pub command : Option ℕ
@@ -24,8 +24,8 @@ pub record Policy : Type 0 where
   -- what the policy requires in the authorization entry
   pub demand : Demand
 
--- True for every policy state: digests are at most 32 bytes long, every number fits its integer
--- type, and only localities 0 to 4 can be allowed.
+-- The conditions that every policy state satisfies: digests are at most 32 bytes long, every number
+-- fits its integer type, and only localities 0 to 4 can be allowed.
 pub record IsPolicy (policy : Policy) : Type 0 where
   pub digest : length policy.digest ≤ 32
   pub update_count : IfSome policy.update_count (λ count. count < 2 ^ 64)

@@ -26,7 +26,7 @@ pub record EntityParts : Type 0 where
   pub hash : HashAlg
   pub digest : List ℕ
 
--- the use of an entity that a policy session has to authorize
+-- a use of an entity, which a policy session has to authorize
 pub record UseParts : Type 0 where
   -- the number of the authorization entry
   pub entry : ℕ

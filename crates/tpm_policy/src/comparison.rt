@@ -7,7 +7,8 @@ ghost use Rattle.tpm_policy.specs.Comparison.{compares, has_clear, has_set, sign
 use tpm_bytes::is_equal;
 use tpm_types::Operation;
 
-/// Whether a number is less than another of the same size. The first byte that differs decides.
+/// Whether a number is less than another of the same size. The first byte in which they differ
+/// decides.
 fn is_less(bytes: &[u8], others: &[u8]) -> bool
     ensures { length bytes.now ≡ length others.now
         → result ≡ nat_lt (unsigned_number bytes.now) (unsigned_number others.now) }
@@ -22,7 +23,8 @@ fn is_less(bytes: &[u8], others: &[u8]) -> bool
 }
 
 /// Adds 128, half of a byte's range, to the first byte of a signed number, modulo 256. The least
-/// signed number then starts with zero. Therefore, signed numbers compare like unsigned numbers.
+/// signed number then starts with a zero byte. Therefore, signed numbers can be compared like
+/// unsigned numbers.
 fn raised_byte(byte: u8) -> u8
     ensures { result ≡ (byte + 128) % 256 }
 {

@@ -1,4 +1,4 @@
-//! The assertion of TPM2_PolicyNV: a comparison of an NV index with an operand holds.
+//! The assertion of TPM2_PolicyNV: the data of an NV index passes a comparison with an operand.
 
 ghost use Rattle.std.specs.Prelude.{◌≡◌};
 ghost use Rattle.tpm_policy.specs.Assertion as assertion;
@@ -19,8 +19,8 @@ pub struct NvAssertion<'a> {
     pub operand: &'a [u8],
     pub offset: u16,
     pub operation: Operation,
-    /// The bytes of the index that are compared, as many as the operand has; or the error if they
-    /// cannot be read.
+    /// The bytes of the index that are compared with the operand, as many as the operand has; or
+    /// the error if these bytes cannot be read.
     pub compared: Result<&'a [u8], ActionFault>,
 }
 

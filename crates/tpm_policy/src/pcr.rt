@@ -1,4 +1,4 @@
-//! The assertion of TPM2_PolicyPCR: the values of the selected PCRs have a certain digest.
+//! The assertion of TPM2_PolicyPCR: the selected PCRs have values with a certain digest.
 
 ghost use Rattle.tpm_commands.specs.CommandCode.{code_number};
 ghost use Rattle.tpm_commands.specs.declared.command_code.CommandCode.TheVariants as served;

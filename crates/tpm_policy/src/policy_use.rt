@@ -21,7 +21,7 @@ pub struct EntityPolicy<'a> {
     pub digest: &'a [u8],
 }
 
-/// The use of an entity that a policy session has to authorize.
+/// A use of an entity, which a policy session has to authorize.
 #[derive(Clone, Copy)]
 pub struct Use<'a> {
     /// The number of the authorization entry.

@@ -14,7 +14,8 @@ use tpm_types_name::Name;
 /// The data of a TPM2_PolicySecret assertion. An empty buffer means that the parameter is absent.
 #[derive(Clone, Copy)]
 pub struct SecretAssertion<'a> {
-    /// The Name of the entity that authHandle names. The caller knows its authorization value.
+    /// The Name of the entity that authHandle names. The caller knows the authorization value of
+    /// this entity.
     pub name: &'a Name,
     /// The nonce in the command.
     pub nonce: &'a [u8],

@@ -33,7 +33,7 @@ was_ok : {X F : Type 0} (refusal : F → Refused) (x : Result X F) (y : X) → o
 was_ok refusal (Ok x) y e = ap Ok (ok_is {E = Refused} x y e)
 was_ok refusal (Err fault) y e = absurd cc
 
--- The session is a trial session; or the compared bytes exist and the comparison holds.
+-- Either the session is a trial session, or the compared bytes exist and the comparison holds.
 abbrev HoldsOf : (trial : Bool) → NvParts → Type 0
 HoldsOf trial nv = (trial ≡ true) ⊎ ((bytes : List ℕ) × (nv.compared ≡ Ok bytes) × (compares nv.operation bytes nv.operand ≡ true))
 

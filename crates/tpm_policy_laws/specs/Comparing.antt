@@ -14,8 +14,8 @@ use Rattle.tpm_types.specs.declared.handle.Handle.{Handle}
 use Rattle.tpm_actions_policy.specs.Assertions.{assertion_row, policy_session}
 use Rattle.tpm_actions_policy.specs.PolicyNv.{Parameters, compared, nv_parameters}
 
--- The comparison of this TPM2_PolicyNV holds: its session is a trial session; or the index contains
--- data at the offset, and the comparison of the data with the operand holds.
+-- The comparison of this TPM2_PolicyNV holds: either the session is a trial session, or the index
+-- contains data at the offset and the comparison of this data with the operand holds.
 pub record Compares (r : Record) (q : Request) : Type 0 where
   pub handle : Handle
   pub third : third_handle q.handles ≡ Ok handle

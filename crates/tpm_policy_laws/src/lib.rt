@@ -8,7 +8,7 @@
 ghost use Rattle.tpm_policy_laws.specs.Comparing.{ComparisonHolds};
 
 /// If TPM2_PolicyNV is accepted on a policy session, its comparison of the index's current data
-/// with the operand holds. On a trial session nothing is compared.
+/// with the operand holds. In a trial session, nothing is compared.
 #[inline(always)]
 #[tactic(auto, using(crate::proofs::Comparing::comparison_holds))]
 pub fn comparison_laws()

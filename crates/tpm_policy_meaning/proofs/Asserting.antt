@@ -76,7 +76,7 @@ module _ (hash : HashAlg) (Broken : Type 0) (One Other : List ℕ → Type 0) (b
       by named are = inl (sym named, are.0, are.1, are.2)
 
   -- If an assertion of a policy and an assertion of a session have the same encoding and policyRef,
-  -- they assert the same.
+  -- they assert the same condition.
   text_asserts : (written : PolicyAssertion) (one : Assertion) → IsPolicyAssertion hash written → HasWidths hash one → ((t : List ℕ) → IsAmong t (update_of hash written).apart → One t) → ((t : List ℕ) → IsAmong t (update_by hash one).apart → Other t) → update_text (update_of hash written) ≡ update_text (update_by hash one) → (update_of hash written).reference ≡ (update_by hash one).reference → Says one written ⊎ Broken
   text_asserts (PolicyPcr selection digest) (assertion.Pcr parts) fits widths ours theirs is refs =
       let halves = same_backs (selection_text selection) digest parts.selection parts.digest (fits ∙ sym widths) (ap (drop 4) is) in

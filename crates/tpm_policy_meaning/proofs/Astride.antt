@@ -1,5 +1,5 @@
--- If a digest occurs in a concatenation of digests of the same size, it is either one of these
--- digests, or it spans two neighbouring digests.
+-- If a digest occurs in a concatenation of digests of the same size, either it is one of these
+-- digests, or it occurs across the boundary between two neighbouring digests.
 use Rattle.std.proofs.Common.{◌≡◌, ◌≢◌, ◌⊎◌, ℕ, arith, List, [], ◌∷◌, ◌++◌, append_assoc, length, length-append, refl, ap, sym, ◌∙◌, inl, inr}
 use Rattle.std.proofs.lemmas.List.{append-nil}
 use Rattle.std.specs.List.{flat_map}
@@ -56,8 +56,9 @@ behind_first text first digests none astride = record {
   is_none = none;
 }
 
--- If a byte string starts within the first digest of a list and ends after it, and is not in the
--- list, it spans two neighbouring digests. The byte string and the digests have the same size.
+-- Suppose that a byte string has the size of the digests in a list, but is not in the list. If, in
+-- the concatenated digests, it starts within the first digest and ends after this digest, it occurs
+-- across the boundary between two neighbouring digests.
 next_begins : (text first front : List ℕ) (x y : ℕ) (end beginning : List ℕ) (digests : List (List ℕ)) (back : List ℕ) → (IsAmong text (first ∷ digests) → ⊥) → HaveSize (length text) digests → first ≡ front ++ x ∷ end → text ≡ (x ∷ end) ++ y ∷ beginning → joined digests ≡ (y ∷ beginning) ++ back → IsAstride text (first ∷ digests)
 next_begins text first front x y end beginning [] back none sizes is spelled stands = absurd (has_first y (beginning ++ back) (sym stands))
 next_begins text first front x y end beginning (next ∷ digests) back none sizes is spelled stands = by (two_ways next (joined digests) (y ∷ beginning) back stands)

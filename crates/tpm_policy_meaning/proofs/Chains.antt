@@ -74,7 +74,8 @@ abbrev pub chain : HashAlg → List (List ℕ) → List ℕ
 chain hash [] = zeros hash
 chain hash (step ∷ earlier) = hash_of hash (chain hash earlier ++ step)
 
--- the inputs that are hashed for the digest of a chain of steps (both latest first)
+-- the inputs that are hashed for the digest of a chain of steps. Both lists have the latest element
+-- first
 abbrev pub chain_texts : HashAlg → List (List ℕ) → List (List ℕ)
 chain_texts hash [] = []
 chain_texts hash (step ∷ earlier) = (chain hash earlier ++ step) ∷ chain_texts hash earlier

@@ -15,7 +15,7 @@ use Rattle.tpm_policy_meaning.proofs.Astride.{HaveSize, joined, stands_astride}
 use Rattle.tpm_policy_meaning.proofs.Chains.{Breaking, Said, aligned, all_steps, among_back, among_front, is_among_or_not, length-chain, same_chain, unless_broken}
 use Rattle.tpm_policy_meaning.proofs.Spelled.{policy_chain, policy_chain_texts, policy_fits, policy_said, said_before, said_of, session_chain, session_chain_texts, session_fits, session_said}
 
--- The digest occurs in `whole`, a concatenation of digests.
+-- The byte string `whole` contains the digest.
 abbrev StandsIn : (digest whole : List ℕ) → Type 0
 StandsIn digest whole = (front : List ℕ) × (back : List ℕ) × (whole ≡ front ++ digest ++ back)
 

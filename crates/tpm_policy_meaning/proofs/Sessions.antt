@@ -1,5 +1,5 @@
--- A session accepts a TPM2_PolicyOR only if its list of digests contains the session's digest. What
--- a session requires follows from its assertions.
+-- A session accepts a TPM2_PolicyOR only if its list of digests contains the session's digest. The
+-- assertions of a session determine what it requires in an authorization entry.
 use Rattle.std.proofs.Common.{◌≡◌, ◌⊎◌, ℕ, Bool, true, false, not, List, [], ◌∷◌, Ok, refl, sym, subst, inl, inr}
 use Rattle.std.proofs.lemmas.Bool.{false≢true}
 use Rattle.std.proofs.lemmas.Slice.Eq.{bytes_eq-Decides}

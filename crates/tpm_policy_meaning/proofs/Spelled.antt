@@ -1,5 +1,5 @@
--- The assertions of a policy or of a session form a chain of steps. This chain has the same digest
--- and the same hash inputs as the policy or the session.
+-- The assertions of a policy form a chain of steps with the same digest and the same hash inputs as
+-- the policy. The same holds for the assertions of a session.
 use Rattle.std.proofs.Common.{◌≡◌, ℕ, List, [], ◌∷◌, ◌++◌, append_assoc, Option, Some, None, refl, ap, ◌∙◌, inl, inr}
 use Rattle.std.specs.Int.{w32, to_be_bytes}
 use Rattle.std.specs.List.{flat_map}
@@ -53,7 +53,8 @@ policy_chain_texts hash (PolicyOr branches) text (inr among) = absurd among
 
 -- ---- the steps of a session
 
--- the earlier assertions that still count after this assertion: none after TPM2_PolicyOR
+-- the earlier assertions that still count after this assertion: all of them, or none after a
+-- TPM2_PolicyOR
 abbrev pub said_before : Assertion → List Said → List Said
 said_before (assertion.Or digests) said = []
 said_before _ said = said
@@ -76,7 +77,8 @@ session_fits hash [] = tt
 session_fits hash (latest ∷ earlier) =
     (asserted_fits hash latest, before_fits latest (session_said hash earlier) (session_fits hash earlier))
 
--- The session's digest after an assertion is the hash of the latest input that is hashed for it.
+-- The session's digest after an assertion is the hash of the last input that the session hashes for
+-- this assertion.
 module _ (hash : HashAlg) where
   grouped : (digest : List ℕ) (code : CommandCode) (about : List ℕ) → hash_of hash (digest ++ to_be_bytes w32 (code_number code) ++ about) ≡ hash_of hash (digest ++ (to_be_bytes w32 (code_number code) ++ about))
   grouped digest code about = ap (hash_of hash) (append_assoc digest (to_be_bytes w32 (code_number code)) about)

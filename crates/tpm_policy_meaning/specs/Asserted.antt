@@ -38,8 +38,8 @@ session_digest hash assertions = (evaluated hash false assertions).digest
 -- ---- assertions of a session and of a policy expression
 
 -- An assertion of a session asserts the same as an assertion of a policy expression.
--- TPM2_PolicyAuthValue and TPM2_PolicyPassword count as the same, since they extend the digest in
--- the same way. After either, a caller must prove that it knows the authorization value
+-- TPM2_PolicyAuthValue and TPM2_PolicyPassword count as the same assertion, since both extend the
+-- digest in the same way. After either, a caller must prove that it knows the authorization value
 -- (`DemandsValue`); the session's demand decides how.
 abbrev pub Says : Assertion → PolicyAssertion → Type 0
 Says (assertion.Pcr parts) (PolicyPcr selection digest) =
@@ -120,13 +120,14 @@ session_texts hash (latest ∷ earlier) =
     texts_after hash (digest_before hash latest earlier) (update_by hash latest)
     ++ session_texts hash earlier
 
--- the digests that a session had, latest first. The last entry is its digest before any assertion
+-- the digests that a session had, latest first. The last element is the session's digest before any
+-- assertion
 abbrev pub session_digests : HashAlg → List Assertion → List (List ℕ)
 session_digests hash [] = session_digest hash [] ∷ []
 session_digests hash (latest ∷ earlier) =
     session_digest hash (latest ∷ earlier) ∷ session_digests hash earlier
 
--- ---- laws of the digest of a session
+-- ---- laws about the digest of a session
 
 -- A policy session's digest is the hash of the latest input that it hashed, or zeros if it has
 -- hashed no input.

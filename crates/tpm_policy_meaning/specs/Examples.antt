@@ -1,8 +1,8 @@
 -- Examples of policies with their digests. TPM 2.0 Library, Part 1, section 19.7. The TCG EK
 -- Credential Profile for TPM Family 2.0 prints the digest of TPM2_PolicySecret with the endorsement
 -- hierarchy, as the authPolicy of its templates (PolicyA_SHA256). Many programs use the digest of
--- TPM2_PolicyAuthValue on its own. Python's hashlib computes the same digests from the hashed
--- bytes.
+-- TPM2_PolicyAuthValue on its own. From the bytes that are hashed, Python's hashlib computes the
+-- same digests.
 use Rattle.std.specs.Prelude.{◌≡◌, ℕ, List, [], ◌∷◌}
 use Rattle.tpm_mac.specs.declared.algorithm.HashAlg.TheVariants as alg
 use Rattle.tpm_types.specs.declared.operation.Operation.TheVariants as operation
@@ -67,8 +67,8 @@ by_pcrs_and_value_digest =
     ∷ 0x35 ∷ 0x06 ∷ 0xb1 ∷ 0x17 ∷ 0xee ∷ 0x0a ∷ 0xd5 ∷ 0x52
     ∷ 0xd9 ∷ 0x61 ∷ 0xf4 ∷ 0x69 ∷ 0xb4 ∷ 0xb7 ∷ 0x97 ∷ 0x1c ∷ []
 
--- the policy that a session satisfies by `by_pcrs_and_value` or by `by_endorsement`: TPM2_PolicyOR
--- with these two branches
+-- the policy that a session satisfies if it satisfies `by_pcrs_and_value` or `by_endorsement`: a
+-- TPM2_PolicyOR with these two branches
 abbrev pub by_either : PolicyExpression
 by_either = PolicyOr (Branch by_pcrs_and_value (Branch by_endorsement NoBranch))
 

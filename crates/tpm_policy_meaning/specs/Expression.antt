@@ -1,11 +1,11 @@
 -- Policy expressions. TPM 2.0 Library, Part 1, section 19.7 (enhanced authorization), and Part 3,
--- section 23. A policy consists of assertions; each is made by the command with the same name.
--- TPM2_PolicyOR offers a choice between several policies.
+-- section 23. A policy consists of assertions. Each assertion is made by the command with the same
+-- name. TPM2_PolicyOR offers a choice between several policies.
 use Rattle.std.specs.Prelude.{ℕ, Bool, List}
 use Rattle.tpm_types.specs.declared.operation.Operation.{Operation}
 use Rattle.tpm_types.specs.declared.pcr_selection.BankSelection.{BankSelection}
 
--- One assertion, and what it requires of a use of the entity.
+-- An assertion of a policy, and what it requires when the entity is used.
 pub data PolicyAssertion : Type 0 where
   -- the values of the selected PCRs have this digest
   PolicyPcr : (selection : List BankSelection) → (digest : List ℕ) → PolicyAssertion

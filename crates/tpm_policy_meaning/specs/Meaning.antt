@@ -15,8 +15,8 @@ use Rattle.tpm_policy_meaning.specs.Expression.{PolicyBranches, NoBranch, Branch
 use Rattle.tpm_policy_meaning.specs.PolicyDigest.{branch_digests, policy_digest, policy_texts}
 use Rattle.tpm_policy_meaning.specs.PolicyDigest.{zeros}
 
--- A policy is satisfied: its assertions have the property P. For a TPM2_PolicyOR, it suffices that
--- one branch is satisfied.
+-- A policy is satisfied: each of its assertions has the property P. For a TPM2_PolicyOR, it
+-- suffices that one branch is satisfied.
 abbrev mutual
   pub IsMet : (P : PolicyAssertion → Type 0) → PolicyExpression → Type 0
   IsMet P Nothing = Unit {0}
@@ -60,8 +60,8 @@ abbrev mutual
   lists_within hash (Branch policy branches) =
       branch_lists hash policy ++ lists_within hash branches
 
--- `text` is not in this list, but spans two neighbours in it: `text` consists of the end of a byte
--- string in the list and the start of the next byte string.
+-- `text` is not in this list, but occurs across the boundary between two neighbours in the list:
+-- `text` is a nonempty end of one byte string, followed by a nonempty start of the next one.
 pub record IsAstride (text : List ℕ) (texts : List (List ℕ)) : Type 0 where
   pub before : List (List ℕ)
   pub front : List ℕ
@@ -88,9 +88,10 @@ pub data BreaksHash (hash : HashAlg) (policy : PolicyExpression) (assertions : L
     HashOfZeros : (text : List ℕ)
         → IsAmong text (policy_texts hash policy) ⊎ IsAmong text (session_texts hash assertions)
         → hash_of hash text ≡ zeros hash → BreaksHash hash policy assertions
-    -- a digest of the session spans the digests of two neighbouring branches of a TPM2_PolicyOR in
-    -- the policy. TPM2_PolicyOR hashes the concatenation of its digests without their sizes, so a
-    -- session may pass the same bytes split at other offsets
+    -- in the concatenated digests of a TPM2_PolicyOR's branches in the policy, a digest of the
+    -- session occurs across the boundary between two neighbouring digests. TPM2_PolicyOR hashes the
+    -- concatenation without the sizes of the digests, so a session may pass the same bytes split at
+    -- other offsets
     AstrideBranches : (digest : List ℕ) (digests : List (List ℕ))
         → IsAmong digest (session_digests hash assertions)
         → IsAmong digests (branch_lists hash policy) → IsAstride digest digests

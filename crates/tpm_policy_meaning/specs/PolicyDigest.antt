@@ -28,7 +28,7 @@ pub record PolicyUpdate : Type 0 where
   pub about : List ℕ
   -- the assertion's policyRef, if it has one
   pub reference : Option (List ℕ)
-  -- each input whose hash is part of the assertion's data
+  -- the inputs whose hashes are part of the assertion's data
   pub apart : List (List ℕ)
 
 abbrev pub plain_update : CommandCode → (about : List ℕ) → PolicyUpdate

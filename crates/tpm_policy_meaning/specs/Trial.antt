@@ -44,8 +44,8 @@ assertion_of pcrs_now (PolicyNv name operand offset operation) = assertion.Nv (r
   compared = Ok [];
 })
 
--- the assertions that a trial session makes for a policy (latest first); a trial session accepts
--- TPM2_PolicyOR without the assertions of any branch
+-- the assertions that a trial session makes for a policy (latest first); a trial session accepts a
+-- TPM2_PolicyOR even though no branch has been asserted
 abbrev pub assertions_of : HashAlg → (pcrs_now : List ℕ) → PolicyExpression → List Assertion
 assertions_of hash pcrs_now Nothing = []
 assertions_of hash pcrs_now (Then before written) =

@@ -1,6 +1,6 @@
 #![tactic(auto)]
 
-//! The meaning of a policy session's digest: written policies, their digests, and what follows if a
+//! What a policy session's digest means: written policies, their digests, and what follows if a
 //! session's digest equals the digest of a policy.
 //!
 //! The crate uses the definitions of tpm_policy. It does not refer to sessions, entities or

@@ -1,4 +1,5 @@
--- Computes the example of an object whose context is loaded again.
+-- Proves, by computation, the example of an object that is saved, and whose context is loaded
+-- again.
 use Rattle.std.proofs.Common.{arith, false, refl, sym, subst}
 use Rattle.tpm_containers.specs.Numbered.{at_number}
 use Rattle.tpm_record.specs.IsRecord.{IsRecord}

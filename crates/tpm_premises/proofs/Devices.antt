@@ -1,4 +1,5 @@
--- Computes the examples of two devices that differ in their seeds, and in the data of an index.
+-- Proves, by computation, the examples of two devices that differ in their seeds, and of two
+-- devices that differ in the data of an index.
 use Rattle.std.proofs.Common.{◌≡◌, ◌≢◌, ℕ, [], ◌∷◌, List, get_or, refl, ap, arith}
 use Rattle.tpm_record.specs.Entity.{entity_at, object_of}
 use Rattle.tpm_record.specs.Hierarchy.{manufactured_hierarchies}

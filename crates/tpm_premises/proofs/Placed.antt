@@ -1,4 +1,4 @@
--- Computes the example of an object that came from a saved context.
+-- Proves, by computation, the example of an object that came from a saved context.
 use Rattle.std.proofs.Common.{arith, refl}
 use Rattle.tpm_containers.specs.Numbered.{at_number}
 use Rattle.tpm_types.specs.AuthValue.{trimmed}

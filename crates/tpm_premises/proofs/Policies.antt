@@ -1,4 +1,4 @@
--- A written policy can contain every assertion.
+-- A written policy can contain every kind of assertion.
 use Rattle.tpm_premises.specs.Policies.{EachIsWritten}
 
 pub each_is_written : EachIsWritten

@@ -1,4 +1,4 @@
--- Computes the example of a buffer that occurs twice in a history.
+-- Proves, by computation, the example of a buffer that occurs twice in a history.
 use Rattle.std.proofs.Common.{◌≡◌, ◌≢◌, [], ◌∷◌, Some, None, Ok, refl, sym, ◌∙◌}
 use Rattle.tpm_commands.specs.CommandCode.{code_named, shape_of}
 use Rattle.tpm_actions_device.specs.StartAuthSession.{parameters_in}
@@ -23,7 +23,7 @@ lives : sessions_of (Done starting ∷ []) entry.session ≡ Some session
 unfolding started start_key parameters_in buffer_at session_type_at symmetric_at hash_at
 lives = refl
 
--- the session after the command
+-- the session after the command `asking`
 abbrev rolled_on : LiveSession
 rolled_on = record session { earlier_nonces = replicate 16 0 ∷ [] }
 

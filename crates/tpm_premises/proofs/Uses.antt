@@ -1,4 +1,4 @@
--- Computes the example of using an object through its policy.
+-- Proves, by computation, the example of an object that is used through its policy.
 use Rattle.std.proofs.Common.{refl}
 use Rattle.tpm_commands.specs.CommandCode.{shape_of}
 use Rattle.tpm_types.specs.Handle.{numbered}

@@ -15,34 +15,34 @@ use Rattle.tpm_completion.specs.Saving.{binding_of, counted, next_number}
 use Rattle.tpm_completion.specs.declared.completion.Completion.{Completion}
 use Rattle.tpm_premises.specs.Placed.{first_transient, saved_object}
 
--- a started device without the object
+-- a started device without `saved_object`
 abbrev pub without_object : Record
 without_object = tried 1 0 0
 
--- a device with one more copy of the object
+-- a device with one more copy of `saved_object`
 abbrev pub one_more : Record → Record
 one_more r = placed r saved_object
 
--- a device with the object
+-- a started device with `saved_object`
 abbrev pub with_object : Record
 with_object = one_more without_object
 
 abbrev pub four_more : Record → Record
 four_more r = one_more (one_more (one_more (one_more r)))
 
--- a device without a free slot: each slot contains a copy of the object
+-- a device without a free slot: every slot contains a copy of `saved_object`
 abbrev pub full : Record
 full = four_more (four_more without_object)
 
--- the completing layer at its start
+-- a new completing layer with start number 1
 abbrev pub first_layer : Completion
 first_layer = new_completion 1
 
--- the completing layer after its first context
+-- `first_layer` after it has made its first context
 abbrev pub later_layer : Completion
 later_layer = counted first_layer 1
 
--- the values from which the context of the object is made
+-- the values from which the context of `saved_object` is made
 abbrev pub making : Making
 making = record {
   hierarchies = with_object.fixed.hierarchies;
@@ -51,7 +51,7 @@ making = record {
   object = saved_object;
 }
 
--- The object can be saved on `with_object`. Its context is valid on `without_object`, where the
+-- `saved_object` can be saved on `with_object`. Its context is valid on `without_object`, where the
 -- object gets the same handle again, and on `full`, which has no free slot.
 pub record HasSavedObject : Type 0 where
   pub started : with_object.fixed.started ≡ true

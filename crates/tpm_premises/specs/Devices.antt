@@ -9,8 +9,8 @@ use Rattle.tpm_step.specs.history.FailedRun.{protected_index, tried}
 abbrev pub seeded : (byte : ℕ) → Record
 seeded byte = manufactured (replicate 256 byte)
 
--- Before any command, two devices with different seeds follow the same history and show the same
--- views (`AreAlike`).
+-- Before any command, two devices with different seeds satisfy `AreAlike`: they follow the same
+-- history and show the same views.
 pub record AreTwoDevices : Type 0 where
   pub alike : AreAlike (seeded 0) (seeded 1) []
   pub differ : seeded 0 ≢ seeded 1
@@ -25,7 +25,7 @@ holding byte =
       };
     }
 
--- Two devices differ only in the data of an NV index, and these data are secret.
+-- Two devices differ only in the data of an NV index, and this data is secret.
 pub record AreTwoSecrets : Type 0 where
   pub secrets : DifferInSecrets (of_data (λ number. true) (λ public. true)) (holding 0) (holding 1)
   pub differ : holding 0 ≢ holding 1

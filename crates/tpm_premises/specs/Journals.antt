@@ -30,7 +30,7 @@ effect = record {
   drawn = drawn_by (tried 0 0 0) (wrong_after 0) refusal_step.row.check;
 }
 
--- A device executed `given_command`, and its journal contains the entry.
+-- A device executed `given_command`, and its journal contains the command's entry.
 abbrev pub HasOneEntry : Type 0
 HasOneEntry =
     Lives (new_completion 0) (tried 0 0 0) (entry_of given_command effect ∷ []) effect.layer

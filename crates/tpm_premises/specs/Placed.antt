@@ -36,8 +36,8 @@ saved_object = record {
 abbrev pub first_transient : Handle
 first_transient = numbered 0x80000000
 
--- The object can be placed on a new device. It gets the first transient handle, and its
--- authorization value is unchanged.
+-- `saved_object` can be placed on a new device, where it gets the first transient handle. The
+-- history then records the object, and determines its authorization value, "a".
 pub record IsPlaced : Type 0 where
   pub happens : IsEvent (Placed saved_object)
   pub found : object_at (placed (manufactured zeros) saved_object).objects first_transient

@@ -1,4 +1,4 @@
--- A written policy can contain every assertion. TPM 2.0 Library, Part 1, section 19.7.
+-- A written policy can contain every kind of assertion. TPM 2.0 Library, Part 1, section 19.7.
 use Rattle.std.specs.Prelude.{◌≡◌, ℕ, ◌<◌, ◌^◌, Bool, List, length}
 use Rattle.tpm_mac.specs.Digest.{digest_size}
 use Rattle.tpm_mac.specs.declared.algorithm.HashAlg.{HashAlg}

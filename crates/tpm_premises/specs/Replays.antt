@@ -42,7 +42,7 @@ starting = record {
   sensitive = None;
 }
 
--- the session
+-- the session that the command `starting` started
 abbrev pub session : LiveSession
 session = record {
   kind = type.Hmac;
@@ -55,7 +55,7 @@ session = record {
   assertions = [];
 }
 
--- an entry of the session, with continueSession and an HMAC of four bytes
+-- an entry that names the session, with continueSession and an HMAC of four bytes
 abbrev pub entry : Entry
 entry = record {
   session = numbered 0x02000000;

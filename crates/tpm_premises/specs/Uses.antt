@@ -1,4 +1,4 @@
--- An example of using an object through its policy.
+-- An example of an object that is used through its policy.
 use Rattle.std.specs.Prelude.{[], ◌∷◌, None, replicate}
 use Rattle.tpm_mac.specs.declared.algorithm.HashAlg.TheVariants as alg
 use Rattle.tpm_commands.specs.declared.command_code.CommandCode.TheVariants as command
@@ -24,7 +24,7 @@ sealed_data = record {
   unique = [];
 }
 
--- TPM2_Unseal of the object, as a history records it
+-- TPM2_Unseal of an object with the public area `sealed_data`, as a history records it
 abbrev pub unsealing : AcceptedCommand
 unsealing = record {
   command = record {

@@ -1,8 +1,7 @@
 #![tactic(auto)]
 
-//! Examples that satisfy the premises of laws: about policies, uses of objects, replays, two
-//! devices with one history, devices that differ in secrets, placed objects, contexts, and
-//! journals.
+//! Examples that satisfy the premises of laws about policies, uses of objects, replays, two devices
+//! with one history, devices that differ in secrets, placed objects, contexts, and journals.
 //!
 //! A law whose premise can never be satisfied says nothing. Each example here satisfies one
 //! premise, by computation. Each law is the contract of a function that does nothing at run time.
@@ -16,8 +15,8 @@ ghost use Rattle.tpm_premises.specs.Policies.{EachIsWritten};
 ghost use Rattle.tpm_premises.specs.Replays.{HasReplay};
 ghost use Rattle.tpm_premises.specs.Uses.{HasUse};
 
-/// Every assertion can be added to a written policy, and two policies can be the branches of a
-/// third.
+/// Every kind of assertion can be added to a written policy, and two policies can be the branches
+/// of a third policy.
 #[inline(always)]
 #[tactic(auto, using(crate::proofs::Policies::each_is_written))]
 pub fn policy_premise()
@@ -32,8 +31,8 @@ pub fn use_premise()
     ensures { HasUse }
 {}
 
-/// The same buffer is executed as two commands of a history. Its entry has an HMAC, and names an
-/// HMAC session that survives in between.
+/// The same buffer is executed as two commands of a history. The authorization entry in the buffer
+/// has an HMAC, and names an HMAC session that survives in between.
 #[inline(always)]
 #[tactic(auto, using(crate::proofs::Replays::has_replay))]
 pub fn replay_premise()

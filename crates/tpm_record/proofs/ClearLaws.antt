@@ -21,8 +21,8 @@ rest_cleared : (b : Bool) (p : Option Object) (ps qs : List (Option Object)) →
 rest_cleared true p ps qs = refl
 rest_cleared false p ps qs = refl
 
--- One step of the loop: processing slot i, after the first i slots, completes the first i + 1
--- slots.
+-- One step of the loop: if slot i is processed after the first i slots, the first i + 1 slots have
+-- been processed.
 pub cleared_in_turn : (places : List (Option Object)) (i : ℕ) → cond (is_place_cleared (at_place (cleared_up_to i places) i)) (slice_set (cleared_up_to i places) i None) (cleared_up_to i places) ≡ cleared_up_to (suc i) places
 cleared_in_turn [] zero = refl
 cleared_in_turn [] (suc i) = refl

@@ -1,2 +1,2 @@
--- Laws of the parts that the rows of all commands share.
+-- Laws about what the rows of all commands have in common.
 pub mod TargetLaws

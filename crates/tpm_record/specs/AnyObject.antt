@@ -1,6 +1,6 @@
--- How a transient or persistent object is added to a record or removed from it, and which handle of
--- an object comes next. TPM 2.0 Library, Part 1, sections 15.6 (transient objects) and 37.3
--- (persistent objects).
+-- How a transient or persistent object is added to a record or removed from it, and how the next
+-- handle that belongs to an object is found. TPM 2.0 Library, Part 1, sections 15.6 (transient
+-- objects) and 37.3 (persistent objects).
 use Rattle.tpm_types.specs.Limits.{object_limit, persistent_limit}
 use Rattle.std.specs.Prelude.{◌≡◌, ℕ, zero, suc, ◌&&◌, nat_le, Bool, is_some, if◌then◌else◌, List, Option, Some, None, option_map, Result}
 use Rattle.tpm_object.specs.declared.object.Object.{Object}

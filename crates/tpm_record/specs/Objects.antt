@@ -23,11 +23,11 @@ object_at places handle = at_number transient_byte places handle.number
 abbrev pub object_handle : ℕ → Handle
 object_handle place = record { number = number_of 0x80 place }
 
--- the handle that the next added object gets, or None if no slot is free
+-- the handle that the next object gets when it is added, or None if no slot is free
 abbrev pub next_handle : List (Option Object) → Option Handle
 next_handle places = option_map object_handle (lowest_free places)
 
--- the slots after an object was put into this slot
+-- the slots with this object in the slot `place`
 abbrev pub with_object : List (Option Object) → ℕ → Object → List (Option Object)
 with_object places place object = slice_set places place (Some object)
 
@@ -35,8 +35,8 @@ with_object places place object = slice_set places place (Some object)
 unfoldable pub without_object : List (Option Object) → Handle → List (Option Object)
 without_object places handle = without_number transient_byte places handle.number
 
--- On success, the object was put into the lowest free slot. On failure, nothing changed: all slots
--- were taken, or an allocation failed.
+-- On success, the object was put into the lowest free slot. On failure, nothing changed, because
+-- all slots were taken or an allocation failed.
 abbrev pub Adds : Bool → List (Option Object) → Object
     → Result Handle SlotFault → List (Option Object) → Type 0
 Adds can old object (Ok handle) new =

@@ -31,20 +31,22 @@ abbrev pub next_persistent : Entries Object → ℕ → Option ℕ
 next_persistent objects number = key_from objects number
 
 -- whether objects in a hierarchy can be made persistent. Objects in the null hierarchy cannot,
--- because its secrets are replaced at each TPM Reset
+-- because the secrets of this hierarchy are replaced at each TPM Reset
 abbrev pub can_persist : HierarchyHandle → Bool
 can_persist hierarchy.Owner = true
 can_persist hierarchy.Endorsement = true
 can_persist hierarchy.Platform = true
 can_persist hierarchy.Null = false
 
--- The invariant of a persistent object and its handle.
+-- The invariant of a persistent object: its handle is persistent, objects in its hierarchy can be
+-- made persistent, and the object satisfies `IsObject`.
 pub record IsPersistent (number : ℕ) (object : Object) : Type 0 where
   pub named : is_persistent (numbered number) ≡ true
   pub owned : can_persist object.hierarchy ≡ true
   pub sized : IsObject object
 
--- The invariant of all persistent objects.
+-- The invariant of all persistent objects: their handles ascend, their number is within the limit,
+-- and each object satisfies `IsPersistent`.
 pub record ArePersistent (objects : Entries Object) : Type 0 where
   pub ascends : Ascends objects
   pub few : length objects ≤ persistent_limit

@@ -22,8 +22,8 @@ abbrev pub saved_by : StartupType → BankValues → SavedState
 saved_by type.Clear banks = Clear
 saved_by type.State banks = State (saved_of banks)
 
--- the saved state, given its kind and the stored values, which are ignored unless the kind is
--- STATE
+-- the saved state that a kind and stored values represent; the values are ignored unless the kind
+-- is STATE
 abbrev pub state_kept : SavedKind → SavedValues → SavedState
 state_kept kind.Nothing values = Nothing
 state_kept kind.Clear values = Clear
@@ -47,7 +47,8 @@ restored_from Nothing banks = banks
 restored_from Clear banks = banks
 restored_from (State values) banks = restored_in values banks
 
--- The invariant of every saved state.
+-- The invariant of every saved state: saved PCR values satisfy `IsSaved`, that is, each bank has
+-- sixteen values of the right size.
 abbrev pub IsSavedState : SavedState → Type 0
 IsSavedState Nothing = Unit {0}
 IsSavedState Clear = Unit {0}

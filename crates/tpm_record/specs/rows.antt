@@ -1,4 +1,4 @@
--- The parts that the rows of all commands share.
+-- What the rows of all commands have in common.
 pub mod Request
 pub mod Draws
 pub mod Answer

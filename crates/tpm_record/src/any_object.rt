@@ -31,7 +31,7 @@ pub fn add_persistent<K: Keep>(keep: &mut K, handle: Handle, object: Object) -> 
     keep.persistent_mut().add(handle, object)
 }
 
-/// Removes the transient or persistent object with this handle. Returns whether there was one.
+/// Removes the transient or persistent object with this handle. Returns whether the object existed.
 #[tactic(auto, unfolding(crate::specs::Entity::object_of))]
 pub fn remove_object<K: Keep>(keep: &mut K, handle: Handle) -> bool
     ensures there { result ≡ is_some (object_of (K.record_of keep.old) handle) }
@@ -44,7 +44,7 @@ pub fn remove_object<K: Keep>(keep: &mut K, handle: Handle) -> bool
     }
 }
 
-/// The lowest handle of a transient or persistent object, at or above this handle.
+/// The lowest handle, at or above this handle, that belongs to a transient or persistent object.
 pub fn next_object<K: Keep>(keep: &K, from: Handle) -> Option<u32>
     ensures { result ≡ next_object (K.record_of keep.now) from.number }
 {
@@ -54,7 +54,7 @@ pub fn next_object<K: Keep>(keep: &K, from: Handle) -> Option<u32>
     }
 }
 
-/// The lowest handle of a transient object, at or above this handle.
+/// The lowest handle, at or above this handle, that belongs to a transient object.
 #[tactic(auto, using(crate::proofs::Searching::none_more, crate::proofs::Searching::found_least))]
 fn next_transient<K: Keep>(keep: &K, from: Handle) -> Option<u32>
     ensures { result ≡ next_transient (K.record_of keep.now).objects from.number }

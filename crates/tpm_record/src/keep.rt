@@ -1,5 +1,5 @@
-//! The trait `Keep`, which types that contain the device's state implement. It provides read and
-//! write access to each part of the state.
+//! The trait `Keep`. Every type that stores the device's state implements this trait. It provides
+//! read and write access to each part of the state.
 
 ghost use Rattle.std.specs.Prelude.{◌≡◌, Bool, IfOk, OnErr, replicate, true};
 ghost use Rattle.std.specs.Borrow.{Lends, sem};
@@ -57,14 +57,14 @@ pub trait Keep: Drop + Sized {
     /// The same state with these NV indices.
     ghost with_nv: { Self → Self.NvIndices → Self };
 
-    /// Whether an allocation can fail when a session, an object or an NV index is added.
+    /// Whether adding a session, an object or an NV index can fail for lack of memory.
     ghost can_refuse: { Bool };
 
-    /// Whether an allocation can fail when a value is created.
+    /// Whether creating a value of this type can fail for lack of memory.
     ghost empty_can_refuse: { Bool };
 
-    /// The state of a device manufactured with zeros as random bytes. Its memory is allocated from
-    /// `alloc`.
+    /// The state of a device manufactured with random bytes that are all zero. Its memory is
+    /// allocated from `alloc`.
     fn empty(alloc: Global) -> Result<Self, NoMemory>
         ensures state { IfOk result (λ keep. record_of keep ≡ manufactured (replicate 256 0)) }
         ensures refused { OnErr result (empty_can_refuse ≡ true) };

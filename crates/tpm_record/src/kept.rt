@@ -1,5 +1,5 @@
-//! A type that implements `Keep` with any kind of containers, for example with growable lists. The
-//! state with fixed-size storage, which never allocates memory, is in tpm_slots.
+//! A type that implements `Keep` with any kind of containers, such as growable lists. The state
+//! with fixed-size storage, which never allocates memory, is in tpm_slots.
 
 ghost use Rattle.std.specs.Prelude.{◌≡◌};
 

@@ -1,19 +1,19 @@
 #![tactic(auto)]
 
-//! The device's state: the record that contracts refer to, and the trait of the types that store
-//! it.
+//! The device's state: the record that contracts refer to, and the trait for types that store the
+//! state.
 //!
-//! [`keep::Keep`] is the trait. [`kept::Kept`] implements it with any kind of containers, for
-//! example [`kept::ListKeep`] with growable lists; tpm_slots contains the type with fixed-size
+//! [`keep::Keep`] is the trait. [`kept::Kept`] implements it with any kind of containers; for
+//! example, [`kept::ListKeep`] uses growable lists. tpm_slots contains the type with fixed-size
 //! storage, which allocates no memory. [`fixed::Fixed`] is the part of fixed size, which includes
 //! the state that a shutdown saved ([`saved::Saved`]). [`objects::Objects`] contains the transient
 //! objects, and [`persistent::PersistentObjects`] the persistent objects; NV indices are in tpm_nv.
 //! [`tick::tick`] and [`cycle::power_cycle`] change a record independently of commands, and
-//! [`entity`] looks up the entity of a handle. The crate uses `tpm_lockout`, `tpm_pcr`,
+//! [`entity`] looks up the entity that a handle names. The crate uses `tpm_lockout`, `tpm_pcr`,
 //! `tpm_session`, `tpm_object` and `tpm_nv`. It uses `tpm_containers` for the slots of sessions and
-//! transient objects and for the map of persistent objects. Each call on a type that implements the
-//! trait changes the record as the call's definition in `specs/` says. [`rows`] contains the parts
-//! that the rows of all commands share.
+//! transient objects and for the map of persistent objects. For every type that implements the
+//! trait, each call changes the record as the call's definition in `specs/` says. [`rows`] contains
+//! what the rows of all commands have in common.
 
 pub mod any_object;
 mod clear;

@@ -52,7 +52,7 @@ impl<O: Slots<Object, OBJECT_LIMIT>> Objects<O> {
         numbered::get(&self.places, handle.number)
     }
 
-    /// The handle that the next added object will get, or None if no slot is free.
+    /// The handle that the next object will get when it is added, or None if no slot is free.
     pub fn free(&self) -> Option<Handle>
         ensures { result ≡ next_handle (objects_of O.places self.now) }
     {
@@ -94,7 +94,7 @@ impl<O: Slots<Object, OBJECT_LIMIT>> Objects<O> {
         self.places.put(place, object)
     }
 
-    /// Removes the object with this handle. Returns whether there was one.
+    /// Removes the object with this handle. Returns whether the object existed.
     #[tactic(auto, unfolding(crate::specs::Objects::object_at, crate::specs::Objects::without_object))]
     pub fn remove(&mut self, handle: Handle) -> bool
         ensures there { result ≡ is_some (object_at (objects_of O.places self.old) handle) }
@@ -104,7 +104,8 @@ impl<O: Slots<Object, OBJECT_LIMIT>> Objects<O> {
         numbered::remove(&mut self.places, handle.number)
     }
 
-    /// Removes the objects in the owner and endorsement hierarchies, as TPM2_Clear does.
+    /// Applies the effect of TPM2_Clear: removes the objects in the owner and endorsement
+    /// hierarchies.
     pub fn clear_hierarchies(&mut self)
         ensures { objects_of O.places self.new ≡ cleared_objects (objects_of O.places self.old) }
     {
@@ -120,8 +121,8 @@ impl<O: Slots<Object, OBJECT_LIMIT>> Objects<O> {
 }
 
 /// The transient objects of a device form a map keyed by handle: after an object is added or
-/// removed, a lookup by handle returns the right object, or None. This function is only a proof: it
-/// has no effect at run time.
+/// removed, a lookup by handle returns the object that then has the handle, or None. This function
+/// is only a proof: it has no effect at run time.
 pub fn object_laws()
     ensures { MapLaws transient_byte }
 {

@@ -41,7 +41,7 @@ pub trait PersistentObjects: Drop + Sized {
     fn get(&self, handle: Handle) -> Option<&Object>
         ensures { option_copied result ≡ persistent_at (entries self.now) handle };
 
-    /// The lowest handle of an object, at or above this handle.
+    /// The lowest handle, at or above this handle, that belongs to a persistent object.
     fn next(&self, handle: Handle) -> Option<u32>
         ensures { result ≡ next_persistent (entries self.now) handle.number };
 
@@ -53,12 +53,13 @@ pub trait PersistentObjects: Drop + Sized {
         ensures { PutsKey persistent_limit can_refuse (entries self.old) handle.number object result
             (entries self.new) };
 
-    /// Removes the object with this handle. Returns whether there was one.
+    /// Removes the object with this handle. Returns whether the object existed.
     fn remove(&mut self, handle: Handle) -> bool
         ensures there { result ≡ is_some (persistent_at (entries self.old) handle) }
         ensures after { entries self.new ≡ without_persistent (entries self.old) handle };
 
-    /// Removes the objects in the owner and endorsement hierarchies, as TPM2_Clear does.
+    /// Applies the effect of TPM2_Clear: removes the objects in the owner and endorsement
+    /// hierarchies.
     fn clear_hierarchies(&mut self)
         ensures { entries self.new ≡ cleared_persistent (entries self.old) };
 

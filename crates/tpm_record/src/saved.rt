@@ -8,8 +8,8 @@ use std::marker::Model;
 use tpm_pcr::{Banks, SavedPcrs};
 use tpm_types::StartupType;
 
-/// The kind of the last TPM2_Shutdown; `Nothing` if there was no shutdown or its state was
-/// discarded.
+/// The kind of the last TPM2_Shutdown; `Nothing` if there was no shutdown, or if the state that it
+/// saved was discarded.
 #[derive(Clone, Copy, PartialEq, Eq)]
 pub enum SavedKind {
     Nothing,
@@ -64,7 +64,7 @@ impl Saved {
         }
     }
 
-    /// The saved values, if the saved state is that of a TPM2_Shutdown with STATE.
+    /// The saved values, if a TPM2_Shutdown with STATE saved the state.
     pub fn values(&self) -> Option<&SavedPcrs>
         ensures { option_copied result ≡ values_of self.now }
     {

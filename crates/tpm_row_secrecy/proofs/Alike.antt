@@ -23,19 +23,19 @@ pub alike_step : {A B C E : Type 0} (see : B → C) (x : Result A E) (f g : A �
 alike_step see (Ok a) f g more = more a
 alike_step see (Err e) f g more = record { is = refl }
 
--- If two rows begin with the same step, it is enough to compare the rest of the rows for each
--- success of this step.
+-- Two rows that begin with the same step look the same if the remaining steps look the same for
+-- every value that the first step can return.
 pub alike_step_is : {A B C E : Type 0} (see : B → C) (x : Result A E) (f g : A → Result B E) → ((a : A) → x ≡ Ok a → Alike see (f a) (g a)) → Alike see (x >>= f) (x >>= g)
 alike_step_is see (Ok a) f g more = more a refl
 alike_step_is see (Err e) f g more = record { is = refl }
 
--- If the first steps of two rows are equal, it is enough to compare the rest of the rows for each
--- success of this step.
+-- Two rows whose first steps are equal look the same if the remaining steps look the same for every
+-- value of the first step.
 pub alike_both : {A B C E : Type 0} (see : B → C) (x y : Result A E) (f g : A → Result B E) → x ≡ y → ((a : A) → Alike see (f a) (g a)) → Alike see (x >>= f) (y >>= g)
 alike_both see x y f g same more = subst (λ (z : Result _ _). Alike see (z >>= f) (y >>= g)) (sym same) (alike_step see y f g more)
 
--- If the first steps of two rows look the same, it is enough to compare the rest of the rows for
--- two successes that look the same.
+-- Suppose that the first steps of two rows look the same. The rows look the same if, for any two
+-- values that look the same, the remaining steps look the same.
 pub alike_after : {A B C D E : Type 0} (first : A → B) (see : C → D) (x y : Result A E) (f g : A → Result C E) → Alike first x y → ((a b : A) → first a ≡ first b → Alike see (f a) (g b)) → Alike see (x >>= f) (y >>= g)
 alike_after {B = B} {E = E} first see (Ok a) (Ok b) f g alike more = more a b (ap seen alike.is)
   where
@@ -50,8 +50,8 @@ alike_after {B = B} {E = E} first see (Err e) (Err h) f g alike more = subst (λ
     fault (Ok c) = e
     fault (Err k) = k
 
--- If two rows look up a value that both find or both miss, it is enough to compare the rest of the
--- rows for the values that they find.
+-- Suppose that two rows look up a value, and that both find one or neither does. The rows look the
+-- same if the remaining steps look the same for the two values that are found.
 pub alike_found : {X A B E : Type 0} (see : A → B) (change : X → X) (one other : Option X) (e : E) (f g : X → Result A E) → one ≡ option_map change other → ((x : X) → other ≡ Some x → Alike see (f (change x)) (g x)) → Alike see (ok_or one e >>= f) (ok_or other e >>= g)
 alike_found {X = X} see change one other e f g same more =
     subst (λ (found : Option X). Alike see (ok_or found e >>= f) (ok_or other e >>= g)) (sym same) (by other refl)
@@ -89,7 +89,8 @@ both_succeed {A = A} {E = E} x y alike = sym (unseen x) ∙ ap is_ok alike.is �
     unseen (Ok a) = refl
     unseen (Err e) = refl
 
--- Two refusals that look the same are equal, whatever part of a success is visible.
+-- Suppose that two results look the same when only success is visible, and that the second result
+-- is a refusal. Then they look the same no matter which part of a success is visible.
 pub refused_alike : {A B E : Type 0} (see : A → B) (x y : Result A E) → Alike success x y → is_ok y ≡ false → Alike see x y
 refused_alike see (Ok a) (Ok b) alike refused = absurd (false≢true (sym refused))
 refused_alike see (Ok a) (Err e) alike refused = let never = alike.is in absurd cc
@@ -101,7 +102,7 @@ refused_alike {E = E} see (Err e) (Err h) alike refused = subst (λ (k : E). Ali
     fault (Err k) = k
 
 -- If the conjunction of two conditions is false, at least one of the conditions is false. For
--- example, a command that reads no secret either names no secret object or is refused.
+-- example, if a command reads no secret, it names no secret object or is refused.
 pub either_free : {P : Type 0} (a b : Bool) → (a && b) ≡ false → (a ≡ false → P) → (b ≡ false → P) → P
 either_free false b free unread refused = unread refl
 either_free true b free unread refused = refused free

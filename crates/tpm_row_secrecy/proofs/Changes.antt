@@ -1,5 +1,6 @@
--- Each change of an NV index has the same outcome, except for secrets, on a device and on the
--- device with its secrets erased. The only exception is a counter with a secret value.
+-- Each change of an NV index has the same outcome on a device and on the device with its secrets
+-- erased, apart from the secrets themselves. The only exception is an increment of a counter with a
+-- secret value.
 use Rattle.std.proofs.Common.{ap, refl, subst, sym, ◌∙◌}
 use Rattle.std.proofs.lemmas.Bool.{false≢true}
 use Rattle.std.proofs.lemmas.List.Folds.{fold-map}

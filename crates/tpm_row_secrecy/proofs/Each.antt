@@ -1,5 +1,5 @@
--- After a function is applied to all values of a map or of slots, a lookup returns the function's
--- result for the old value.
+-- If a function is applied to all values of a map, or to the values in all slots, a lookup then
+-- returns the function's result for the old value.
 use Rattle.std.proofs.Common.{ap, eqb, leb, refl, sym, ◌∙◌}
 use Rattle.std.specs.List.{prefix_len}
 use Rattle.std.specs.Option.{option_map_or}
@@ -98,8 +98,8 @@ module _ {X Y : Type 0} (f : X → Y) where
   free_each zero = refl
   free_each (suc n) = ap (λ (others : List (Option Y)). None ∷ others) (free_each n)
 
-  -- After a function that preserves the kinds of values is applied to all slots, a lookup by number
-  -- returns the function's result for the old value.
+  -- If a function that preserves the kinds of values is applied to the values in all slots, a
+  -- lookup by number then returns the function's result for the old value.
   module _ (kind : Y → ℕ) (was : X → ℕ) (kept : (x : X) → kind (f x) ≡ was x) where
     of_kind : (number : ℕ) (found : Option X) → option_and_then (if_of_kind kind number) (option_map f found) ≡ option_map f (option_and_then (if_of_kind was number) found)
     of_kind number None = refl

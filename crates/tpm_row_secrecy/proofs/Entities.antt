@@ -77,7 +77,7 @@ module _ (s : Secrecy) where
       ∙ ap (cond (is_nv_index handle) (bare_entity (option_map_or AnIndex (index_of r handle) Permanent))) (ap (λ (found : Option Object). option_map_or AnObject found Permanent) (object_of_bare r handle) ∙ of_object (object_of r handle))
       ∙ chosen bare_entity (is_nv_index handle) (option_map_or AnIndex (index_of r handle) Permanent) (option_map_or AnObject (object_of r handle) Permanent)
 
-  -- A property of entities that does not depend on their secrets is the same on a device and on the
+  -- A property that does not depend on the secrets of entities is the same on a device and on the
   -- device with its secrets erased.
   pub seen_bare : {X : Type 0} (see : Entity → X) → ((x : Entity) → see (bare_entity x) ≡ see x) → (r : Record) (handle : Handle) → see (entity_at (without_secrets s r) handle) ≡ see (entity_at r handle)
   seen_bare see same r handle = ap see (entity_bare r handle) ∙ same (entity_at r handle)
@@ -177,8 +177,8 @@ module _ (s : Secrecy) where
   unfolding auth_value_of
   value_bare r handle shown = ap (entity_auth_value (without_secrets s r) handle) (entity_bare r handle) ∙ value_open r handle (entity_at r handle) shown
 
-  -- If an authorization value is secret, so is the key of each session that was bound to its
-  -- entity.
+  -- If the authorization value of an entity is secret, so is the key of each session that was bound
+  -- to the entity.
   name_covered : CoversKeys s → (handle : Handle) (x : Entity) → entity_has_secret_value s handle x ≡ true → s.bound_names (entity_name handle x) ≡ true
   name_covered covers handle (AnObject o) secret = covers.objects o.public secret
   name_covered covers handle (AnIndex i) secret = covers.indices i.public secret

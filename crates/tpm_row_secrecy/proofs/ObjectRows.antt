@@ -236,17 +236,17 @@ module _ (s : Secrecy) (r : Record) (q : Request) where
 
   -- ---- sealed data and keys
 
-  -- If the data of the first handle's object is not secret, at most the object's authorization
-  -- value is erased. Therefore it is enough to compare the rows for objects that differ only in
-  -- this value.
+  -- If the data of the object that the first handle names is not secret, at most the object's
+  -- authorization value is erased. Two rows then look the same if they look the same for objects
+  -- that differ only in this value.
   shown_object : (f g : Object → Result Success Refused) → handle_passes (names_secret_object s r) (first_handle q.handles) ≡ false → ((o : Object) → Same s (f (other_value o)) (g o)) → Same s (first_handle q.handles >>= λ handle. loaded_at (without_secrets s r) handle >>= f) (first_handle q.handles >>= λ handle. loaded_at r handle >>= g)
   shown_object f g shown more =
       alike_step_is (bare_success s) (first_handle q.handles) _ _ (λ handle named.
       same_object s r handle f g (λ o found.
       subst (λ (x : Object). Same s (f x) (g o)) (sym (data_shown o (sym (ap (λ (x : Option Object). option_map_or (has_secret_data s) x false) found) ∙ sym (ap (handle_passes (names_secret_object s r)) named) ∙ shown))) (more o)))
 
-  -- If only the success of a row is visible, it is enough to compare the rows for each object and
-  -- for the same object with its secrets erased.
+  -- If only the success of a row is visible, two rows look the same if they look the same for each
+  -- object and for the same object with its secrets erased.
   any_object : (f g : Object → Result Success Refused) → ((o : Object) → Alike success (f (bare_object s o)) (g o)) → Alike success (first_handle q.handles >>= λ handle. loaded_at (without_secrets s r) handle >>= f) (first_handle q.handles >>= λ handle. loaded_at r handle >>= g)
   any_object f g more =
       alike_step success (first_handle q.handles) _ _ (λ handle.

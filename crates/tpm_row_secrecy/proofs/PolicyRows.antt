@@ -144,7 +144,7 @@ module _ (s : Secrecy) (r : Record) (q : Request) where
       ap (λ (name : List ℕ). parts_with target p name (compared (without_secrets s r) target p)) (name_bare s r target.handle)
       ∙ ap (λ (bytes : Result (List ℕ) ReadFault). parts_with target p (name_of r target.handle) (reading_passes target >>= λ readable. or_fault bytes (plain_fault action.Fourth code.NvRange))) (read_shown s r.nv target.handle p.offset (length p.operand) shown)
 
-  -- On a trial session TPM2_PolicyNV compares nothing. Therefore its assertion does not depend on
+  -- In a trial session, TPM2_PolicyNV compares nothing. Therefore its assertion does not depend on
   -- secrets.
   trial_same : (trial : Bool) (hash : HashAlg) (target : Target) (p : of_index.Parameters) (policy : Policy) → trial ≡ true → nv_asserted hash trial (nv_parts_of (without_secrets s r) target p) policy ≡ nv_asserted hash trial (nv_parts_of r target p) policy
   unfolding nv_asserted

@@ -1,4 +1,5 @@
--- Rows look the same on a device and on the device with its secrets erased, if their steps do.
+-- A row looks the same on a device and on the device with its secrets erased, if each of its steps
+-- looks the same on both.
 use Rattle.std.proofs.Common.{ap, refl, subst, sym, ◌∙◌}
 use Rattle.std.specs.Prelude.{Err, None, Ok, Option, Result, Some, ok_or, option_map, ◌≡◌}
 use Rattle.tpm_actions_object.specs.Loaded.{loaded_at}
@@ -36,8 +37,8 @@ same_end s answer a b same = alike_end (bare_success s) _ _ (ap (λ (r : Record)
 pub same_unchanged : (s : Secrecy) (r : Record) (answer : AnswerParts) → Same s (Ok (unchanged (without_secrets s r) answer)) (Ok (unchanged r answer))
 same_unchanged s r answer = same_end s answer _ _ (record_again s r)
 
--- If erasing the secrets before or after a change gives the same record, a device and the device
--- with its secrets erased still look the same after the change.
+-- After a change, a device and the device with its secrets erased still look the same, provided
+-- that erasing the secrets before the change has the same result as erasing them afterwards.
 pub change_same : (s : Secrecy) (change : Record → Record) → ((r : Record) → without_secrets s (change r) ≡ change (without_secrets s r)) → (r : Record) → without_secrets s (change (without_secrets s r)) ≡ without_secrets s (change r)
 change_same s change apart r = apart (without_secrets s r) ∙ ap change (record_again s r) ∙ sym (apart r)
 
@@ -58,8 +59,8 @@ same_step s x f g more = alike_step (bare_success s) x f g more
 pub same_both : {A : Type 0} (s : Secrecy) (x y : Result A Refused) (f g : A → Result Success Refused) → x ≡ y → ((a : A) → Same s (f a) (g a)) → Same s (x >>= f) (y >>= g)
 same_both s x y f g same more = alike_both (bare_success s) x y f g same more
 
--- If a step looks up the object, the index or the session at a handle, it is enough to compare the
--- rest of the rows for the value that was found.
+-- Suppose that two rows look up the object, the index or the session that a handle names. The rows
+-- look the same if the remaining steps look the same for the value that is found.
 pub same_object : (s : Secrecy) (r : Record) (handle : Handle) (f g : Object → Result Success Refused) → ((o : Object) → object_of r handle ≡ Some o → Same s (f (bare_object s o)) (g o)) → Same s (loaded_at (without_secrets s r) handle >>= f) (loaded_at r handle >>= g)
 same_object s r handle f g more = alike_found (bare_success s) (bare_object s) _ _ handle_refusal f g (object_of_bare s r handle) more
 
@@ -117,5 +118,5 @@ same_target_is s r q f g more =
     subst (λ (x : Result Target Refused). Same s (x >>= f) (target_of r q >>= g)) (sym (target_bare s r q))
     (alike_step_is (bare_success s) (target_of r q) f g (λ t is. more t (target_second r q t is)))
 
--- the rules for steps that read no secret, and for the end of a row that changes nothing
+-- the lemmas about steps that read no secret, and about the end of a row that changes nothing
 pub ruleset same_steps = (same_step, same_unchanged)

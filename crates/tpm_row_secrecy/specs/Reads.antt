@@ -46,12 +46,13 @@ abbrev pub names_policy_session : Record → Handle → Bool
 names_policy_session r handle =
     option_map_or (λ (x : Session). not (is_trial x.kind)) (session_at r.sessions handle) false
 
--- Whether an authorized command reads secret data. If TPM2_Unseal or TPM2_HMAC is accepted, it
--- reads the data of its object. If TPM2_NV_Read is accepted, it reads the data of its NV index. If
--- they are refused, they reveal nothing. TPM2_PolicyNV on a policy session compares the data of its
--- index, and a failed comparison also reveals something about the data. TPM2_NV_Increment reads the
--- value of the counter, because the command is refused at the largest number. It may also raise the
--- largest value that any counter ever had, which is not secret. No other command reads secret data.
+-- Whether an authorized command reads secret data. An accepted TPM2_Unseal or TPM2_HMAC reads the
+-- data of its object, and an accepted TPM2_NV_Read reads the data of its NV index. If one of these
+-- commands is refused, it reveals nothing. TPM2_PolicyNV on a policy session compares the data of
+-- its index, and a failed comparison also reveals something about the data. TPM2_NV_Increment reads
+-- the value of the counter, because the command is refused if the next value would exceed 2^64 - 1.
+-- The command may also raise the largest value that any counter has ever had, which is not secret.
+-- No other command reads secret data.
 abbrev pub reads_secret : Secrecy → Record → CommandCode → Request → Bool
 reads_secret s r command.Unseal q =
     handle_passes (names_secret_object s r) (first_handle q.handles) && is_ok (unseal_row r q)

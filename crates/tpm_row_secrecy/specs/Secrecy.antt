@@ -22,8 +22,8 @@ use Rattle.tpm_types_nv.specs.declared.nv_public.NvPublic.{NvPublic}
 use Rattle.tpm_types_object.specs.declared.public.Public.{Public}
 use Rattle.tpm_types.specs.declared.handle.HierarchyAuth.TheVariants as auth
 
--- the choice of what is secret on a device; each kind of secret is selected by public facts about
--- its entity
+-- a choice of what is secret on a device. Only public facts about an entity decide whether its
+-- values are secret
 pub record Secrecy : Type 0 where
   -- for each handle number, whether the data of the NV index is secret
   pub index_data : ℕ → Bool
@@ -35,11 +35,11 @@ pub record Secrecy : Type 0 where
   pub object_values : Public → Bool
   -- for each hierarchy and for lockout, whether its authorization value is secret
   pub hierarchy_values : HierarchyAuth → Bool
-  -- for each Name, whether the keys of the sessions that were bound to this entity are secret. Such
-  -- a key is derived from the entity's authorization value
+  -- for each Name, whether the keys of the sessions that were bound to the entity with this Name
+  -- are secret. These keys are derived from the entity's authorization value
   pub bound_names : List ℕ → Bool
 
--- the bytes, or no bytes if they are secret
+-- the bytes, or the empty list if the bytes are secret
 abbrev pub unless : Bool → List ℕ → List ℕ
 unless secret bytes = if secret then [] else bytes
 
@@ -123,7 +123,7 @@ DifferInSecrets s one other = without_secrets s one ≡ without_secrets s other
 
 -- ---- entities and sessions with secrets
 
--- whether the authorization value of a handle's entity is secret
+-- whether the authorization value of the entity that a handle names is secret
 abbrev pub entity_has_secret_value : Secrecy → Handle → Entity → Bool
 entity_has_secret_value s handle (AnObject o) = s.object_values o.public
 entity_has_secret_value s handle (AnIndex i) = s.index_values i.public.nv_index.number
@@ -133,8 +133,8 @@ entity_has_secret_value s handle Permanent =
 abbrev pub has_secret_value : Secrecy → Record → Handle → Bool
 has_secret_value s r handle = entity_has_secret_value s handle (entity_at r handle)
 
--- If an authorization value is secret, so are the keys of the sessions that were bound to its
--- entity.
+-- If the authorization value of an entity is secret, so are the keys of the sessions that were
+-- bound to the entity.
 pub record CoversKeys (s : Secrecy) : Type 0 where
   pub indices : (public : NvPublic)
       → s.index_values public.nv_index.number ≡ true → s.bound_names (nv_name public) ≡ true
@@ -144,7 +144,7 @@ pub record CoversKeys (s : Secrecy) : Type 0 where
       → option_map_or s.hierarchy_values (hierarchy_auth_of handle) false ≡ true
       → s.bound_names (handle_name handle) ≡ true
 
--- a choice of secrets: only the data of these NV indices and objects
+-- the choice that only the data of these NV indices and objects is secret
 abbrev pub of_data : (ℕ → Bool) → (Public → Bool) → Secrecy
 of_data indices objects = record {
   index_data = indices;

@@ -4,8 +4,8 @@
 //! the command reads them.
 //!
 //! The secrets are the data of NV indices, the data that objects seal, HMAC keys, and authorization
-//! values. tpm_step has one law about the row of every command, and this law is a part of it.
-//! `proofs/` contains the proofs for the rows.
+//! values. The law here is a part of tpm_step's law about the row of every command. `proofs/`
+//! contains the proofs for the rows.
 
 ghost use Rattle.std.specs.Prelude.{◌≡◌};
 ghost use Rattle.tpm_commands.specs.declared.command_code.CommandCode.{CommandCode};

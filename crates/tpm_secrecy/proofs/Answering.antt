@@ -1,4 +1,5 @@
--- If no entry of a successful command uses a secret, its answer reveals nothing about secrets.
+-- If no entry of a successful command uses a secret, the command's answer reveals nothing about
+-- secrets.
 use Rattle.std.proofs.Common.{ap, refl, sym, ◌∙◌}
 use Rattle.std.proofs.lemmas.Bool.{true≢false}
 use Rattle.std.specs.List.{find}
@@ -83,9 +84,8 @@ module _ (s : Secrecy) (covers : CoversKeys s) where
   encryption_asked direction.Decrypt e is = ap (λ (b : Bool). b || encrypts e) is
   encryption_asked direction.Encrypt e is = or_second (decrypts e) (encrypts e) is
 
-  -- Suppose that two devices differ only in secrets. If the session of an entry that encrypts or
-  -- decrypts a parameter uses no secret, the entry's authorization value is the same on both
-  -- devices.
+  -- Suppose that two devices differ only in secrets. If an entry encrypts or decrypts a parameter,
+  -- and its session uses no secret, the entry's authorization value is the same on both devices.
   value_same : (r : Record) (x : Session) (e : Entry) (g : Option Grant) → session_uses s r x e g ≡ false → uses_encryption e ≡ true → granted_value (without_secrets s r) g ≡ granted_value r g
   value_same r x e None free asked = refl
   value_same r x e (Some g) free asked = by (has_secret_value s r g.handle) refl

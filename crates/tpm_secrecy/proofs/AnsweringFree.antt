@@ -1,5 +1,5 @@
--- The answer to an accepted command uses no secret, if the command's entries used no secret before
--- the command's effect.
+-- If the entries of an accepted command use no secret before the command takes effect, the answer
+-- to the command uses no secret either.
 use Rattle.std.proofs.Common.{ap, inl, inr, refl, subst, sym, ◌∙◌}
 use Rattle.std.proofs.lemmas.Bool.{cases_Bool, false≢true}
 use Rattle.std.proofs.lemmas.Option.{same_Some}
@@ -49,7 +49,7 @@ use Rattle.tpm_secrecy.specs.Guesses.{NoneUses, authorizes_secret, demands_value
 use Rattle.tpm_types.specs.declared.handle.SessionKind.TheVariants as kind
 use Rattle.tpm_commands.specs.declared.command_code.CommandCode.TheVariants as command
 
--- ---- the handle that an entry is granted
+-- ---- the handle that an entry authorizes
 
 abbrev IsUsed : Option Handle → Option Grant → Type 0
 IsUsed used granted = IfSome granted (λ g. used ≡ Some g.handle)
@@ -163,8 +163,8 @@ module _ (s : Secrecy) (r new : Record) where
 
 -- ---- an accepted command
 
--- the record from which an accepted command's answer is computed: after the command's effect, and
--- with the new nonces of its sessions
+-- the record from which an accepted command's answer is computed: after the command has taken
+-- effect, and with the new nonces of its sessions
 abbrev pub answering : Accepted → (random : List ℕ) → Record
 answering a random = (entries_rolled a.success.after a.command.entries (drop a.success.answer.drawn random)).after
 

@@ -1,6 +1,6 @@
--- If every guess is assumed to be wrong, a device authorizes the same commands with its secrets and
--- with its secrets erased. Therefore devices that differ in their secrets authorize the same
--- commands as long as all guesses are wrong.
+-- If every guess is assumed to be wrong, a device authorizes the same commands as the device with
+-- its secrets erased. Therefore, devices that differ in their secrets authorize the same commands
+-- as long as all guesses are wrong.
 use Rattle.std.proofs.Common.{ap, inl, inr, refl, sym, ◌∙◌}
 use Rattle.std.proofs.lemmas.Bool.{false≢true, true≢false}
 use Rattle.std.proofs.lemmas.Slice.Eq.{bytes_eq-Decides}
@@ -136,7 +136,7 @@ module _ (s : Secrecy) (covers : CoversKeys s) (r : Record) where
   nonce_seen None = refl
   nonce_seen (Some x) = refl
 
-  -- whether a session with this binding is bound to the entity of this handle
+  -- whether a session with this binding is bound to the entity that this handle names
   bound_by : Record → Binding → Handle → Bool
   bound_by t b h = bytes_eq b.name (name_of t h) && bytes_eq b.auth_value (auth_value_of t h)
 
@@ -297,7 +297,7 @@ module _ (s : Secrecy) (covers : CoversKeys s) (r : Record) where
         ∙ ap (λ (p : Protection). compared_with n g p (comparison_holds bare c n g e x)) (shown_protection x g shown)
         ∙ ap (compared_with n g (entry_protection r x g)) (holds_same n g e x free)
 
-    -- ---- guesses that are assumed wrong
+    -- ---- guesses that are assumed to be wrong
 
     fails_so : (x : Result (Unit {0}) Refused) (e : Refused) (g : Option Grant) (holds : Bool) → is_ok (x >>= λ tried. refused_if (not holds) e >>= λ compared. let y : Result (Option Grant) Refused = Ok g in y) ≡ false → (x >>= λ tried. refused_if (not holds) e >>= λ compared. let y : Result (Option Grant) Refused = Ok g in y) ≡ (x >>= λ tried. Err e)
     fails_so (Err f) e g holds fails = refl

@@ -37,7 +37,7 @@ use Rattle.tpm_types.specs.declared.rc.Place.TheVariants as place
 use Rattle.tpm_types.specs.declared.rc.ResponseCode.TheVariants as code
 use Rattle.tpm_record.specs.declared.entity.Means.TheVariants as means
 
--- ---- guesses that are assumed wrong
+-- ---- guesses that are assumed to be wrong
 
 module _ (s : Secrecy) (c : Whole) (locality : ℕ) (t : Record) where
   abbrev doubted : ℕ → Option Grant → Entry → Session → Result (Option Grant) Refused

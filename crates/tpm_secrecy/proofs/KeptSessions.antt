@@ -37,11 +37,12 @@ use Rattle.tpm_row_secrecy.proofs.Each.{at_number_each, places, set_each}
 use Rattle.tpm_commands.specs.declared.command_code.CommandCode.TheVariants as command
 use Rattle.tpm_commands.specs.Part as part
 
--- the properties that a session received when it started, without its nonce and its policy
+-- the properties that a session received when it started, without the session's nonce and policy
 abbrev pub start_of_session : Session → Session
 start_of_session x = record x { nonce_tpm = []; policy = starting x.hash }
 
--- Each session that existed stays the same, except for its nonce and its policy.
+-- Each session that existed before still exists, and is unchanged except for its nonce and its
+-- policy.
 abbrev pub SessionsKeep : List (Option Session) → List (Option Session) → Type 0
 SessionsKeep old new =
     (h : Handle) → is_some (session_at old h) ≡ true
@@ -203,8 +204,8 @@ flush_forbids : (shape_of command.FlushContext).forbids_sessions ≡ true
 unfolding shape_of
 flush_forbids = refl
 
--- If a command may have sessions, its success preserves all sessions, as `SessionsKeep` defines.
--- TPM2_FlushContext may not have sessions.
+-- If a command may have sessions and succeeds, it preserves all sessions, as `SessionsKeep`
+-- defines. TPM2_FlushContext must not have sessions.
 pub sessions_keep : (c : CommandCode) (r : Record) (q : Request) → (shape_of c).forbids_sessions ≡ false → IfOk (row_of r c q) (RowKeeps r)
 sessions_keep command.FlushContext r q allows = absurd (false≢true (sym allows ∙ flush_forbids))
 sessions_keep command.StartAuthSession r q allows = started_row_keeps r q

@@ -1,5 +1,5 @@
--- If the entity of a command's first handle has a secret value after the command's effect, it had a
--- secret value before.
+-- If the entity that a command's first handle names has a secret value after the command, it
+-- already had one before.
 use Rattle.std.proofs.Common.{ap, inl, inr, refl, subst, sym, ◌∙◌}
 use Rattle.std.proofs.lemmas.Bool.{cases_eq, eqb-true, false≢true, or_cases}
 use Rattle.std.proofs.lemmas.Option.{same_Some}
@@ -216,7 +216,7 @@ is_apart part.DisableClear = true
 is_apart _ = false
 
 module _ (s : Secrecy) where
-  -- An entity that had no secret value before has none now.
+  -- An entity that had no secret value before still has no secret value.
   abbrev pub StaysOpen : Record → Record → Handle → Type 0
   StaysOpen old new h = has_secret_value s old h ≡ false → has_secret_value s new h ≡ false
 
@@ -283,7 +283,8 @@ module _ (s : Secrecy) where
 
   -- ---- all commands
 
-  -- The entity of a command's first handle still has no secret value after the command succeeds.
+  -- If the entity that a command's first handle names had no secret value before, it still has no
+  -- secret value after the command has succeeded.
   abbrev pub FirstStays : Record → Request → Success → Type 0
   FirstStays r q x = (h : Handle) → first_handle q.handles ≡ Ok h → StaysOpen r x.after h
 

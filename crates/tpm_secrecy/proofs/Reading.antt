@@ -45,8 +45,8 @@ use Rattle.tpm_actions_object.specs.Hmac as keyed
 abbrev pub reading_code : Public → CommandCode
 reading_code public = if has public.attributes attribute.Sign then command.Hmac else command.Unseal
 
--- The row of a command with this code and this request succeeds, and reads the secret data of one
--- of these objects.
+-- The row of a command with this code succeeds on this request, and reads the secret data of one of
+-- these objects.
 pub record ReadsObject (objects : Public → Bool) (r : Record) (code : CommandCode) (q : Request) : Type 0 where
   pub handle : Handle
   pub first : first_handle q.handles ≡ Ok handle
@@ -165,7 +165,7 @@ pub object_viewed : (r : Record) (handle : Handle) (o : Object) → is_of_kind h
 unfolding view_of
 object_viewed r handle o kind found = ap (entity_view handle) (object_entity r handle o kind found)
 
--- ---- the handle of the object, which is authorized
+-- ---- the object's handle, which is authorized
 
 pub object_handle_fits : (r : Record) (b : Bool) (handles : List Handle) (handle : Handle) → HandlesFit r (shape_of (if b then command.Hmac else command.Unseal)).handles handles → first_handle handles ≡ Ok handle → is_of_kind handle_kind.Object handle ≡ true
 unfolding shape_of

@@ -1,5 +1,4 @@
--- An event that reads no secret data, and in which all guesses fail, reveals nothing about
--- secrets.
+-- An event reveals nothing about secrets if it reads no secret data and all guesses in it fail.
 use Rattle.std.proofs.Common.{ap, inl, inr, refl, subst, sym, ◌∙◌}
 use Rattle.std.specs.Prelude.{Bool, Err, IfOk, List, None, Ok, Option, Result, Some, [], cond, false, not, true, ℕ, ◌+◌, ◌∷◌, ◌≡◌, ◌⊎◌}
 use Rattle.tpm_auth.specs.Grant.{authorize}
@@ -174,7 +173,7 @@ module _ (s : Secrecy) (covers : CoversKeys s) where
       ok_bind _ (authorize r c locality) _ (λ grants.
       ok_bind _ (row_of r c.code (request_in r c grants locality random)) _ (λ success. refl))
 
-  -- The accepted command reveals no secrets (`KeepsSecrets`).
+  -- The accepted command satisfies `KeepsSecrets`, so it reveals no secrets.
   abbrev KeepsIts : Record → (locality : ℕ) → (random : List ℕ) → Accepted → Type 0
   KeepsIts r locality random a = KeepsSecrets s r a.command locality random
 
@@ -257,8 +256,8 @@ module _ (s : Secrecy) (covers : CoversKeys s) where
   placed_same one other a b differ same =
       sym (placed_bare a a refl one) ∙ ap (λ (x : Record). without_secrets s (placed x a)) differ ∙ placed_bare a b same other
 
-  -- an event that reveals no secrets on either of two devices has the same outcome on both, except
-  -- for secrets
+  -- if an event reveals no secrets on either of two devices, it has the same outcome on both, apart
+  -- from the secrets themselves
   event_same : (refused : Bool) (one other : Record) (event : PlainEvent) → DifferInSecrets s one other → EventKeepsSecrets s one event → EventKeepsSecrets s other event → bare_step (step_where refused one event) ≡ bare_step (step_where refused other event)
   event_same refused one other (Given buffer locality elapsed random) differ keeps also =
       let differs : DifferInSecrets s (ticked one elapsed) (ticked other elapsed) = ap (λ (x : Record). ticked x elapsed) differ in

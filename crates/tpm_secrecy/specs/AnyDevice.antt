@@ -60,8 +60,8 @@ IsAcceptedReading objects r Cycled = ⊥
 IsAcceptedReading objects r (Placed object) = ⊥
 
 -- On any device, even one with an unknown history, an execution reveals nothing about sealed data,
--- unless it is an accepted command that reads the data. The law does not say what the command's
--- policy session asserted.
+-- unless it is an accepted command that reads the data. The law does not say which assertions the
+-- command's policy session has made.
 abbrev pub SealedDataNeedDigest : Type 0
 SealedDataNeedDigest =
     (objects : Public → Bool) (can : Bool) (old : Record) (event : PlainEvent) (x : Stepped)

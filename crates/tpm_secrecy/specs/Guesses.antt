@@ -1,4 +1,4 @@
--- Entries that use a secret authorization value, and commands in which all guesses of such values
+-- Entries that use a secret authorization value, and commands in which all guesses of secret values
 -- fail. TPM 2.0 Library, Part 1, sections 19.4 (passwords), 19.6 (HMAC sessions, bound sessions),
 -- 19.7 (policies) and 21 (session-based encryption).
 use Rattle.std.specs.Option.{option_map_or}
@@ -52,12 +52,12 @@ is_hmac_session type.Trial = false
 abbrev pub uses_encryption : Entry → Bool
 uses_encryption e = decrypts e || encrypts e
 
--- Whether an entry of this session uses a secret. It does if the session's key is secret, because
--- of the entity to which the session was bound. It also does if the entry authorizes an entity with
--- a secret value, and one of these holds: the session is an HMAC session, so that the HMAC key
--- contains the value; the policy requires the value; or the session encrypts or decrypts a
--- parameter. The key for a parameter contains the value even if the policy does not require the
--- value.
+-- Whether an entry that names this session uses a secret. It does if the session's key is secret,
+-- which depends on the entity to which the session was bound. It also does if the entry authorizes
+-- an entity with a secret value, and one of these holds: the session is an HMAC session, so that
+-- the HMAC key contains the value; the policy requires the value; or the session encrypts or
+-- decrypts a parameter. The key for a parameter contains the value even if the policy does not
+-- require the value.
 abbrev pub session_uses : Secrecy → Record → Session → Entry → Option Grant → Bool
 session_uses s r x e granted =
     has_secret_key s x.binding
@@ -82,15 +82,15 @@ NoneUses s r (g ∷ granted) = (uses_secret s r g.0 g.1 ≡ false) × NoneUses s
 
 -- ---- guesses
 
--- whether the session of an entry that has to authorize this handle uses a secret, given what the
--- policy requires in the entry; if the policy refuses the handle, nothing is compared
+-- whether an entry that has to authorize this handle uses a secret, given what the policy of its
+-- session requires in the entry. If the policy does not authorize the handle, nothing is compared
 abbrev pub demand_uses : Secrecy → Record → Handle → Session → Entry → Result Demand Refused → Bool
 demand_uses s r handle x e (Ok d) =
     session_uses s r x e (Some (record { handle = handle; demand = d }))
 demand_uses s r handle x e (Err refused) = false
 
--- whether the session of entry n uses a secret; the entry has to authorize this handle, or no
--- handle if it is None
+-- whether entry n, which names this session, uses a secret. The entry has to authorize this handle,
+-- or no handle in the case of None
 abbrev pub session_guesses : Secrecy → Record → Whole → (locality n : ℕ) → Option Handle → Entry
     → Session → Bool
 session_guesses s r c locality n None e x = session_uses s r x e None
@@ -122,10 +122,10 @@ GuessesFail s r c locality =
     → is_guess s r c locality place e ≡ true
     → is_ok (grant r c locality (place + 1) (slice_get (authorized c) place) e) ≡ false
 
--- If an entity has the Name to which a session with a secret key is bound, it has the protection
--- that the bound entity had. This can fail only if two different entities have the same Name. Two
--- objects, or two indices, with the same public area have the same noDA, and equal handles name the
--- same entity.
+-- If a session with a secret key is bound to a Name, every entity with this Name has the protection
+-- that the bound entity had. This can fail only if two different entities have the same Name.
+-- Otherwise, equal Names imply equal protection: two objects, or two indices, with the same public
+-- area agree in noDA, and equal handles name the same entity.
 abbrev pub BindingHolds : Secrecy → Record → Session → Type 0
 BindingHolds s r x =
     IfSome x.binding (λ b.

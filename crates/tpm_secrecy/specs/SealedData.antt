@@ -27,7 +27,7 @@ use Rattle.tpm_secrecy.specs.Tells.{EventsAlike, TellsNothing}
 use Rattle.tpm_types_object.specs.declared.object_attributes.ObjectAttribute.TheVariants as attribute
 use Rattle.tpm_commands.specs.declared.command_code.CommandCode.TheVariants as command
 
--- a choice of secrets: only the sealed data or keys of objects with these public areas
+-- the choice that only the sealed data or keys of objects with these public areas are secret
 abbrev pub sealed : (Public → Bool) → Secrecy
 sealed objects = of_data (λ number. false) objects
 
@@ -154,7 +154,7 @@ pub record OpensDiskKey (public : Public) (selection : List BankSelection)
         ⊎ ShowsSecret history u.entry.session name reference)
 
 -- The object seals data and has no userWithAuth, and its authPolicy is the policy of a disk's key.
--- Only its public area is in `objects`.
+-- `objects` contains no public area other than the object's.
 pub record IsDiskKey (public : Public) (objects : Public → Bool) (selection : List BankSelection)
     (values name reference : List ℕ) : Type 0
   where

@@ -1,4 +1,4 @@
--- What the answers of a device reveal about its secrets: nothing, until an event reads them.
+-- What the answers of a device reveal about its secrets: nothing, until an event reads the secrets.
 use Rattle.std.specs.Prelude.{Bool, Err, IfOk, List, Ok, Option, Result, [], false, true, ℕ, ◌∷◌, ◌≡◌, ◌≢◌, ◌≤◌}
 use Rattle.tpm_auth.specs.Grant.{authorize}
 use Rattle.tpm_auth.specs.declared.session_grant.Grant.{Grant}
@@ -34,8 +34,8 @@ abbrev pub command_reads : Secrecy → Record → (locality : ℕ) → (random :
 command_reads s r locality random c =
     granted_reads s r c locality random (authorize r c locality)
 
--- whether a buffer is a command that passes the general checks, is authorized, and reads secret
--- data
+-- whether a buffer contains a command that passes the general checks, is authorized, and reads
+-- secret data
 abbrev pub decoded_reads : Secrecy → Record → (locality : ℕ) → (random : List ℕ)
     → Result Whole RefusedCommand → Bool
 decoded_reads s r locality random (Ok c) = command_reads s r locality random c
@@ -67,8 +67,8 @@ pub record TellsNothing (s : Secrecy) (x y : Stepped) : Type 0 where
 
 -- Suppose that only the data of objects and NV indices is secret, and that two devices differ only
 -- in this data. If an event does not read the data on one of the devices, it reveals nothing about
--- the data. If the event places an object, the object that the other device places may differ in
--- its data too. Allocations may fail on both devices, or on neither.
+-- the data. If the event places an object, the data of the object that the other device places may
+-- differ too. Allocations may fail on both devices, or on neither.
 abbrev pub EventTellsNothing : Type 0
 EventTellsNothing =
     (indices : ℕ → Bool) (objects : Public → Bool) (one other : Record) (refused : Bool)
@@ -77,8 +77,8 @@ EventTellsNothing =
     DifferInSecrets s one other → EventsAlike s event also → is_reading s one event ≡ false
     → TellsNothing s (step_where refused one event) (step_where refused other also)
 
--- Suppose that two devices differ only in secret data. An event reads such data on both of them, or
--- on neither.
+-- Suppose that two devices differ only in secret data. An event reads secret data on both devices,
+-- or on neither.
 abbrev pub ReadOnBoth : Type 0
 ReadOnBoth =
     (indices : ℕ → Bool) (objects : Public → Bool) (one other : Record) (event : PlainEvent)
@@ -87,7 +87,7 @@ ReadOnBoth =
 
 -- ---- lists of events
 
--- events in order, each with a flag that says whether an allocation fails for it
+-- events in order, each with a flag that says whether an allocation fails during the event
 abbrev pub Attempts : Type 0
 Attempts = List (Bool × PlainEvent)
 
@@ -188,9 +188,9 @@ executions_of r (e ∷ es) =
     record { before = r; event = e.1; seen = x } ∷ executions_of x.after es
 
 -- Two devices that differ only in secrets, such as a PIN, return the same responses as long as
--- every guess fails on both. If recoveryTime is not 0, then in events without a reset of
--- failedTries at most maxTries tries fail, plus one for each recoveryTime that passes. The number
--- of guesses that are not tries, such as an entry that encrypts, is not limited.
+-- every guess fails on both. If recoveryTime is not 0 and no event resets failedTries, at most
+-- maxTries tries fail, plus one for each recoveryTime that passes. Guesses that do not count as
+-- tries, such as an entry that encrypts, are not limited in number.
 abbrev pub WrongTriesAreFew : Type 0
 WrongTriesAreFew =
     (s : Secrecy) → CoversKeys s → (one other : Record) (events others : Attempts)

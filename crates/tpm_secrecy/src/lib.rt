@@ -5,8 +5,8 @@
 //! The secrets are the data of NV indices, the data that objects seal, HMAC keys, and authorization
 //! values. The laws compare two devices that are equal once their secrets are erased. The laws are
 //! about tpm_step's definitions, and hold for every record. Each law is the contract of a function
-//! that has no effect at run time. The laws also hold for what tpm_machine executes, because each
-//! call of tpm_machine executes an event as the step defines it.
+//! that has no effect at run time. The laws also hold for what tpm_machine executes, because
+//! tpm_machine executes each event as the event's step defines it.
 
 ghost use Rattle.tpm_secrecy.specs.AnyDevice.{SealedDataNeedDigest};
 ghost use Rattle.tpm_secrecy.specs.SealedData.{DiskKeyStaysSecret, FollowedDataNeedPolicy};
@@ -32,9 +32,9 @@ pub fn secrecy_laws()
 /// After any executions since a device was manufactured, an execution reveals nothing about the
 /// sealed data or the key of an object. The only exception is an accepted TPM2_Unseal or TPM2_HMAC
 /// with that object. If the object has a policy and no userWithAuth, the policy was satisfied
-/// unless the hash is broken. For example, nothing reveals a disk's key until a TPM2_Unseal of it
-/// is accepted. Then, unless the hash is broken, either the PCRs had their values and the PIN was
-/// presented, or the recovery secret was presented.
+/// unless the hash is broken. For example, nothing reveals a disk's key until a TPM2_Unseal of the
+/// key is accepted. In that case, unless the hash is broken, either the PCRs had their values and
+/// the PIN was presented, or the recovery secret was presented.
 #[inline(always)]
 pub fn sealed_data_laws()
     ensures each { SealedDataNeedPolicy }
@@ -44,7 +44,8 @@ pub fn sealed_data_laws()
 
 /// The laws of `sealed_data_laws` also hold for every device that follows a history: a manufactured
 /// device; a device that is opened from an image, a state text or a journal of a device with a
-/// history; and a device that is served over connections. The policy was satisfied in that history.
+/// history; and a device that is served over connections. The policy was satisfied in the history
+/// that the device follows.
 #[inline(always)]
 pub fn followed_data_laws()
     ensures each { FollowedDataNeedPolicy }
@@ -66,7 +67,7 @@ pub fn any_device_laws()
 /// secret value fails. The same holds for a list of events. If recoveryTime is not 0 and the list
 /// contains no reset of failedTries, at most maxTries tries fail, plus one for each recoveryTime
 /// that passes. An entry that encrypts with a secret value counts as a guess, although nothing is
-/// compared. The number of guesses that are not tries is not limited.
+/// compared. Guesses that do not count as tries are not limited in number.
 #[inline(always)]
 pub fn guess_laws()
     ensures event { WrongGuessesTellNothing }

@@ -28,7 +28,7 @@ pub trimmed_padded : (bytes : List ℕ) → trimmed (padded bytes) ≡ trimmed b
 unfolding padded
 trimmed_padded bytes = trimmed_zeros (trimmed bytes) _ ∙ trimmed_twice bytes
 
--- two tests that imply each other have the same result
+-- two Booleans that imply each other are equal
 same_bool : (a b : Bool) → (a ≡ true → b ≡ true) → (b ≡ true → a ≡ true) → a ≡ b
 same_bool true true to from = refl
 same_bool true false to from = sym (to refl)

@@ -10,14 +10,14 @@ use Rattle.tpm_sequence.specs.Meaning.{RecordsGenerated}
 use Rattle.tpm_sequence.specs.declared.beginning.Beginning as declared
 use Rattle.tpm_sequence.specs.declared.beginning.Beginning.TheVariants.{Generated, One, Ordinary, Three, Two}
 
--- adding two parts one after the other is the same as adding their concatenation
+-- the `Beginning` after two parts of the data is the `Beginning` after their concatenation
 pub beginning_in_parts : (beginning : declared.Beginning) (first second : List ℕ)
     → beginning_after (beginning_after beginning first) second ≡ beginning_after beginning (first ++ second)
 unfolding beginning_after
 beginning_in_parts beginning [] second = refl
 beginning_in_parts beginning (byte ∷ first) second = beginning_in_parts (byte_after beginning byte) first second
 
--- adding one more byte of a list
+-- the `Beginning` after i + 1 bytes follows from the `Beginning` after i bytes and from byte i
 pub beginning_more : (beginning : declared.Beginning) (bytes : List ℕ) (i : ℕ) → i < length bytes
     → beginning_after beginning (take (i + 1) bytes)
     ≡ byte_after (beginning_after beginning (take i bytes)) (slice_index bytes i)
@@ -45,8 +45,8 @@ same_test a b = elim (eqb_tells a b) [
   | inr other ↦ other.0 ∙ sym (ne_eqb b a (λ e. other.1 (sym e)))
 ]
 
--- the data begin with the value exactly when the next byte matches (`test`) and the rest begins
--- with the rest of the value (`whole`)
+-- the data begin with a value exactly when the next byte matches (`test`) and the bytes after this
+-- byte begin with the rest of the value (`whole`)
 chosen : (test : Bool) (next : declared.Beginning) (bytes : List ℕ) (whole : Bool)
     → is_generated (beginning_after next bytes) ≡ whole
     → is_generated (beginning_after (if test then next else Ordinary) bytes) ≡ test && whole

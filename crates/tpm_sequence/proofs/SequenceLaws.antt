@@ -11,7 +11,7 @@ use Rattle.tpm_sequence.specs.Sequence.{event_sequence, hash_sequence, hmac_sequ
 use Rattle.tpm_sequence.specs.declared.sequence.Sequence as declared
 use Rattle.tpm_sequence.specs.declared.sequence.Sequence.TheVariants.{Event, Hash, Hmac}
 
--- updating a sequence with no data changes nothing
+-- updating a sequence with the empty list of bytes changes nothing
 updated_none : (sequence : declared.Sequence) → sequence_updated sequence [] ≡ sequence
 unfolding absorbed beginning_after
 updated_none (Hash state beginning) = refl

@@ -10,7 +10,7 @@ unfoldable pub padded : List ℕ → List ℕ
 padded bytes = trimmed bytes ++ replicate (32 - length (trimmed bytes)) 0
 
 -- whether the password is the authorization value of the object, ignoring trailing zeros. A
--- password that is longer than 32 bytes without its trailing zeros never is
+-- password that is longer than 32 bytes even without its trailing zeros is refused
 abbrev pub is_authorized : SequenceObject → (password : List ℕ) → Bool
 is_authorized object password =
     if nat_lt 32 (length (trimmed password)) then false else bytes_eq (padded password) object.auth

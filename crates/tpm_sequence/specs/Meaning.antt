@@ -1,5 +1,5 @@
--- The digests of a sequence are the digests of all its data, in whatever parts. A password
--- authorizes a sequence object exactly when it is the authorization value.
+-- The digests of a sequence are the digests of all its data, no matter how the data were divided
+-- into parts. A password authorizes a sequence object exactly when it is the authorization value.
 use Rattle.std.specs.Prelude.{◌≡◌, ◌≤◌, ℕ, Bool, List, [], ◌∷◌, length, nat_eq}
 use Rattle.std.specs.List.{flat_map, starts_with}
 use Rattle.std.specs.Str.{bytes_eq}
@@ -41,7 +41,8 @@ abbrev pub HashSequenceIsHash : Type 0
 HashSequenceIsHash = (hash : HashAlg) (parts : List (List ℕ))
     → sequence_digests (updates (hash_sequence hash) parts) ≡ hash_of hash (joined parts) ∷ []
 
--- A hash sequence has absorbed its data, and records how they begin.
+-- A hash sequence contains the state of its hash after all its data, and records how the data
+-- begin.
 abbrev pub HashSequenceRecordsBeginning : Type 0
 HashSequenceRecordsBeginning = (hash : HashAlg) (parts : List (List ℕ))
     → updates (hash_sequence hash) parts

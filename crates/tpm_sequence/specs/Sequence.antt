@@ -24,14 +24,14 @@ event_sequence = Event (empty_state alg.Sha1) (empty_state alg.Sha256)
 abbrev pub hmac_sequence : HashAlg → (key : List ℕ) → declared.Sequence
 hmac_sequence hash key = Hmac (hmac_state hash key)
 
--- the sequence after these bytes of its data
+-- the sequence after these bytes were appended to its data
 abbrev pub sequence_updated : declared.Sequence → List ℕ → declared.Sequence
 sequence_updated (Hash state beginning) bytes =
     Hash (absorbed state bytes) (beginning_after beginning bytes)
 sequence_updated (Event sha1 sha256) bytes = Event (absorbed sha1 bytes) (absorbed sha256 bytes)
 sequence_updated (Hmac state) bytes = Hmac (hmac_absorbed state bytes)
 
--- the sequence after these parts of its data, one after another
+-- the sequence after these parts were appended to its data, one after another
 unfoldable pub updates : declared.Sequence → List (List ℕ) → declared.Sequence
 updates sequence [] = sequence
 updates sequence (part ∷ parts) = updates (sequence_updated sequence part) parts
@@ -47,7 +47,7 @@ sequence_digests (Hmac state) = hmac_digest state ∷ []
 abbrev pub object_of : (auth : List ℕ) → declared.Sequence → SequenceObject
 object_of auth sequence = record { auth = padded auth; sequence = sequence }
 
--- the object after these bytes of its data
+-- the object after these bytes were appended to the data of its sequence
 abbrev pub object_updated : SequenceObject → List ℕ → SequenceObject
 object_updated object bytes =
     record object { sequence = sequence_updated object.sequence bytes }

@@ -21,7 +21,7 @@ pub enum Beginning {
 }
 
 impl Beginning {
-    /// The beginning after these bytes of the data.
+    /// How the data begin after these bytes are appended.
     pub fn after(self, bytes: &[u8]) -> Beginning
         ensures { result ≡ beginning_after self bytes.now }
     {
@@ -32,7 +32,7 @@ impl Beginning {
         beginning
     }
 
-    /// The beginning after one more byte of the data.
+    /// How the data begin after one more byte is appended.
     fn after_byte(self, byte: u8) -> Beginning
         ensures { result ≡ byte_after self byte }
     {

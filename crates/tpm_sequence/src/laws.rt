@@ -10,8 +10,8 @@ pub fn beginning_laws()
     ensures { RecordsGenerated }
 {}
 
-/// The digests of a sequence are the hashes or the HMAC of the concatenated parts of its data. The
-/// function does nothing at run time.
+/// The digests of a sequence are the hashes, or the HMAC, of its data, no matter how the data were
+/// divided into parts. The function does nothing at run time.
 #[inline(always)]
 #[tactic(auto, using(crate::proofs::SequenceLaws::updates_in_parts, crate::proofs::SequenceLaws::hash_sequence_is_hash, crate::proofs::SequenceLaws::hash_sequence_records_beginning, crate::proofs::SequenceLaws::event_sequence_is_hashes, crate::proofs::SequenceLaws::hmac_sequence_is_hmac))]
 pub fn sequence_laws()

@@ -4,7 +4,8 @@
 //! receive their data in parts.
 //!
 //! A [`SequenceObject`] is a plain value, which is copied, compared and saved like any other value.
-//! The crate uses the states of `tpm_hash_state`, and `tpm_types` for authorization values.
+//! The crate uses `tpm_hash_state` for the states of hashes and HMACs, and `tpm_types` for
+//! authorization values.
 //!
 //! The digest of a sequence is the hash or the HMAC of all its data, no matter how the data were
 //! divided into parts. A hash sequence also records whether its data begin with

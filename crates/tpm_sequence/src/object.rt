@@ -9,7 +9,7 @@ use crate::sequence::Sequence;
 use tpm_bytes::is_equal;
 use tpm_types::trimmed;
 
-/// A sequence object: its authorization value, and its sequence.
+/// A sequence object, which consists of an authorization value and a sequence.
 #[derive(Clone, Copy, PartialEq, Eq)]
 pub struct SequenceObject {
     /// The authorization value without trailing zeros, followed by zeros up to 32 bytes. Therefore

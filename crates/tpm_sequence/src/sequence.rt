@@ -1,4 +1,4 @@
-//! The data of a sequence so far, as the state of its digests.
+//! A sequence, which stores the state of its digests instead of its data.
 
 ghost use Rattle.std.specs.Prelude.{◌≡◌};
 ghost use Rattle.tpm_sequence.specs.Sequence.{event_sequence, hash_sequence, hmac_sequence, sequence_updated};
@@ -7,7 +7,7 @@ use crate::beginning::Beginning;
 use tpm_hash_state::{HashState, HmacState};
 use tpm_mac::HashAlg;
 
-/// A sequence, as the state of its digests after the data so far.
+/// A sequence: the state of its digests after the data so far.
 #[derive(Clone, Copy, PartialEq, Eq)]
 pub enum Sequence {
     /// A hash sequence (TPM2_HashSequenceStart with a hash algorithm).

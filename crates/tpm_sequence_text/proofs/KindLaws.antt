@@ -1,4 +1,5 @@
--- The decoders of enumerated values are exact.
+-- The decoder of each enumerated value is exact: it returns a value if and only if the bytes begin
+-- with the value's encoding.
 use Rattle.std.proofs.Common.{◌≡◌, ℕ, ◌^◌, ◌<◌, Option, Some, None, refl, arith}
 use Rattle.std.specs.Int.{w8, to_be_bytes}
 use Rattle.tpm_image_text.proofs.FieldSpelling.{names_spelled}

@@ -1,4 +1,4 @@
--- No encoding of a slot is longer than the largest size.
+-- No encoding of a slot is longer than `slot_size` bytes.
 use Rattle.std.proofs.Common.{◌≡◌, ℕ, ◌+◌, ◌*◌, ◌≤◌, List, [], ◌∷◌, ◌++◌, length, length-append, Some, None, refl, arith}
 use Rattle.std.specs.Int.{w8, w16, w32, w64, to_be_bytes}
 use Rattle.std.specs.List.{flat_map}
@@ -16,7 +16,7 @@ use Rattle.tpm_sequence_text.specs.Meaning.{StaysSmall}
 use Rattle.tpm_sequence_text.specs.Sizes.{hash_state_size, sequence_size, value_size}
 use Rattle.tpm_sequence_text.specs.Slot.{IsSequence, IsSequenceObject, sequence_text, slot_text}
 
--- each word has four bytes
+-- each encoded word is four bytes long
 pub length-words : (words : List ℕ) → length (flat_map (to_be_bytes w32) words) ≡ 4 * length words
 length-words [] = refl
 length-words (word ∷ words) =

@@ -75,7 +75,7 @@ object_spelled kind =
 
 -- ---- slots
 
--- The slot is valid, and has this kind.
+-- The slot is valid. Its sequence is of this kind, or the slot is free if `kind` is None.
 abbrev IsSlotOf : Option SequenceKind → Option SequenceObject → Type 0
 IsSlotOf kind slot = IsSlot slot × (slot_kind slot ≡ kind)
 
@@ -97,7 +97,7 @@ contents_spelled (Some kind) =
     made_from (λ (object : SequenceObject). let one : Option SequenceObject = Some object in one) contents_text (IsSlotOf (Some kind))
     (λ object is. (is.0, ap Some is.1)) (λ object. refl) (slot_from kind) (object_spelled kind)
 
--- decoding a slot is exact
+-- decoding a slot is exact (`Spelled`)
 pub slot_spelled : Spelled slot_text IsSlot slot_in
 unfolding slot_in slot_text
 slot_spelled =

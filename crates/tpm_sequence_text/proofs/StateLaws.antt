@@ -1,4 +1,5 @@
--- The decoder of a hash in progress is exact.
+-- The decoder of a hash in progress is exact: it returns a hash if and only if the bytes begin with
+-- the encoding of this hash.
 use Rattle.std.proofs.Common.{◌≡◌, ℕ, List, refl}
 use Rattle.std.specs.Int.{w64, to_be_bytes}
 use Rattle.tpm_hash_state.specs.State.{value_alg}

@@ -1,5 +1,5 @@
--- Reading words one after another: the words read so far, followed by the words still to be read,
--- are the whole list.
+-- Lemmas about reading words one after another: the words read so far, followed by the words that
+-- remain to be read, are the whole list.
 use Rattle.std.proofs.Common.{◌≡◌, ℕ, ◌+◌, ◌-◌, ◌<◌, List, length, take, slice_set, Result, Ok, Err, ap, ◌∙◌, arith}
 use Rattle.std.proofs.lemmas.List.{append-nil, take_all, take_more_set}
 use Rattle.tpm_bytes.proofs.Joining.{behind, none_more}
@@ -7,7 +7,8 @@ use Rattle.tpm_bytes.specs.Many.{many_at}
 use Rattle.tpm_image_text.proofs.BankLaws.{behind_none, one_more_read}
 
 module _ {A E : Type 0} (at : List ℕ → Result (A × List ℕ) E) (count : ℕ) where
-  -- the result for the whole list
+  -- the result of reading the whole list: the first `place` elements of `things`, followed by the
+  -- elements that are read from `text`
   pub left : (place : ℕ) (things : List A) (text : List ℕ) → Result (List A × List ℕ) E
   left place things text = behind (take place things) (many_at at (count - place) text)
 

@@ -1,4 +1,4 @@
--- The text of a hash in progress: its algorithm, the words of its hash value, its block and its
+-- The encoding of a hash in progress: its algorithm, the words of its hash value, its block and its
 -- length.
 use Rattle.std.specs.Prelude.{◌≡◌, ◌<◌, ◌^◌, ℕ, List, ◌++◌, length, Result, Ok}
 use Rattle.std.specs.Int.{w16, w32, w64, to_be_bytes}
@@ -21,7 +21,7 @@ abbrev pub value_words : ChainingValue → List ℕ
 value_words (Sha1 words) = words
 value_words (Sha256 words) = words
 
--- There are as many words as the algorithm requires, and each word fits in 32 bits.
+-- There are `count` words, and each word fits in 32 bits.
 abbrev pub AreWords : (count : ℕ) → List ℕ → Type 0
 AreWords count words = (length words ≡ count) × All (λ word. word < 2 ^ 32) words
 
@@ -51,7 +51,7 @@ value_in text = do
 
 -- ---- the state
 
--- Every number of a state fits its integer type, and the block has 64 bytes.
+-- Every number of a state fits its integer type, and the block is 64 bytes long.
 pub record IsHashState (state : declared.HashState) : Type 0 where
   pub value : IsValue state.chaining
   pub block : length state.block ≡ 64

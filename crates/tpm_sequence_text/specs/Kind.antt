@@ -24,7 +24,7 @@ abbrev pub slot_kind : Option SequenceObject → Option SequenceKind
 slot_kind None = None
 slot_kind (Some object) = Some (sequence_kind object.sequence)
 
--- the byte for the kind of the sequence in a slot; 0 is for a free slot
+-- the byte that encodes the kind of the sequence in a slot; 0 for a free slot
 abbrev pub kind_number : Option SequenceKind → ℕ
 kind_number None = 0
 kind_number (Some kind.Hash) = 1
@@ -55,7 +55,7 @@ beginning_number begun.Three = 3
 beginning_number begun.Generated = 4
 beginning_number begun.Ordinary = 5
 
--- the beginning that this byte encodes, or None for any other byte
+-- the `Beginning` that this byte encodes, or None for any other byte
 abbrev pub beginning_named : ℕ → Option Beginning
 beginning_named number =
     if number == 0 then Some begun.Empty

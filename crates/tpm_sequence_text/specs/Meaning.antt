@@ -10,12 +10,13 @@ abbrev pub ReadsAgain : Type 0
 ReadsAgain = (slot : Option SequenceObject) (rest : List ℕ) → IsSlot slot
     → slot_in (slot_text slot ++ rest) ≡ Ok (slot, rest)
 
--- If decoding returns a slot, the bytes are its encoding, followed by the remaining bytes.
+-- If decoding returns a slot, the slot is valid, and the bytes are its encoding, followed by the
+-- remaining bytes.
 abbrev pub ReadsOnlyText : Type 0
 ReadsOnlyText = (bytes : List ℕ) (slot : Option SequenceObject) (rest : List ℕ) → AreBytes bytes
     → slot_in bytes ≡ Ok (slot, rest)
     → IsSlot slot × (bytes ≡ slot_text slot ++ rest)
 
--- No encoding is longer than 245 bytes.
+-- No encoding of a slot is longer than 245 bytes.
 abbrev pub StaysSmall : Type 0
 StaysSmall = (slot : Option SequenceObject) → IsSlot slot → length (slot_text slot) ≤ slot_size

@@ -1,4 +1,4 @@
--- The largest sizes of the parts of a slot's text, in bytes.
+-- The largest sizes of the parts of an encoded slot, in bytes.
 use Rattle.std.specs.Prelude.{ℕ, ◌+◌, ◌*◌}
 
 -- the largest size of a hash value, with its algorithm
@@ -13,6 +13,6 @@ hash_state_size = value_size + 64 + 8
 abbrev pub sequence_size : ℕ
 sequence_size = 2 * hash_state_size
 
--- the largest size of a slot's text: the kind, the authorization value and the sequence (245)
+-- the largest size of an encoded slot, with the kind, the authorization value and the sequence: 245
 abbrev pub slot_size : ℕ
 slot_size = 1 + 32 + sequence_size

@@ -1,4 +1,4 @@
--- The text of a slot: the kind of its sequence and, unless the slot is free, the authorization
+-- The encoding of a slot: the kind of its sequence and, unless the slot is free, the authorization
 -- value and the sequence of its object.
 use Rattle.std.specs.Prelude.{◌≡◌, ℕ, List, [], ◌++◌, length, Option, Some, None, IfSome, Result, Ok}
 use Rattle.std.specs.Int.{w8, to_be_bytes}
@@ -60,7 +60,7 @@ sequence_in kind.Hmac text = hmac_in text
 
 -- ---- objects and slots
 
--- The authorization value has 32 bytes, and every number of the sequence fits its integer type.
+-- The authorization value is 32 bytes long, and every number of the sequence fits its integer type.
 pub record IsSequenceObject (object : SequenceObject) : Type 0 where
   pub auth : length object.auth ≡ 32
   pub sequence : IsSequence object.sequence
@@ -77,7 +77,7 @@ object_in kind text = do
   parts ← both_in (bytes_in 32) (sequence_in kind) text
   Ok (record { auth = parts.0.0; sequence = parts.0.1 }, parts.1)
 
--- the part of a slot's text after the kind
+-- the part of an encoded slot after the kind
 abbrev pub contents_text : Option SequenceObject → List ℕ
 contents_text None = []
 contents_text (Some object) = object_text object
@@ -85,7 +85,7 @@ contents_text (Some object) = object_text object
 unfoldable pub slot_text : Option SequenceObject → List ℕ
 slot_text slot = to_be_bytes w8 (kind_number (slot_kind slot)) ++ contents_text slot
 
--- decodes the part of a slot's text after the kind
+-- decodes the part of an encoded slot after the kind
 abbrev pub contents_in : Option SequenceKind
     → List ℕ → Result (Option SequenceObject × List ℕ) Malformed
 contents_in None text = Ok (None, text)

@@ -1,4 +1,4 @@
-//! The text of a hash in progress.
+//! Encodes a hash in progress, and decodes it again.
 
 ghost use Rattle.std.specs.Prelude.{◌≡◌, ◌+◌, ◌*◌, ◌++◌, ◌≤◌, length};
 ghost use Rattle.std.specs.Int.{to_be_bytes, w32};

@@ -30,7 +30,7 @@ pub(crate) fn kind_of(sequence: &Sequence) -> SequenceKind
     }
 }
 
-/// The byte for the kind of the sequence in a slot, or for a free slot.
+/// The byte that encodes the kind of the sequence in a slot, or a free slot.
 pub(crate) fn kind_number(kind: Option<SequenceKind>) -> u8
     ensures { result ≡ kind_number kind }
 {
@@ -68,7 +68,7 @@ pub(crate) fn read_kind(text: &mut Cursor) -> Result<Option<SequenceKind>, Malfo
     Ok(kind)
 }
 
-/// The byte for how the data of a hash sequence begin.
+/// The byte that encodes how the data of a hash sequence begin.
 pub(crate) fn beginning_number(beginning: Beginning) -> u8
     ensures { result ≡ beginning_number beginning }
 {

@@ -2,9 +2,9 @@
 
 //! Encodes a slot for a sequence object, and decodes it again.
 //!
-//! A state text contains the sequence objects of the completing layer in this encoding
-//! (`specs/Slot`), and so does the context of a sequence object. The crate uses `tpm_sequence` for
-//! the objects, and `tpm_image_text` for the fields.
+//! State texts use this encoding (`specs/Slot`) for the sequence objects of the completing layer.
+//! So do the contexts of sequence objects. The crate uses `tpm_sequence` for the objects, and
+//! `tpm_image_text` for the fields.
 //!
 //! Decoding returns a slot exactly when the bytes begin with its encoding. Therefore each slot has
 //! only one encoding ([`laws`]). No function allocates memory.

@@ -1,4 +1,4 @@
-//! The text of a slot.
+//! Encodes a slot, and decodes it again.
 
 ghost use Rattle.std.specs.Prelude.{◌≡◌, ◌+◌, ◌++◌, ◌≤◌, length, option_copied};
 ghost use Rattle.tpm_bytes.specs.Reading.{Reads};

@@ -1,4 +1,4 @@
--- The hash algorithm and the binding of a new session determine the size of its key.
+-- The hash algorithm and the binding of a new session determine how long its key is.
 use Rattle.std.proofs.Common.{◌≡◌, ℕ, refl, List, [], ◌++◌, length, take, Option, Some, None, append-nil, arith}
 use Rattle.std.proofs.lemmas.List.{length-take}
 use Rattle.tpm_mac.specs.Digest.{digest_size}
@@ -13,7 +13,7 @@ use Rattle.tpm_session.specs.declared.session.Binding.{Binding}
 front : (n : ℕ) (block : List ℕ) → length block ≡ n → length (take n (block ++ [])) ≡ n
 front n block is = rw append-nil (omega (arith, is, length-take n block))
 
--- a session key that KDFa derives is as long as a digest, since KDFa makes it from one block
+-- a session key that KDFa derives is as long as a digest, since KDFa derives it from a single block
 derived : (hash : HashAlg) (key label context_u context_v : List ℕ) → length (kdfa_of hash key label context_u context_v (digest_size hash)) ≡ digest_size hash
 unfolding kdfa_of
 derived Sha1 key label context_u context_v = front 20 (hmac_of Sha1 key _) (length-hmac_of Sha1 key _)

@@ -1,4 +1,4 @@
--- Applying a mask to a parameter twice restores the parameter.
+-- A mask that is applied to a parameter twice restores the parameter.
 use Rattle.std.proofs.Common.{◌≡◌, ◌≤◌, ℕ, List, [], ◌∷◌, ap, ap₂, arith, bit_xor, length, refl, sym, subst, ◌∙◌}
 use Rattle.std.specs.Int.Bits.{xor_assoc, xor_self, xor_zero_r}
 use Rattle.tpm_aes.specs.Cipher.{xor_of}

@@ -12,8 +12,8 @@ use Rattle.tpm_session.specs.declared.session.Session.{Session}
 abbrev pub cipher_label : List ℕ
 cipher_label = 0x43 ∷ 0x46 ∷ 0x42 ∷ []
 
--- the key and the IV of a parameter: KDFa(authHash, sessionKey || authValue, "CFB", nonceNewer,
--- nonceOlder, 256 bits: 32 bytes)
+-- the key and the IV of a parameter, 32 bytes in all: KDFa(authHash, sessionKey || authValue,
+-- "CFB", nonceNewer, nonceOlder, 256 bits)
 unfoldable pub cipher_bytes : Session → (auth_value newer older : List ℕ) → List ℕ
 cipher_bytes session auth_value newer older =
     kdfa_of session.hash (session.key ++ auth_value) cipher_label newer older 32

@@ -43,8 +43,8 @@ unfoldable pub command_mac_of : Session → (auth_value : List ℕ) → EntryPar
 command_mac_of session auth_value parts =
     hmac_of session.hash (entry_key session auth_value) (command_text session parts)
 
--- the data that the HMAC of a response's entry covers. The TPM's nonce is nonceNewer, and nonces of
--- other sessions are not included
+-- the data that the HMAC of a response's entry covers. The TPM's nonce is nonceNewer, and no nonces
+-- of other sessions are included
 abbrev pub response_text : Session → (hash nonce_caller : List ℕ) → SessionAttributes → List ℕ
 response_text session hash nonce_caller attributes =
     entry_text hash session.nonce_tpm nonce_caller [] [] attributes

@@ -1,5 +1,5 @@
--- The hashes of a command's and a response's parameters. TPM 2.0 Library, Part 1, sections 18.7
--- (cpHash) and 18.8 (rpHash).
+-- The hash of a command's parameters, and the hash of a response's parameters. TPM 2.0 Library,
+-- Part 1, sections 18.7 (cpHash) and 18.8 (rpHash).
 use Rattle.std.specs.Prelude.{ℕ, ◌≤◌, List, [], length, ◌++◌}
 use Rattle.tpm_session.specs.declared.parameter_hash.HashedParameters as declared
 use Rattle.tpm_session.specs.declared.parameter_hash.HashedParameters.TheVariants as hashed
@@ -37,6 +37,6 @@ abbrev pub hashed_names : HashedParts → List (List ℕ)
 hashed_names (OfCommand code names parameters) = names
 hashed_names (OfResponse code parameters) = []
 
--- A command has at most three handles, and therefore at most three Names.
+-- There are at most three Names, because a command has at most three handles.
 abbrev pub HasFewNames : HashedParts → Type 0
 HasFewNames parts = length (hashed_names parts) ≤ 3

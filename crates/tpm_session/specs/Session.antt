@@ -18,7 +18,7 @@ pub record Session : Type 0 where
   -- the last nonce that the device sent: nonceTPM
   pub nonce_tpm : List ℕ
   pub key : List ℕ
-  -- the entity to which the session is bound, if there is one
+  -- the entity to which the session is bound, or None for an unbound session
   pub binding : Option Binding
   -- the policy state after the assertions so far. In an HMAC session it never changes
   pub policy : Policy
@@ -49,14 +49,15 @@ has_hash_sizes s = are_hash_sizes s.hash s.binding s.nonce_tpm s.key s.policy.di
 abbrev pub if_hash_sized : Session → Option Session
 if_hash_sized session = if has_hash_sizes session then Some session else None
 
--- True for every binding: the Name is at most 34 bytes long, and the authorization value fits its
--- type (section 19.6.10).
+-- The conditions that every binding satisfies: the Name is at most 34 bytes long, and the
+-- authorization value fits its type (section 19.6.10).
 pub record IsBinding (binding : Binding) : Type 0 where
   pub name : length binding.name ≤ 34
   pub auth_value : IsAuthValue binding.auth_value
 
--- True for every session: its hash algorithm allows the sizes of nonceTPM, the key and the policy
--- digest, and each is at most 32 bytes long.
+-- The conditions that every session satisfies: its hash algorithm allows the sizes of nonceTPM, the
+-- key and the policy digest; nonceTPM and the key are at most 32 bytes long; its binding satisfies
+-- `IsBinding`, and its policy satisfies `IsPolicy`.
 pub record IsSession (session : Session) : Type 0 where
   pub sizes : has_hash_sizes session ≡ true
   pub nonce_tpm : length session.nonce_tpm ≤ 32

@@ -1,5 +1,5 @@
-//! How a session encrypts the first parameter in place (TPM 2.0 Library, Part 1, sections 21.2
-//! and 21.3). Decryption reverses encryption.
+//! How a session encrypts or decrypts the first parameter in place (TPM 2.0 Library, Part 1,
+//! sections 21.2 and 21.3).
 
 ghost use Rattle.std.specs.Prelude.{◌≡◌, ◌≤◌, ◌↔◌, false, IsOk, OnErr, length};
 ghost use Rattle.tpm_types.specs.Limits.{buffer_limit};
@@ -29,7 +29,8 @@ struct ParameterCipher {
     iv: [u8; 16],
 }
 
-/// Builds a cipher from 32 bytes: the first 16 bytes are the key, the rest is the IV.
+/// Builds a cipher from 32 bytes: the first 16 bytes are the key, and the other 16 bytes are the
+/// IV.
 fn cipher_from(bytes: &[u8; 32]) -> ParameterCipher
     ensures key { result.cipher ≡ cipher_key bytes.now }
     ensures iv { result.iv ≡ cipher_iv bytes.now }
@@ -137,7 +138,7 @@ impl Session {
         ensures value { bytes.new
             ≡ encrypted_parameter self.now auth_value.now newer.now older.now bytes.old }
         ensures refused { OnErr result (bytes.new ≡ bytes.old) }
-        // Decryption reverses encryption.
+        // Decrypting the result restores the parameter.
         ensures undone { plain_parameter self.now auth_value.now newer.now older.now bytes.new
             ≡ bytes.old }
     {

@@ -54,7 +54,8 @@ impl<'a> Model for EntryText<'a> {
 
 /// Combines the data that an authorization entry's HMAC covers, without copying it: cpHash or
 /// rpHash; the newer and the older nonce of the entry's session; the nonceTPM of a separate decrypt
-/// session and of a separate encrypt session, if the entry authenticates them; and the attributes.
+/// session, and that of a separate encrypt session, if the entry authenticates these sessions; and
+/// the attributes.
 pub fn entry_text<'a>(
     hash: &'a [u8],
     newer: &'a [u8],
@@ -140,7 +141,7 @@ impl Session {
         key
     }
 
-    /// The data that the HMAC of a command's entry for this session covers.
+    /// The data that the HMAC of a command's entry covers, if the entry names this session.
     pub fn command_text<'a>(&'a self, text: &CommandText<'a>) -> EntryText<'a>
         ensures { result ≡ command_text self.now (parts_of text.now) }
     {
@@ -154,7 +155,8 @@ impl Session {
         )
     }
 
-    /// The data that the HMAC of a response's entry for this session covers. `hash` is rpHash.
+    /// The data that the HMAC of a response's entry covers, if the entry is for this session.
+    /// `hash` is rpHash.
     pub fn response_text<'a>(
         &'a self,
         hash: &'a [u8],

@@ -57,8 +57,8 @@ impl SessionKey {
         }
     }
 
-    /// The key of a session that starts with these nonces (Part 1, section 19.6.8). It is empty
-    /// if the session is not bound.
+    /// The key of a session that starts with these nonces (Part 1, section 19.6.8). The key is
+    /// empty if the session is not bound.
     #[tactic(auto, unfolding(crate::specs::Key::session_key))]
     pub fn derived(
         hash: HashAlg,

@@ -1,4 +1,4 @@
-//! The hashes of a command's and a response's parameters: cpHash and rpHash (TPM 2.0 Library,
+//! cpHash and rpHash, the hashes of the parameters of a command and of a response (TPM 2.0 Library,
 //! Part 1, sections 18.7 and 18.8).
 
 ghost use Rattle.std.specs.Prelude.{◌≡◌, ◌≤◌, [], length, slice_index_or};
@@ -8,7 +8,7 @@ ghost use Rattle.tpm_session.specs.ParameterHash.{command_hash_of, response_hash
 use tpm_mac::{Digest, HashAlg, digest_parts};
 use tpm_types_name::Name;
 
-/// The bytes of the Name at this index, or an empty slice if there is none.
+/// The bytes of the Name at this index, or an empty slice if no Name has this index.
 fn name_at(names: &[Name], place: usize) -> &[u8]
     ensures { result.now ≡ slice_index_or names.now place [] }
 {
@@ -49,7 +49,7 @@ pub fn response_hash(hash: HashAlg, code: u32, parameters: &[u8]) -> Digest
 pub enum HashedParameters<'a> {
     /// A command: its code, the Names of its handles, and its parameters as sent.
     Command(u32, &'a [Name], &'a [u8]),
-    /// A successful response: the command code, and its parameters as sent.
+    /// A successful response: the command code, and the response's parameters as sent.
     Response(u32, &'a [u8]),
 }
 

@@ -1,5 +1,5 @@
-//! The parameter hashes of one command or response, one per hash algorithm. Each is computed only
-//! once, when it is first needed.
+//! The hashes of the parameters of one command or response, one for each hash algorithm. Each hash
+//! is computed only once, when it is first needed.
 
 ghost use Rattle.std.specs.Prelude.{◌≡◌};
 ghost use Rattle.std.specs.Option.{ForSome};
@@ -11,8 +11,8 @@ use std::marker::Model;
 use tpm_bytes::copied;
 use tpm_mac::{Digest, HashAlg};
 
-/// The parameter hashes of one command or successful response. Each is computed once, when it is
-/// first needed. Contracts treat them as the data that is hashed.
+/// The hashes of the parameters of one command or successful response. Each hash is computed once,
+/// when it is first needed. Contracts represent the hashes by the data that is hashed.
 #[derive(Drop)]
 pub struct ParameterHashes<'a> {
     hashed: HashedParameters<'a>,
@@ -34,7 +34,7 @@ impl<'a> Model for ParameterHashes<'a> {
 }
 
 impl<'a> ParameterHashes<'a> {
-    /// The hashes of these parameters, none computed yet.
+    /// The hashes of these parameters, none of which has been computed yet.
     pub fn new(hashed: HashedParameters<'a>) -> ParameterHashes<'a>
         requires { HasFewNames (hashed_parts hashed) }
         ensures { result ≡ hashed_parts hashed.entry }

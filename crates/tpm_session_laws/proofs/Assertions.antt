@@ -27,7 +27,7 @@ use Rattle.tpm_step.specs.rows.Draws.{draws_of}
 use Rattle.tpm_step.proofs.history.HandleMap.{at_other, at_same, same_handle}
 use Rattle.tpm_session_laws.specs.Assertions.{LeavesNoAssertion, NoneStandsThrough}
 
--- If the session exists, it has no assertion.
+-- The session does not exist, or it has no assertions.
 abbrev IsBare : Option LiveSession → Type 0
 IsBare None = Unit {0}
 IsBare (Some s) = s.assertions ≡ []

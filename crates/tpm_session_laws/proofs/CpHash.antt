@@ -1,5 +1,5 @@
--- Unless the hash is broken, an object without userWithAuth whose policy is a single
--- TPM2_PolicyCpHash is used only by commands with that cpHash.
+-- Suppose that an object has no userWithAuth, and that its policy is a single TPM2_PolicyCpHash.
+-- Unless the hash is broken, only commands with that cpHash use the object.
 use Rattle.std.proofs.Common.{◌≡◌, ◌⊎◌, ℕ, List, refl, ap, sym, ◌∙◌, inl, inr}
 use Rattle.tpm_mac.specs.declared.algorithm.HashAlg.{HashAlg}
 use Rattle.tpm_policy_meaning.specs.Expression.{PolicyExpression, Nothing, Then, PolicyCpHash}

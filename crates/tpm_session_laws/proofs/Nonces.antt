@@ -14,7 +14,7 @@ use Rattle.tpm_step.specs.rows.Draws.{draws_of}
 use Rattle.tpm_step.proofs.history.HandleMap.{at_same}
 use Rattle.tpm_session_laws.specs.Nonces.{AddsItsNonce}
 
--- If the session exists, these are its earlier nonces.
+-- If the session exists, its earlier nonces are `nonces`.
 abbrev Had : List (List ℕ) → Option LiveSession → Type 0
 Had nonces None = Unit {0}
 Had nonces (Some s) = s.earlier_nonces ≡ nonces
@@ -54,8 +54,8 @@ module _ (history : History) (c : AcceptedCommand) where
   abbrev left : List ℕ
   left = drop (draws_of c.command.code c.request) c.request.random
 
-  -- If the session of the entry e exists after these entries of the command, these are its earlier
-  -- nonces.
+  -- The entries `es` change or end their sessions. If the session of entry `e` still exists after
+  -- that, its earlier nonces are `nonces`.
   abbrev Ended : (nonces : List (List ℕ)) → Entry → List Entry → Type 0
   Ended nonces e es = Had nonces (entries_ended (entries_rolled effect es left).sessions (zip es c.grants) e.session)
 

@@ -8,8 +8,8 @@ use Rattle.tpm_record.specs.rows.Request.{first_handle}
 use Rattle.tpm_step.specs.uses.AssertedBy.{StandsThrough}
 use Rattle.tpm_step.specs.history.History.{Done, History, ObjectPlaced, PastEvent, PowerCycled}
 
--- An event leaves the session with this handle without assertions: TPM2_PolicyRestart of this
--- session, TPM2_StartAuthSession that starts a session with this handle, or a power cycle.
+-- An event after which the session with this handle has no assertions: a TPM2_PolicyRestart of this
+-- session, a TPM2_StartAuthSession that starts a session with this handle, or a power cycle.
 abbrev pub LeavesNoAssertion : PastEvent → Handle → Type 0
 LeavesNoAssertion (Done c) handle =
     ((c.command.code ≡ command.PolicyRestart) × (first_handle c.request.handles ≡ Ok handle))

@@ -1,7 +1,7 @@
 #![tactic(auto)]
 
-//! Laws of sessions, based on what a device accepted: which events discard a policy session's
-//! assertions, which command a cpHash policy allows, and which nonces a session had.
+//! Laws of sessions on a device with a known history: which events discard a policy session's
+//! assertions, which commands a policy with a cpHash allows, and which nonces a session has had.
 //!
 //! These are laws about tpm_step's definitions. Each law is the contract of a function that has no
 //! effect at run time. No crate depends on this crate.
@@ -19,8 +19,8 @@ pub fn assertion_laws()
     ensures { NoneStandsThrough }
 {}
 
-/// Unless the hash is broken, an object without userWithAuth whose policy is a single
-/// TPM2_PolicyCpHash has only ever been used by commands with that cpHash.
+/// Suppose that an object has no userWithAuth, and that its policy is a single TPM2_PolicyCpHash.
+/// Unless the hash is broken, only commands with that cpHash have ever used the object.
 #[inline(always)]
 #[tactic(auto, using(crate::proofs::CpHash::each_needs_cp_hash))]
 pub fn cp_hash_laws()

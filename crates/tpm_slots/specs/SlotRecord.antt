@@ -6,7 +6,7 @@ use Rattle.tpm_slots.specs.declared.keep.SlotKeep.{SlotKeep}
 use Rattle.tpm_slots.specs.declared.objects.ObjectPlaces.{ObjectPlaces}
 use Rattle.tpm_slots.specs.declared.sessions.SessionPlaces.{SessionPlaces}
 
--- the record that a state in fixed slots represents, with the contents of its containers
+-- the record that a state in fixed slots represents, including the contents of its containers
 abbrev pub slot_record : SlotKeep → Record
 slot_record keep = record {
   fixed = keep.fixed;

@@ -51,7 +51,8 @@ impl Keep for SlotKeep {
 
     ghost empty_can_refuse = { false };
 
-    // Inlined, because a separate call would create the value on the stack and then move it.
+    // This function is inlined, because a separate call would create the value on the stack and
+    // then move it.
     #[inline(always)]
     fn empty(alloc: Global) -> Result<SlotKeep, NoMemory> {
         Ok(SlotKeep {

@@ -10,9 +10,9 @@ use tpm_record::{Keep, PersistentObjects};
 use tpm_session::Session;
 use tpm_types::{OBJECT_LIMIT, SESSION_LIMIT};
 
-/// With the state in fixed slots, creating the state and adding a value never run out of memory.
-/// The same holds for each container of the state. This function is only a proof: it has no effect
-/// at run time.
+/// With the state in fixed slots, neither creating the state nor adding a value to it ever runs out
+/// of memory. The same holds for each container of the state. This function is only a proof: it has
+/// no effect at run time.
 #[inline(always)]
 pub fn fixed_laws()
     ensures never_refused { ⟦<SlotKeep as Keep>⟧.can_refuse ≡ false }

@@ -1,12 +1,12 @@
 #![tactic(auto)]
 
 //! The device's state in fixed slots, one for each session, object and index that a device can
-//! have. It allocates no memory, so it never runs out of memory.
+//! have. This state allocates no memory, so the device never runs out of memory.
 //!
 //! [`SlotKeep`] contains the whole state; no operation on it can fail for lack of memory
-//! ([`laws`]). Its containers ([`sessions`], [`objects`], [`persistent`], [`indices`]) are
-//! containers of other crates, with new names. Therefore, proofs about a device with this state do
-//! not have to expand the containers' implementations.
+//! ([`laws`]). Its containers ([`sessions`], [`objects`], [`persistent`], [`indices`]) wrap
+//! containers of other crates in new types. Therefore, proofs about a device with this state do not
+//! have to expand the containers' implementations.
 
 pub mod indices;
 pub mod keep;

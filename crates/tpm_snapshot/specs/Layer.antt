@@ -1,4 +1,4 @@
--- The part of a state text that encodes the completing layer: the layer's whole state.
+-- The part of a state text that encodes the completing layer. It encodes the layer's whole state.
 use Rattle.std.specs.Prelude.{Option, Some, None}
 use Rattle.tpm_completion.specs.Completion.{new_completion}
 use Rattle.tpm_completion.specs.declared.completion.Completion.{Completion}
@@ -13,7 +13,8 @@ layer_of c = record {
   sequences = c.sequences;
 }
 
--- the layer that a state text encodes; if it encodes none, a new layer with start number 0
+-- the layer that a state text encodes; a new layer with start number 0 if the state text encodes no
+-- layer
 abbrev pub completion_of : Option Layer → Completion
 completion_of None = new_completion 0
 completion_of (Some layer) = record {

@@ -1,4 +1,4 @@
--- The result of restoring a machine from the state text of a device, and the machine after it.
+-- The result of restoring a machine from the state text of a device, and the machine afterwards.
 use Rattle.std.specs.Prelude.{◌≡◌, Bool, true, Option, Result, Ok, Err}
 use Rattle.tpm_record.specs.Record.{Record}
 use Rattle.tpm_state_text.specs.Body.{WholeState}

@@ -1,5 +1,5 @@
-//! The law about the layer in a state text. The function here states it in its contract, and does
-//! nothing at run time.
+//! The law about the layer in a state text. The law is the contract of a function that does nothing
+//! at run time.
 
 ghost use Rattle.std.specs.Prelude.{◌≡◌, Some};
 ghost use Rattle.tpm_completion.specs.declared.completion.Completion.{Completion};

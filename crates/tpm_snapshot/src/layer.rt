@@ -37,8 +37,8 @@ pub fn layer_of(completion: &Completion) -> Layer
     }
 }
 
-/// Returns the layer that a state text encodes; if it encodes none, a new layer with start number
-/// 0.
+/// Returns the layer that a state text encodes, or a new layer with start number 0 if the state
+/// text encodes no layer.
 pub fn completion_of(layer: Option<&Layer>) -> Completion
     ensures { result ≡ completion_of (option_copied layer.entry) }
 {

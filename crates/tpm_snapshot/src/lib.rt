@@ -1,13 +1,13 @@
 #![tactic(auto)]
 
-//! A device as a state text: its complete state. A device that is restored from the text
-//! continues from the same state.
+//! Saves the complete state of a device as a state text, and restores a device from it. The
+//! restored device continues from the same state.
 //!
 //! [`snapshot_into`] writes the state text of a machine into the caller's buffer. [`restored`],
 //! [`restore_new`] and [`restore_into`] read a state text of any version; [`resume_new`] reads only
-//! the version that is written. [`layer_of`] and [`completion_of`] convert between the completing
-//! layer and its part of a state text. The crate uses the machine and the completing layer, and
-//! tpm_state_text for the bytes.
+//! the current version, which is the one that is written. [`layer_of`] and [`completion_of`]
+//! convert between the completing layer and its part of a state text. The crate uses the machine
+//! and the completing layer, and tpm_state_text for the bytes.
 //!
 //! A device that is restored from the state text of another device is in the same state, and
 //! follows the same history ([`laws`] proves the layer's part).

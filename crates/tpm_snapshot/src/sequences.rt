@@ -21,7 +21,7 @@ pub fn with_width(number: u64) -> u64
     number
 }
 
-/// Returns a hash value unchanged. The contract adds that its words fit.
+/// Returns a hash value unchanged. The contract adds that each of its words fits in 32 bits.
 fn value_of(value: ChainingValue) -> ChainingValue
     ensures same { result ≡ value }
     ensures is_value { IsValue result }
@@ -38,7 +38,7 @@ fn value_of(value: ChainingValue) -> ChainingValue
     }
 }
 
-/// Returns a hash state unchanged. The contract adds that its numbers fit.
+/// Returns a hash state unchanged. The contract adds that its numbers fit their integer types.
 fn state_of(state: HashState) -> HashState
     ensures same { result ≡ state }
     ensures is_state { IsHashState result }
@@ -52,7 +52,7 @@ fn state_of(state: HashState) -> HashState
     }
 }
 
-/// Returns a sequence unchanged. The contract adds that its numbers fit.
+/// Returns a sequence unchanged. The contract adds that its numbers fit their integer types.
 fn sequence_of(sequence: Sequence) -> Sequence
     ensures same { result ≡ sequence }
     ensures is_sequence { IsSequence result }
@@ -76,7 +76,7 @@ fn sequence_of(sequence: Sequence) -> Sequence
     }
 }
 
-/// Returns a sequence object unchanged. The contract adds that its numbers fit.
+/// Returns a sequence object unchanged. The contract adds that its numbers fit their integer types.
 fn object_of(object: SequenceObject) -> SequenceObject
     ensures same { result ≡ object }
     ensures is_object { IsSequenceObject result }
@@ -86,7 +86,8 @@ fn object_of(object: SequenceObject) -> SequenceObject
     SequenceObject { auth, sequence }
 }
 
-/// Returns a slot unchanged. The contract adds that the numbers of its sequence object fit.
+/// Returns a slot unchanged. The contract adds that the numbers of its sequence object fit their
+/// integer types.
 fn slot_of(slot: Option<SequenceObject>) -> Option<SequenceObject>
     ensures same { result ≡ slot }
     ensures is_slot { IsSlot result }
@@ -97,7 +98,8 @@ fn slot_of(slot: Option<SequenceObject>) -> Option<SequenceObject>
     Some(object_of(object))
 }
 
-/// Returns the slots unchanged. The contract adds that the numbers of their sequence objects fit.
+/// Returns the slots unchanged. The contract adds that the numbers of their sequence objects fit
+/// their integer types.
 pub fn sequences_of(slots: &[Option<SequenceObject>; 3]) -> [Option<SequenceObject>; 3]
     ensures value { result ≡ slots.now }
     ensures size { length result ≡ 3 }

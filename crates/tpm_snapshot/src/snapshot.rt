@@ -20,7 +20,7 @@ use tpm_record::Keep;
 use tpm_state_text::{Layer, RestoreFault};
 
 /// Writes the state text of a machine, with its completing layer, to the beginning of a buffer, if
-/// it fits. Returns the size of the state text. The call allocates no memory.
+/// the state text fits. Returns the size of the state text. The call allocates no memory.
 pub fn snapshot_into<K: Keep>(
     machine: &Machine<K>,
     layer: Option<&Layer>,
@@ -36,8 +36,8 @@ pub fn snapshot_into<K: Keep>(
 }
 
 /// Replaces a machine just manufactured from all-zero random bytes with the machine that a state
-/// text encodes, without moving it. Returns the completing layer, or the first fault of the bytes.
-/// On error, the machine's state is unspecified.
+/// text encodes, without moving it. Returns the completing layer, or the first fault found in the
+/// bytes. On error, the machine's state is unspecified.
 #[tactic(auto, using(crate::proofs::Restoring::new_again, crate::proofs::Restoring::has_follows))]
 pub fn restore_new<K: Keep>(
     machine: &mut Machine<K>,
@@ -50,8 +50,8 @@ pub fn restore_new<K: Keep>(
     ensures again { (state : WholeState) → IsWholeState state → text.now ≡ state_text state
         → HasState K.can_refuse state (state_of K.record_of machine.new) result }
 
-    // The machine follows the history of the device that wrote the state text, without a power
-    // cycle.
+    // The machine follows the history of the device that wrote the state text. No power cycle is
+    // added to this history.
     ensures history { (state : WholeState) (history : History) → IsWholeState state
         → Follows state.device history → text.now ≡ state_text state
         → IfOk result (λ layer. Follows (state_of K.record_of machine.new) history) }
@@ -81,8 +81,8 @@ pub fn resume_new<K: Keep>(
     tpm_state_text::resume_new(machine.keep_mut(), text)
 }
 
-/// Returns the machine that a state text encodes, with its completing layer; or the first fault of
-/// the bytes.
+/// Returns the machine that a state text encodes, with its completing layer; or the first fault
+/// found in the bytes.
 #[tactic(auto, using(crate::proofs::Restoring::again_follows))]
 pub fn restored<K: Keep>(
     alloc: Global,
@@ -94,8 +94,8 @@ pub fn restored<K: Keep>(
     ensures again { (state : WholeState) → IsWholeState state → text.now ≡ state_text state
         → RestoresAgain (state_of K.record_of) (K.empty_can_refuse || K.can_refuse) state result }
 
-    // The machine follows the history of the device that wrote the state text, without a power
-    // cycle.
+    // The machine follows the history of the device that wrote the state text. No power cycle is
+    // added to this history.
     ensures history { (state : WholeState) (history : History) → IsWholeState state
         → Follows state.device history → text.now ≡ state_text state
         → IfOk result (λ made. Follows (state_of K.record_of made.0) history) }
@@ -131,8 +131,8 @@ pub fn restore_into<K: Keep>(
         → HasState (K.empty_can_refuse || K.can_refuse) state (state_of K.record_of machine.new)
         result }
 
-    // The machine follows the history of the device that wrote the state text, without a power
-    // cycle.
+    // The machine follows the history of the device that wrote the state text. No power cycle is
+    // added to this history.
     ensures history { (state : WholeState) (history : History) → IsWholeState state
         → Follows state.device history → text.now ≡ state_text state
         → IfOk result (λ layer. Follows (state_of K.record_of machine.new) history) }

@@ -22,8 +22,8 @@ const STARTUP: &[u8] = b"\x80\x01\0\0\0\x0c\0\0\x01\x44\0\0";
 const START_SESSION: &[u8] = b"\x80\x01\0\0\0\x2b\0\0\x01\x76\x40\0\0\x07\x40\0\0\x07\0\x10\
     \0\0\0\0\0\0\0\0\0\0\0\0\0\0\0\0\0\0\x01\0\x10\0\x0b";
 
-/// The last bytes of the state text that the Python device writes. They are part of the text's
-/// digest.
+/// The last bytes of the state text that the Python device writes. These bytes are the end of the
+/// text's digest.
 const END: &[u8] = &[0x3f, 0x11, 0xe6, 0xe7, 0x23, 0xa3, 0x73, 0x6d];
 
 /// Fails the test if the actual value is not the expected value.

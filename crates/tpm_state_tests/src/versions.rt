@@ -9,8 +9,8 @@ use tpm_machine::Machine;
 use tpm_record::Keep;
 use tpm_state_text::{RestoreFault, StateFault, restored};
 
-/// This state text with version number 1 and the digest that fits it. Without a layer, both
-/// versions have the same body.
+/// This state text with version number 1 and the matching digest. Without a layer, both versions
+/// have the same body.
 fn earlier(alloc: Global, text: &[u8]) -> Result<Vec<u8>, Fail> {
     if text.len() != 1_733 {
         return Err(Fail::new("no such text"));

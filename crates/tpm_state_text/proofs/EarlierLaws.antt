@@ -1,5 +1,6 @@
--- In version 1 of a state text, decoding returns a state exactly when the bytes are its body. A
--- device can have this state without the flushed objects that stayed in their slots.
+-- In version 1 of a state text, decoding returns a state exactly when the bytes are the body that
+-- encodes this state. Once the flushed objects that stayed in their slots are removed, a device can
+-- have this state.
 use Rattle.std.proofs.Common.{◌≡◌, ℕ, zero, suc, ◌+◌, ◌<◌, ◌≤◌, Bool, true, false, List, [], ◌∷◌, length, slice_set, Option, Some, None, IfSome, Ok, refl, sym, ap, ◌∙◌, arith, length-append}
 use Rattle.std.specs.Prelude.{◌==◌, cond, is_some, option_map}
 use Rattle.std.specs.Int.{w64, to_be_bytes}
@@ -97,9 +98,10 @@ body_small s is =
     let layer = optional_small earlier_layer_text IsEarlierLayer earlier_layer_size layer_small s.layer is.layer in
     simp length-append (omega (arith, device_small s.device is.device, layer))
 
--- ---- the objects that wait
+-- ---- the flushed objects that stayed in their slots
 
--- removing the flushed objects from one slot after another
+-- one step of removing the flushed objects that stayed in their slots: after the first n slots,
+-- slot n is processed
 pub without_more : (held : List Held) (objects so new : List (Option Object)) (n : ℕ) → so ≡ fold (without_one held) objects (numbers_below n) → new ≡ without_one held so n → new ≡ fold (without_one held) objects (numbers_below (n + 1))
 without_more held objects so new n is more =
     let next : n + 1 ≡ suc n = omega arith in

@@ -23,7 +23,8 @@ use Rattle.tpm_state_text.specs.declared.layer.LayerKind.{LayerKind}
 use Rattle.tpm_state_text.specs.declared.layer.LayerKind.TheVariants as kind
 use Rattle.tpm_state_text.proofs.PlaceLaws.{after, after_spelled}
 
--- if a decoder of one element is exact, decoding `count` elements one after another is exact too
+-- if a decoder of one element is exact (`Spelled`), decoding `count` elements one after another is
+-- exact too
 pub all_spelled : {A : Type 0} {text : A → List ℕ} {Is : A → Type 0} {at : List ℕ → Result (A × List ℕ) Malformed} (count : ℕ) → Spelled text Is at → Spelled (flat_map text) (λ xs. (length xs ≡ count) × All Is xs) (many_at at count)
 all_spelled {A} {text} {Is} {at} count law =
     respelled (many_spelled count law) (λ xs. refl)
@@ -33,7 +34,8 @@ all_spelled {A} {text} {Is} {at} count law =
 pub n64 : Spelled (to_be_bytes w64) (λ n. n < 2 ^ 64) (number_in w64)
 n64 = number_in_spelled w64 (2 ^ 64) wide64
 
--- a decoder is also exact for another encoding that agrees on all valid values
+-- a decoder that is exact (`Spelled`) for one encoding is also exact for another encoding that
+-- agrees with it on all valid values
 respelled_valid : {A E : Type 0} {text other : A → List ℕ} {Is : A → Type 0} {at : List ℕ → Result (A × List ℕ) E} → Spelled text Is at → ((x : A) → Is x → other x ≡ text x) → Spelled other Is at
 respelled_valid {A} {E} {text} {other} {Is} {at} law same = record {
   taken = λ bytes x fits e. let t = law.taken bytes x fits e in (subst (λ (l : List ℕ). Takes bytes l x.1) (sym (same x.0 t.1)) t.0, t.1);
@@ -81,7 +83,7 @@ layer_spelled is_used =
     (record { start = is.0; count = is.1.0; sessions = is.1.1.0.0; each_session = is.1.1.0.1; sequences = slots.0.0; each_sequence = slots.0.1 }, slots.1))
     (λ l is. (is.0.start, (is.0.count, ((is.0.sessions, is.0.each_session), (((is.0.sequences, is.0.each_sequence), is.1), tt)))))
 
--- ---- whether there is a layer
+-- ---- whether the device has a layer
 
 kind_spelled : Spelled (λ one. to_be_bytes w8 (kind_number one)) (λ one. Unit {0}) kind_in
 unfolding kind_in
@@ -113,7 +115,8 @@ used_same true false e = absurd cc
 used_same false true e = absurd cc
 used_same false false e = refl
 
--- If there is a layer, a device can have it; and the layer, or its absence, has this kind.
+-- If the state has a layer, a device can have this layer. `one` is the kind of the layer, or Absent
+-- if the state has no layer.
 abbrev IsPart : LayerKind → Option Layer → Type 0
 IsPart one layer = IfSome layer IsLayer × (kind_of layer ≡ one)
 

@@ -1,5 +1,5 @@
--- Reading or writing slots one after another: the slots processed so far, followed by the remaining
--- slots, are the whole list.
+-- Lemmas about reading or writing slots one after another: the slots processed so far, followed by
+-- the remaining slots, are the whole list.
 use Rattle.std.proofs.Common.{◌≡◌, ℕ, zero, suc, ◌+◌, ◌-◌, ◌*◌, ◌^◌, ◌<◌, ◌≤◌, Bool, List, [], ◌∷◌, ◌++◌, length, take, drop, get_or, slice_set, Option, Some, None, Result, Ok, Err, refl, sym, ap, ◌∙◌, append_assoc, arith}
 use Rattle.std.specs.List.{flat_map}
 use Rattle.std.proofs.Math.Nat.{mul-le-mul_left}
@@ -21,7 +21,8 @@ use Rattle.tpm_state_text.specs.Filling.{FillsPlace, with_value}
 -- ---- reading
 
 module _ {A E : Type 0} (at : List ℕ → Result (A × List ℕ) E) (count : ℕ) where
-  -- the overall result: the elements before a position, followed by the elements still to be read
+  -- the result of reading the whole list: the elements before a position, followed by the elements
+  -- that remain to be read
   pub left : (place : ℕ) (things : List A) (text : List ℕ) → Result (List A × List ℕ) E
   left place things text = behind (take place things) (many_at at (count - place) text)
 
@@ -48,8 +49,8 @@ module _ {A E : Type 0} (at : List ℕ → Result (A × List ℕ) E) (count : �
 
 pub ruleset left_laws = (left_begun, left_more, left_done, left_cut)
 
--- the overall result: the values of a bank before a position, followed by the values still to be
--- read
+-- the result of reading a whole bank: the values before a position, followed by the values that
+-- remain to be read
 pub bank_left : (size place : ℕ) (values : List (List ℕ)) (text : List ℕ) → Result (List (List ℕ) × List ℕ) Malformed
 bank_left size place values text = left (bytes_in size) 24 place values text
 

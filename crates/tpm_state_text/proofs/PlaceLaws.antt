@@ -17,10 +17,10 @@ pub each_of_all : {A : Type 0} (Is : A → Type 0) (places : List (Option A)) �
 each_of_all Is [] all = tt
 each_of_all Is (value ∷ values) all = (all 0, each_of_all Is values (λ place. all (suc place)))
 
--- ---- texts
+-- ---- encodings
 
 module _ {A : Type 0} {text : A → List ℕ} {Is : A → Type 0} {at : List ℕ → Result (A × List ℕ) Malformed} (law : Spelled text Is at) where
-  -- the encoding of an optional value, after the byte that says whether there is one
+  -- the part of an encoded optional value after the byte that says whether there is a value
   abbrev pub after : Option A → List ℕ
   after None = []
   after (Some x) = text x

@@ -1,4 +1,4 @@
--- Creating a device from the state text of a device results in that device.
+-- If a device is created from the state text of a device, the two devices are equal.
 use Rattle.std.proofs.Common.{◌≡◌, Bool, List, Option, ℕ, Result, Ok, Err, sym, ap, ◌∙◌}
 use Rattle.tpm_bytes.proofs.Fields.{ok_is}
 use Rattle.tpm_record.specs.Record.{Record}

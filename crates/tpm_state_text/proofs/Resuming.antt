@@ -1,5 +1,5 @@
--- The record of a restored device consists of the state that a device keeps without power and the
--- state that a power cycle clears, both as the state text encodes them.
+-- The state text of a device encodes the state that the device keeps without power, and the state
+-- that a power cycle clears. Together, these two parts are the record of the restored device.
 use Rattle.std.proofs.Common.{◌≡◌, ℕ, Bool, List, Option, Result, Ok, refl, subst}
 use Rattle.tpm_image_text.specs.Body.{kept_in}
 use Rattle.tpm_image_text.specs.Filling.{Fills}
@@ -28,7 +28,7 @@ resumes r old lockout fields started banks time forgiving_time closed_time sessi
     rw (written, made, same, is, first, second, third, fourth, fifth, sixth, seventh) refl
 
 -- reading first the state that a device keeps without power, and then the state that a power cycle
--- clears, reads the complete device
+-- clears, yields the complete device
 pub device_filled : (can : Bool) (kept : NonVolatile) (middle new : Record) (result : Result (Unit {0}) FillFault) (text behind rest : List ℕ) → kept_in Two text ≡ Ok (kept, behind) → middle ≡ powered_on kept → Fills can (resumed_in (kept_of middle) behind) new result rest → Fills can (device_in text) new result rest
 unfolding device_in
 device_filled can kept middle new result text behind rest is same filled =

@@ -46,8 +46,8 @@ pub optional_small : {A : Type 0} (text : A → List ℕ) (Is : A → Type 0) (m
 optional_small text Is most each None is = omega arith
 optional_small text Is most each (Some x) is = omega (arith, each x is)
 
--- the encoding of a list is no longer than its number of elements times the largest size of an
--- element
+-- the encoding of a list is at most as long as the list's number of elements times the largest size
+-- of an encoded element
 pub each_small : {A : Type 0} (text : A → List ℕ) (Is : A → Type 0) (most : ℕ) → ((x : A) → Is x → length (text x) ≤ most) → (xs : List A) → AllByRecursion Is xs → length (flat_map text xs) ≤ most * length xs
 each_small text Is most each [] all = omega arith
 each_small text Is most each (x ∷ xs) all =

@@ -31,7 +31,7 @@ use Rattle.tpm_state_text.proofs.SizeLaws.{whole_small}
 
 -- ---- encoding and decoding
 
--- the state in the body, if the frame is valid
+-- the state that the body encodes, if the frame is valid
 abbrev state_by : Result (StateVersion × List ℕ) StateFault → Result WholeState StateFault
 state_by framed = framed >>= λ said. or_fault (state_in_body said.0 said.1) fault.Body
 

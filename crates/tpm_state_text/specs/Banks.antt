@@ -1,5 +1,5 @@
 -- The PCR banks of a device. TPM 2.0 Library, Part 1, section 17, and docs/table/pcrs.md, say what
--- they contain; the layout is specific to this device.
+-- the banks contain; the layout is specific to this device.
 use Rattle.std.specs.Prelude.{ℕ, List, ◌++◌, Result, Ok}
 use Rattle.std.specs.Int.{w64, to_be_bytes}
 use Rattle.std.specs.List.{flat_map}

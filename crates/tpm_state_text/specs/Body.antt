@@ -1,6 +1,6 @@
 -- The body of a state text: the body of the device's image, followed by the state that a power
 -- cycle would clear (TPM 2.0 Library, Part 1, section 12.2.2, _TPM_Init, and docs/table/README.md,
--- "Events"), and by the state of the completing layer, if there is one.
+-- "Events"), and by the state of the completing layer, if the device has this layer.
 use Rattle.std.specs.Prelude.{ℕ, nat_lt, ◌^◌, Bool, List, ◌++◌, IfSome, Option, Result, Ok}
 use Rattle.std.specs.Int.{w64, to_be_bytes}
 use Rattle.tpm_bytes.specs.Reading.{◌>>=◌}
@@ -18,7 +18,8 @@ use Rattle.tpm_state_text.specs.declared.layer.Layer.{Layer}
 use Rattle.tpm_state_text.specs.Objects.{transients_in, transients_text}
 use Rattle.tpm_state_text.specs.Sessions.{sessions_in, sessions_text}
 
--- the whole state of a device: its record, and the state of the completing layer, if it has one
+-- the whole state of a device: its record, and the state of its completing layer, if the device has
+-- this layer
 pub record WholeState : Type 0 where
   pub device : Record
   pub layer : Option Layer
@@ -108,6 +109,6 @@ body_in text = do
   layer ← layer_part_in device.1
   Ok (record { device = device.0; layer = layer.0 }, layer.1)
 
--- the state that a body encodes; bytes after it are malformed
+-- the state that a body encodes; a body with more bytes after the state is malformed
 unfoldable pub state_of_body : List ℕ → Result WholeState Malformed
 state_of_body text = filling body_in text

@@ -1,8 +1,8 @@
 -- Version 1 of a state text, which the device still reads but no longer writes. In version 1, the
 -- context of an object did not contain the object. If an object with a context was flushed, it
--- stayed in its slot, and TPM2_ContextLoad found it there; the completing layer stored which
--- objects these were. The contexts of version 2 contain the whole object, so no flushed object
--- stays. Reading version 1 removes the objects that stayed.
+-- stayed in its slot, and TPM2_ContextLoad found it there; the completing layer recorded which
+-- objects had stayed. In version 2, a context contains the whole object, so no flushed object stays
+-- in its slot. Reading version 1 removes the objects that stayed.
 use Rattle.std.specs.Prelude.{◌≡◌, ℕ, ◌<◌, ◌^◌, ◌==◌, List, ◌++◌, get_or, length, if◌then◌else◌, IfSome, Option, Some, None, option_map, Result, Ok}
 use Rattle.std.specs.Int.{w64, to_be_bytes}
 use Rattle.std.specs.List.{All, flat_map, fold}
@@ -25,8 +25,8 @@ use Rattle.tpm_state_text.specs.declared.layer.Layer.{Layer}
 
 -- ---- the layer
 
--- Every number in the layer's state fits in 64 bits, and there is one slot for each object and each
--- session.
+-- Every number in the layer's state fits in 64 bits (`IsHeld`, `IsEarlierLayer`). There is one slot
+-- for each object and each session (`IsEarlierLayer`).
 pub record IsHeld (held : Held) : Type 0 where
   pub context : held.context < 2 ^ 64
   pub waits : held.waits < 2 ^ 64
@@ -78,7 +78,8 @@ pub record IsEarlierState (state : EarlierState) : Type 0 where
   pub device : IsRecord state.device
   pub layer : IfSome state.layer IsEarlierLayer
 
--- the encoding of a body: the encoded device, followed by the encoded layer, if there is one
+-- the encoding of a body: the encoded device, followed by the encoded layer, if the device has a
+-- layer
 unfoldable pub earlier_body_text : EarlierState → List ℕ
 earlier_body_text state =
     device_text state.device ++ optional_text earlier_layer_text state.layer
@@ -89,7 +90,7 @@ earlier_body_in text = do
   layer ← optional_in earlier_layer_in device.1
   Ok (record { device = device.0; layer = layer.0 }, layer.1)
 
--- the state that a body encodes; bytes after it are malformed
+-- the state that a body encodes; a body with more bytes after the state is malformed
 unfoldable pub earlier_state_of_body : List ℕ → Result EarlierState Malformed
 earlier_state_of_body text = filling earlier_body_in text
 
@@ -99,7 +100,7 @@ earlier_state_of_body text = filling earlier_body_in text
 abbrev pub not_held : Held
 not_held = record { context = 0; waits = 0 }
 
--- the slots without the object in slot `place`, if it was flushed but stayed there
+-- the slots, without the object in slot `place` if this object was flushed but stayed in its slot
 unfoldable pub without_one : List Held → List (Option Object) → (place : ℕ) → List (Option Object)
 without_one held objects place =
     if (get_or held place not_held).waits == 0 then objects
@@ -109,8 +110,8 @@ without_one held objects place =
 unfoldable pub without_waiting : List Held → List (Option Object) → List (Option Object)
 without_waiting held objects = fold (without_one held) objects (numbers_below object_limit)
 
--- the device without the flushed objects that stayed in their slots; a device without a layer has
--- no such objects
+-- the device without the flushed objects that stayed in their slots. If a device has no layer, no
+-- flushed objects stay in their slots
 abbrev pub device_of : Record → Option EarlierLayer → Record
 device_of device (Some layer) =
     record device { objects = without_waiting layer.objects device.objects }
@@ -126,7 +127,7 @@ layer_of layer = record {
   sequences = free_sequences;
 }
 
--- the state to which a state text of version 1 decodes
+-- the state that decoding a state text of version 1 returns
 abbrev pub current : EarlierState → WholeState
 current state = record {
   device = device_of state.device state.layer;

@@ -1,6 +1,6 @@
--- The state of the completing layer, if a device has the layer: the contexts that it made, and its
--- sequence objects. TPM 2.0 Library, Part 1, sections 30 (context management) and 32.4 (hash, HMAC
--- and event sequences). `Completion` in tpm_completion has the same fields.
+-- The state of the completing layer, for devices that have this layer: the contexts that the layer
+-- has made, and its sequence objects. TPM 2.0 Library, Part 1, sections 30 (context management) and
+-- 32.4 (hash, HMAC and event sequences). `Completion` in tpm_completion has the same fields.
 use Rattle.std.specs.Prelude.{◌≡◌, ℕ, ◌<◌, ◌^◌, ◌==◌, Bool, true, false, List, [], ◌++◌, length, if◌then◌else◌, Option, Some, None, Result, Ok}
 use Rattle.std.specs.Int.{w8, w64, to_be_bytes}
 use Rattle.std.specs.List.{All, flat_map}
@@ -17,7 +17,7 @@ use Rattle.tpm_state_text.specs.declared.layer.LayerKind.{LayerKind}
 use Rattle.tpm_state_text.specs.declared.layer.LayerKind.TheVariants as kind
 
 -- Every number in the layer's state fits its integer type. There is one slot for each session, and
--- there are three for sequence objects.
+-- there are three slots for sequence objects.
 pub record IsLayer (layer : Layer) : Type 0 where
   pub start : layer.start < 2 ^ 64
   pub count : layer.count < 2 ^ 64
@@ -33,7 +33,8 @@ layer_text layer =
     to_be_bytes w64 layer.start ++ to_be_bytes w64 layer.count
     ++ flat_map (to_be_bytes w64) layer.sessions ++ slots_text layer.sequences
 
--- decodes a layer, with sequence objects if `is_used` is true, otherwise without
+-- decodes a layer, with sequence objects if `is_used` is true, and without sequence objects
+-- otherwise
 unfoldable pub layer_in : (is_used : Bool) → List ℕ → Result (Layer × List ℕ) Malformed
 layer_in is_used text = do
   start ← number_in w64 text
@@ -50,7 +51,7 @@ layer_in is_used text = do
     sequences.1,
   )
 
--- ---- whether there is a layer
+-- ---- whether the device has a layer
 
 -- the kind of a layer, or of no layer
 abbrev pub used_kind : (is_used : Bool) → LayerKind
@@ -77,19 +78,20 @@ kind_named number =
 unfoldable pub kind_in : List ℕ → Result (LayerKind × List ℕ) Malformed
 kind_in text = named_in w8 kind_named text
 
--- the encoding of a layer, or of no layer, after the number of its kind
+-- the part of a body after the number of the layer's kind: the encoded layer, or nothing if there
+-- is no layer
 abbrev pub layer_behind : Option Layer → List ℕ
 layer_behind None = []
 layer_behind (Some layer) = layer_text layer
 
--- decodes a layer of this kind, after the number of the kind
+-- decodes the part of a body after the number of this kind: a layer, or nothing
 abbrev pub layer_after : LayerKind → List ℕ → Result (Option Layer × List ℕ) Malformed
 layer_after kind.Absent text = Ok (None, text)
 layer_after kind.Plain text = optional_after (layer_in false) true text
 layer_after kind.WithSequences text = optional_after (layer_in true) true text
 
--- the part of a body that encodes the layer: the number of its kind, followed by the layer if there
--- is one
+-- the part of a body that encodes the layer: the number of the layer's kind, followed by the
+-- encoded layer, if the device has one
 unfoldable pub layer_part_text : Option Layer → List ℕ
 layer_part_text layer = to_be_bytes w8 (kind_number (kind_of layer)) ++ layer_behind layer
 

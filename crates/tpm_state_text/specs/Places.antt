@@ -19,12 +19,13 @@ named_in width named text = do
 
 -- ---- an optional value
 
--- the encoding of an optional value: a byte that says whether there is one, and the encoded value
+-- the encoding of an optional value: a byte that says whether there is a value, followed by the
+-- encoded value
 abbrev pub optional_text : {X : Type 0} → (X → List ℕ) → Option X → List ℕ
 optional_text text_of None = yes_no_text false
 optional_text text_of (Some x) = yes_no_text true ++ text_of x
 
--- decodes the rest of an optional value, after the byte that says whether there is one
+-- decodes the rest of an optional value, after the byte that says whether there is a value
 abbrev pub optional_after : {X : Type 0}
     → (List ℕ → Result (X × List ℕ) Malformed)
     → (is_there : Bool) → List ℕ → Result (Option X × List ℕ) Malformed
@@ -42,8 +43,8 @@ optional_in at text = do
 
 -- ---- slots
 
--- the encoding of the slots, from the first to the last: for each slot, whether it is occupied, and
--- its value if it is
+-- the encoding of the slots, from the first to the last: for each slot, a byte that says whether
+-- the slot is occupied, followed by the value of an occupied slot
 abbrev pub places_text : {X : Type 0} → (X → List ℕ) → List (Option X) → List ℕ
 places_text text_of places = flat_map (optional_text text_of) places
 

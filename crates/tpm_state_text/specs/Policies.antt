@@ -1,5 +1,5 @@
 -- The policy of a session. TPM 2.0 Library, Part 1, section 19.7 (enhanced authorization), and
--- docs/table/policies.md, say what it contains; the layout is specific to this device.
+-- docs/table/policies.md, say what a policy contains; the layout is specific to this device.
 use Rattle.std.specs.Prelude.{ℕ, ◌==◌, nat_le, Bool, List, ◌++◌, if◌then◌else◌, Option, Some, None, Result, Ok}
 use Rattle.std.specs.Int.{w8, w32, w64, to_be_bytes}
 use Rattle.tpm_bytes.specs.Reading.{◌>>=◌}

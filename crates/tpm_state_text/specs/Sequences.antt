@@ -16,7 +16,7 @@ sequence_slots = 3
 abbrev pub free_sequences : List (Option SequenceObject)
 free_sequences = replicate sequence_slots None
 
--- whether a slot contains a sequence object
+-- whether at least one of the slots contains a sequence object
 abbrev pub has_sequence : List (Option SequenceObject) → Bool
 has_sequence slots = list_any is_some slots
 

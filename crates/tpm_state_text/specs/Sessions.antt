@@ -22,8 +22,8 @@ use Rattle.tpm_state_text.specs.Policies.{policy_in, policy_text}
 
 -- ---- what a session is bound to
 
--- the number that stands for a protection against guesses of an authorization value: 0 for none, 1
--- if a wrong guess is a failed try, 2 if a wrong guess disables lockoutAuth
+-- the number that encodes how an authorization value is protected against guessing: 0 if it is not,
+-- 1 if a wrong guess is a failed try, 2 if a wrong guess disables lockoutAuth
 abbrev pub protection_number : Protection → ℕ
 protection_number protection.None = 0
 protection_number protection.Tries = 1

@@ -1,7 +1,7 @@
 -- The state text of a device: its complete state, as bytes. A device that is restored from these
 -- bytes continues from the same state. TPM 2.0 Library, Part 1, section 12.2, defines the state of
--- a TPM; the encoding is specific to this device (docs/table/state_text.md). It has two versions:
--- the device writes version 2 and reads both.
+-- a TPM; the encoding is specific to this device (docs/table/state_text.md). The encoding has two
+-- versions: the device writes version 2, and reads both versions.
 use Rattle.std.specs.Prelude.{◌≡◌, ◌⊎◌, ℕ, List, length, take, drop, Result, Ok}
 use Rattle.tpm_bytes.specs.Reading.{◌>>=◌, or_fault, refused_if}
 use Rattle.tpm_image_text.specs.Frame.{head_bytes, within_frame}
@@ -31,16 +31,16 @@ state_in_body One body = do
   Ok (current state)
 state_in_body Two body = state_of_body body
 
--- the state that the bytes encode, or the first fault of the bytes: Short, Magic, Version, Length,
--- Digest, Body
+-- the state that the bytes encode, or the first fault found in the bytes: Short, Magic, Version,
+-- Length, Digest, Body
 abbrev pub state_of_text : List ℕ → Result WholeState StateFault
 state_of_text text = do
   framed ← within_frame state_format text
   or_fault (state_in_body framed.0 framed.1) fault.Body
 
--- the state that a state text of version 2 encodes, or the first fault of the bytes; version 1 in a
--- correct frame has the fault Earlier. The head of a journal must contain version 2, because the
--- commands after it were executed with the layer of that version.
+-- the state that a state text of version 2 encodes, or the first fault found in the bytes; for
+-- version 1 in a correct frame, the fault is Earlier. The head of a journal must contain version 2,
+-- because the commands after it were executed with the layer of that version.
 abbrev pub current_state_of_text : List ℕ → Result WholeState StateFault
 current_state_of_text text = do
   framed ← within_frame state_format text

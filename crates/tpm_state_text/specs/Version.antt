@@ -7,7 +7,7 @@ abbrev pub state_version_number : StateVersion → ℕ
 state_version_number One = 1
 state_version_number Two = 2
 
--- the version with this number, if any
+-- the version with this number, or None if no version has this number
 unfoldable pub state_version_numbered : ℕ → Option StateVersion
 state_version_numbered number =
     if number == 1 then Some One else (if number == 2 then Some Two else None)

@@ -62,7 +62,7 @@ fn read_binding(text: &mut Cursor) -> Result<Binding, Malformed>
     })
 }
 
-/// Reads the binding of a session, if there is one.
+/// Reads the binding of a session, or None if the session is not bound.
 pub fn read_optional_binding(text: &mut Cursor) -> Result<Option<Binding>, Malformed>
     ensures { Reads (λ binding. binding) (optional_in binding_in text.old) text.old
         result text.new }
@@ -88,7 +88,7 @@ fn write_binding(binding: &Binding, text: &mut Text)
     text.append_u8(protection_number(binding.protection));
 }
 
-/// Writes the binding of a session, if there is one.
+/// Writes the binding of a session, or the byte for an unbound session.
 pub fn write_optional_binding(binding: &Option<Binding>, text: &mut Text)
     requires { length text.old + 72 ≤ text_size }
     ensures written { text.new ≡ text.old ++ optional_text binding_text binding.now }

@@ -1,4 +1,5 @@
-//! The body of a state text: the device, followed by its completing layer, if it has one.
+//! The body of a state text: the device, followed by the completing layer, if the device has this
+//! layer.
 
 ghost use Rattle.std.specs.Prelude.{◌≡◌, ◌≤◌, ◌+◌, ◌++◌, [], length, option_copied, replicate};
 ghost use Rattle.tpm_image_text.specs.Filling.{Fills};

@@ -23,7 +23,8 @@ use tpm_record::objects::Objects;
 use tpm_types::{Handle, OBJECT_LIMIT};
 
 /// What the completing layer remembers about a transient object: the number of its context, and the
-/// number of its flush. Each of them is 0 if the object has none.
+/// number of its flush. The first number is 0 if the object has no context; the second is 0 if the
+/// object was not flushed.
 #[derive(Clone, Copy, PartialEq, Eq)]
 pub struct Held {
     pub context: u64,
@@ -104,7 +105,7 @@ fn read_optional_layer(text: &mut Cursor) -> Result<Option<EarlierLayer>, Malfor
     Ok(layer)
 }
 
-/// Removes the object in a slot, if it was flushed but stayed there.
+/// Removes the object in a slot, if the object was flushed but stayed in its slot.
 #[tactic(auto, unfolding(crate::specs::Earlier::without_one))]
 fn remove_one<O: Slots<Object, OBJECT_LIMIT>>(
     objects: &mut Objects<O>,

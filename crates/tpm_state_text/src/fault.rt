@@ -15,8 +15,8 @@ pub enum StateFault {
     Digest,
     /// The bytes between the head and the digest do not encode a state.
     Body,
-    /// The version in the head is 1, but the head of a journal accepts only version 2. The digest
-    /// is checked before this.
+    /// The version in the head is 1, but the head of a journal accepts only version 2. This is
+    /// checked after the digest.
     Earlier,
 }
 

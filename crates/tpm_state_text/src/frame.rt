@@ -33,7 +33,7 @@ pub fn head(body_bytes: usize) -> Sink<10>
     head
 }
 
-/// Returns the version and the body of the bytes in a frame, or the first fault of the frame.
+/// Returns the version and the body that a frame contains, or the first fault of the frame.
 #[tactic(auto, unfolding(tpm_image_text::specs::Frame::within_frame))]
 pub fn framed_body(text: &[u8]) -> Result<(StateVersion, &[u8]), StateFault>
     ensures value { Gives (λ framed. (framed.0, framed.1.now))

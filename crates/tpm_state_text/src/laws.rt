@@ -1,4 +1,4 @@
-//! The laws of state texts. Each function here states laws in its contract, and does nothing at run
+//! The laws of state texts. Each law is part of the contract of a function that does nothing at run
 //! time.
 
 ghost use Rattle.std.specs.Prelude.{◌≡◌, ◌≤◌, ◌<◌, ℕ, List, Ok, Err, length, take};
@@ -14,9 +14,9 @@ ghost use Rattle.tpm_state_text.specs.State.{Encodes, HasBehindHead, current_sta
 ghost use Rattle.tpm_state_text.specs.declared.fault.StateFault.TheVariants as fault;
 
 /// Decoding the state text of a device returns exactly that device, with its completing layer. If
-/// decoding bytes returns a device, the device can exist. In that case, the bytes are its state
-/// text, or a state text of version 1 that may also contain flushed objects, which decoding leaves
-/// out. Two devices with the same state text are equal, and no state text exceeds the largest size.
+/// decoding bytes returns a device, such a device can exist. The bytes are then its state text, or
+/// a state text of version 1 that may also contain flushed objects, which decoding leaves out. Two
+/// devices with the same state text are equal, and no state text exceeds the largest size.
 #[inline(always)]
 #[tactic(auto, using(crate::proofs::StateLaws::text_told, crate::proofs::StateLaws::one_state, crate::proofs::StateLaws::text_small))]
 pub fn state_laws()

@@ -30,7 +30,7 @@ pub struct Layer {
     pub sequences: [Option<SequenceObject>; 3],
 }
 
-/// What a state text contains of the completing layer.
+/// What a state text contains about the completing layer.
 #[derive(Clone, Copy, PartialEq, Eq)]
 pub enum LayerKind {
     /// The device has no layer.

@@ -1,16 +1,16 @@
 #![tactic(auto)]
 
-//! The state text of a device: its complete state, as bytes. A device that is restored from them
-//! continues from the same state.
+//! The state text of a device: its complete state, as bytes. A device that is restored from these
+//! bytes continues from the same state.
 //!
-//! `specs/State` defines the encoding and the decoding, with one file for each part; the code has
-//! the same files. The state that a device keeps without power is encoded as in the body of an
-//! image, which tpm_image_text writes. This crate adds the state that a power cycle clears, and the
-//! completing layer's state.
+//! `specs/State` defines the encoding and the decoding, with one file for each part; the code is
+//! divided into the same files. The state that a device keeps without power is encoded as in the
+//! body of an image, which tpm_image_text writes. This crate adds the state that a power cycle
+//! clears, and the completing layer's state.
 //!
 //! [`snapshot_into`] writes the state text of a device, in version 2. [`restored`], [`restore_new`]
 //! and [`restore_into`] read version 1 or 2, into any type that stores a device's state.
-//! [`resume_new`] reads only version 2. They allocate memory only for the state itself.
+//! [`resume_new`] reads only version 2. These functions allocate memory only for the state itself.
 //!
 //! Decoding the state text of a device returns exactly that device. Decoding succeeds only if the
 //! encoded device can exist; from version 1, it leaves out flushed objects that stayed in their

@@ -22,7 +22,7 @@ use tpm_object::Object;
 use tpm_record::objects::Objects;
 use tpm_types::OBJECT_LIMIT;
 
-/// Reads the object of a slot, if there is one.
+/// Reads the object in a slot, or None if the slot is free.
 fn read_optional_object(text: &mut Cursor) -> Result<Option<Object>, Malformed>
     ensures { Reads (λ object. object) (optional_in object_fields_in text.old) text.old
         result text.new }
@@ -60,7 +60,7 @@ fn read_place<O: Slots<Object, OBJECT_LIMIT>>(
     }
 }
 
-/// Reads the transient objects into the slots of a device that has none.
+/// Reads the transient objects into the slots of a device. All of these slots must be free.
 #[tactic(auto, unfolding(crate::specs::Objects::transients_in))]
 pub fn read_transients<O: Slots<Object, OBJECT_LIMIT>>(
     objects: &mut Objects<O>,
@@ -76,7 +76,7 @@ pub fn read_transients<O: Slots<Object, OBJECT_LIMIT>>(
     Ok(())
 }
 
-/// Writes the object of a slot, if there is one.
+/// Writes the object in a slot, or the byte for a free slot.
 fn write_optional_object(object: Option<&Object>, text: &mut Text)
     requires { length text.old + (1 + object_fields_size) ≤ text_size }
     ensures written { text.new ≡ text.old

@@ -15,7 +15,8 @@ use tpm_image_text::{
 };
 use tpm_mac::Digest;
 
-/// Reads an optional number: a byte that says whether there is one, then its eight bytes.
+/// Reads an optional number: a byte that says whether there is a number, and then the number's
+/// eight bytes.
 pub fn read_optional_u64(text: &mut Cursor) -> Result<Option<u64>, Malformed>
     ensures { Reads (λ value. value) (optional_in (number_in w64) text.old) text.old
         result text.new }
@@ -30,7 +31,8 @@ pub fn read_optional_u64(text: &mut Cursor) -> Result<Option<u64>, Malformed>
     Ok(value)
 }
 
-/// Reads an optional number: a byte that says whether there is one, then its four bytes.
+/// Reads an optional number: a byte that says whether there is a number, and then the number's four
+/// bytes.
 pub fn read_optional_u32(text: &mut Cursor) -> Result<Option<u32>, Malformed>
     ensures { Reads (λ value. value) (optional_in (number_in w32) text.old) text.old
         result text.new }
@@ -45,7 +47,7 @@ pub fn read_optional_u32(text: &mut Cursor) -> Result<Option<u32>, Malformed>
     Ok(value)
 }
 
-/// Reads an optional bool: a byte that says whether there is one, then the value.
+/// Reads an optional bool: a byte that says whether there is a value, and then the value.
 pub fn read_optional_bool(text: &mut Cursor) -> Result<Option<bool>, Malformed>
     ensures { Reads (λ value. value) (optional_in yes_no_in text.old) text.old result text.new }
 {
@@ -67,7 +69,7 @@ pub fn read_digest(text: &mut Cursor) -> Result<Digest, Malformed>
     Ok(copied(bytes))
 }
 
-/// Reads an optional digest: a byte that says whether there is one, then the sized digest.
+/// Reads an optional digest: a byte that says whether there is a digest, and then the sized digest.
 pub fn read_optional_digest(text: &mut Cursor) -> Result<Option<Digest>, Malformed>
     ensures { Reads (λ value. option_map (λ digest. digest.items) value)
         (optional_in (buffer_in 32) text.old) text.old result text.new }
@@ -82,7 +84,8 @@ pub fn read_optional_digest(text: &mut Cursor) -> Result<Option<Digest>, Malform
     Ok(value)
 }
 
-/// Writes an optional number: a byte that says whether there is one, then its eight bytes.
+/// Writes an optional number: a byte that says whether there is a number, and then the number's
+/// eight bytes.
 pub fn write_optional_u64(value: Option<u64>, text: &mut Text)
     requires { length text.old + 9 ≤ text_size }
     ensures written { text.new ≡ text.old ++ optional_text (to_be_bytes w64) value }
@@ -97,7 +100,8 @@ pub fn write_optional_u64(value: Option<u64>, text: &mut Text)
     }
 }
 
-/// Writes an optional number: a byte that says whether there is one, then its four bytes.
+/// Writes an optional number: a byte that says whether there is a number, and then the number's
+/// four bytes.
 pub fn write_optional_u32(value: Option<u32>, text: &mut Text)
     requires { length text.old + 5 ≤ text_size }
     ensures written { text.new ≡ text.old ++ optional_text (to_be_bytes w32) value }
@@ -112,7 +116,7 @@ pub fn write_optional_u32(value: Option<u32>, text: &mut Text)
     }
 }
 
-/// Writes an optional bool: a byte that says whether there is one, then the value.
+/// Writes an optional bool: a byte that says whether there is a value, and then the value.
 pub fn write_optional_bool(value: Option<bool>, text: &mut Text)
     requires { length text.old + 2 ≤ text_size }
     ensures written { text.new ≡ text.old ++ optional_text yes_no_text value }
@@ -127,7 +131,8 @@ pub fn write_optional_bool(value: Option<bool>, text: &mut Text)
     }
 }
 
-/// Writes an optional digest: a byte that says whether there is one, then the sized digest.
+/// Writes an optional digest: a byte that says whether there is a digest, and then the sized
+/// digest.
 pub fn write_optional_digest(value: Option<&Digest>, text: &mut Text)
     requires { length text.old + 35 ≤ text_size }
     ensures written { text.new ≡ text.old

@@ -34,8 +34,8 @@ fn read_version<K: Keep>(
 }
 
 /// Replaces a device just manufactured from all-zero random bytes with the device that a state text
-/// encodes, without moving it. Returns the completing layer, or the first fault of the bytes. On
-/// error, the device's state is unspecified.
+/// encodes, without moving it. Returns the completing layer, or the first fault found in the bytes.
+/// On error, the device's state is unspecified.
 pub fn restore_new<K: Keep>(keep: &mut K, text: &[u8]) -> Result<Option<Layer>, RestoreFault>
     requires { K.record_of keep.old ≡ manufactured (replicate 256 0) }
     ensures { RestoresNew K.can_refuse (state_of_text text.now) (K.record_of keep.new) result }
@@ -84,7 +84,7 @@ fn made<K: Keep>(alloc: Global, text: &[u8]) -> Result<(K, Option<Layer>), Resto
 }
 
 /// Returns the device that a state text encodes, as a new `Keep`, with its completing layer; or the
-/// first fault of the bytes.
+/// first fault found in the bytes.
 #[tactic(auto, using(crate::proofs::RestoringLaws::restored_again))]
 pub fn restored<K: Keep>(alloc: Global, text: &[u8]) -> Result<(K, Option<Layer>), RestoreFault>
     ensures exact { Restores K.record_of (K.empty_can_refuse || K.can_refuse) text.now result }

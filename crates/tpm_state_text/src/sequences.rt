@@ -17,7 +17,7 @@ use tpm_sequence_text::{read_slot, write_slot};
 /// The number of slots for sequence objects.
 const SLOTS: usize = 3;
 
-/// Whether a slot contains a sequence object.
+/// Whether at least one of the slots contains a sequence object.
 pub fn has_sequence(slots: &[Option<SequenceObject>; 3]) -> bool
     ensures { result ≡ has_sequence slots.now }
 {

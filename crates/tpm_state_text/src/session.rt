@@ -67,7 +67,7 @@ fn read_session(text: &mut Cursor) -> Result<Session, Malformed>
     Ok(session)
 }
 
-/// Reads the session of a slot, if there is one.
+/// Reads the session in a slot, or None if the slot is free.
 pub fn read_optional_session(text: &mut Cursor) -> Result<Option<Session>, Malformed>
     ensures { Reads (λ session. session) (optional_in session_in text.old) text.old
         result text.new }
@@ -97,7 +97,7 @@ fn write_session(session: &Session, text: &mut Text)
     write_policy(session.policy(), text);
 }
 
-/// Writes the session of a slot, if there is one.
+/// Writes the session in a slot, or the byte for a free slot.
 pub fn write_optional_session(session: Option<&Session>, text: &mut Text)
     requires { length text.old + (1 + session_size) ≤ text_size }
     ensures written { text.new ≡ text.old

@@ -41,7 +41,7 @@ fn read_place<S: Slots<Session, SESSION_LIMIT>>(
     }
 }
 
-/// Reads the sessions into the slots of a device that has none.
+/// Reads the sessions into the slots of a device. All of these slots must be free.
 #[tactic(auto, unfolding(crate::specs::Sessions::sessions_in))]
 pub fn read_sessions<S: Slots<Session, SESSION_LIMIT>>(
     sessions: &mut Sessions<S>,

@@ -37,7 +37,7 @@ pub fn write_state<K: Keep>(keep: &K, layer: Option<&Layer>, text: &mut StateBod
 }
 
 /// Writes the state text of a device, with its completing layer, to the beginning of a buffer, if
-/// it fits. Returns the size of the state text. The call allocates no memory.
+/// the state text fits. Returns the size of the state text. The call allocates no memory.
 pub fn snapshot_into<K: Keep>(keep: &K, layer: Option<&Layer>, buffer: &mut [u8]) -> usize
     ensures put { PutsFront
         (state_text (state_of (K.record_of keep.now) (option_copied layer.entry)))

@@ -6,8 +6,8 @@ ghost use Rattle.tpm_state_text.specs.Version.{state_version_number, state_versi
 /// A version of a state text.
 #[derive(Clone, Copy, PartialEq, Eq)]
 pub enum StateVersion {
-    /// Version 1 is read but no longer written. In it, a flushed object could stay in its slot
-    /// until its context was loaded.
+    /// Version 1 is read but no longer written. In version 1, a flushed object could stay in its
+    /// slot until its context was loaded.
     One,
     /// In version 2, no flushed object stays in a slot. The completing layer stores the contexts of
     /// sessions, and the sequence objects.
@@ -25,7 +25,7 @@ impl StateVersion {
         }
     }
 
-    /// The version with this number, if there is one.
+    /// The version with this number, or None if no version has this number.
     #[tactic(auto, unfolding(crate::specs::Version::state_version_numbered))]
     pub fn numbered(number: u16) -> Option<StateVersion>
         ensures { result ≡ state_version_numbered number }

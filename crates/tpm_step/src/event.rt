@@ -9,7 +9,7 @@ use tpm_types::{BUFFER_LIMIT, Locality};
 /// All bytes of a response.
 pub type Response = ArrayVec<u8, BUFFER_LIMIT>;
 
-/// An event. The device's state changes only by whole events.
+/// An event. The device's state changes only through whole events.
 #[derive(Drop)]
 pub enum Event<'a> {
     /// A command: its buffer, which may contain any bytes; its locality; the milliseconds since the

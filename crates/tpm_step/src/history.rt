@@ -3,9 +3,9 @@
 //! authorized, which nonce or HMAC repeats in a replay, and how many tries may fail.
 //!
 //! Each law is the contract of a function that does nothing. The laws follow from the definitions
-//! of the step and from the laws about all rows in [`crate::rows`]. Apart from these, their proofs
-//! unfold only the rows that change what a history determines. The contracts of tpm_machine's calls
-//! contain these laws, and so do those of tpm_image and tpm_wire above it.
+//! of the step and from the laws about all rows in [`crate::rows`]. Apart from the definitions of
+//! the step, the proofs unfold only the rows that change what a history determines. These laws are
+//! also part of the contracts of tpm_machine, and of tpm_image and tpm_wire, which use tpm_machine.
 
 ghost use Rattle.std.specs.Prelude.{◌≡◌, ◌↔◌, ◌+◌, ◌++◌, ℕ, Bool, true, false, List, [], ◌∷◌, None, Some, map};
 ghost use Rattle.tpm_mac.specs.declared.algorithm.HashAlg.{HashAlg};
@@ -71,10 +71,10 @@ pub fn following_laws()
         → Follows r history → Follows (cycled r) (PowerCycled ∷ history) }
 {}
 
-/// Laws about sequences of executions. A power cycle is a sequence by itself, and so is placing an
-/// object that satisfies the invariant of loaded objects. Two sequences make one sequence if the
-/// second begins with the record that the first left. A sequence that is possible if no allocation
-/// can fail is also possible if allocations can fail.
+/// Laws about sequences of executions. A power cycle alone is a sequence. Placing an object that
+/// satisfies the invariant of loaded objects is also a sequence. Two sequences make one sequence if
+/// the second begins with the record that the first left. A sequence that is possible if no
+/// allocation can fail is also possible if allocations can fail.
 #[inline(always)]
 pub fn stretch_laws()
     ensures power_cycle { (can : Bool) (r : Record)
@@ -89,7 +89,7 @@ pub fn stretch_laws()
 {}
 
 /// If a device follows a history, then after a sequence of events it follows the same history with
-/// all accepted events added. The other properties of `StretchFollows` hold too.
+/// all accepted events added. The other properties of `StretchFollows` also hold.
 #[inline(always)]
 pub fn stretch_history_laws()
     ensures { (can : Bool) (old : Record) (executions : List Execution) (new : Record)
@@ -97,9 +97,9 @@ pub fn stretch_history_laws()
         → StretchFollows can old executions new history }
 {}
 
-/// A run executes its events one after another. After the run, the device follows the history with
-/// all accepted events added. Conversely, executions one after another are a run if a closure is
-/// called with each outcome.
+/// After a run, which executes its events one after another, the device follows the history with
+/// all accepted events added. Conversely, a sequence of executions is a run if a closure is called
+/// with each outcome.
 #[inline(always)]
 pub fn run_history_laws<F: FnMut(&Outcome)>()
     ensures follows { (can : Bool) (old : Record) (p : F) (events : List PlainEvent) (new : Record)
@@ -111,8 +111,8 @@ pub fn run_history_laws<F: FnMut(&Outcome)>()
 {}
 
 /// The view of a handle shows what the record contains: the Name, the policy, the protection, and
-/// the means that can authorize the entity. For each command, a history records the views that the
-/// command's handles had before the command.
+/// the means that can authorize the entity. For each command, a history records the views of the
+/// command's handles before the command.
 #[inline(always)]
 pub fn view_laws()
     ensures tell { (r : Record) (handle : Handle) → TellsOf (view_of r handle) r handle }
@@ -122,7 +122,7 @@ pub fn view_laws()
 {}
 
 /// The PCR values that a history records as saved are the values that the PCRs had at the last
-/// shutdown. A TPM Resume restores them for PCR 0 to 15.
+/// shutdown. A TPM Resume sets PCR 0 to 15 to these values again.
 #[inline(always)]
 #[tactic(auto, using(crate::proofs::history::DevicePcrs::saved_are))]
 pub fn shutdown_laws()
@@ -130,8 +130,8 @@ pub fn shutdown_laws()
         → (pcrs_after history).saved bank pcr ≡ pcr_of (before_shutdown history) bank pcr }
 {}
 
-/// A session of a device has the key, the nonceTPM and the policy that the history determines for
-/// its handle, and was started as the history says.
+/// The history determines the key, the nonceTPM and the policy of a device's session at a handle,
+/// and how the session was started.
 #[inline(always)]
 #[tactic(auto, using(crate::proofs::history::DeviceSessions::live_sessions))]
 pub fn live_session_laws()
@@ -141,8 +141,8 @@ pub fn live_session_laws()
 {}
 
 /// An entity that exists has the authorization value that the history determines for its handle.
-/// The value is empty for PCRs, for TPM_RH_NULL, and for every other handle that is not of a
-/// hierarchy, lockout, an NV index or an object. No authorization value ends in a zero byte.
+/// The value is empty for PCRs, for TPM_RH_NULL, and for every other handle that names neither a
+/// hierarchy, lockout, an NV index nor an object. No authorization value ends in a zero byte.
 #[inline(always)]
 #[tactic(auto, using(crate::proofs::history::DeviceAuthValues::present_auth_value, crate::proofs::history::TrimmedValues::told_values_are_trimmed))]
 pub fn auth_value_laws()
@@ -155,9 +155,10 @@ pub fn auth_value_laws()
         → trimmed (auth_of history handle) ≡ auth_of history handle }
 {}
 
-/// These laws hold for the NV counters of every history, even if no device follows it. The first
+/// Laws about the NV counters of every history, even a history that no device follows. The first
 /// value of a counter exceeds every value that any counter had before. A counter does not go down
-/// until an index is defined again with its handle.
+/// until an index is defined again with its handle. Each value is at most the largest value that
+/// any counter had.
 #[inline(always)]
 #[tactic(auto, using(crate::proofs::history::CountLaws::count_laws))]
 pub fn count_laws()
@@ -194,8 +195,7 @@ pub fn recorded_laws()
 {}
 
 /// In every history of a device, each use of an entity was authorized, given the history before the
-/// use. A password, an HMAC session, or a policy session whose conditions all hold authorized the
-/// use.
+/// use: by a password, by an HMAC session, or by a policy session whose conditions all hold.
 #[inline(always)]
 pub fn grounds_laws()
     ensures { (can : Bool) (random : List ℕ) (executions : List Execution) (new : Record)
@@ -205,7 +205,7 @@ pub fn grounds_laws()
 
 /// Suppose that a buffer with an HMAC is accepted twice, and that its HMAC session survives between
 /// the two events. Then the session has the nonceTPM of the first event again, or two different
-/// messages have the same HMAC. Each of the two HMACs is computed with the key at its event.
+/// messages have the same HMAC. The HMAC at each event is computed with the key at that event.
 #[inline(always)]
 pub fn replay_laws()
     ensures { (can : Bool) (random : List ℕ) (executions : List Execution) (new : Record)
@@ -226,8 +226,8 @@ pub fn policy_laws()
     ensures command { UsesItsCommand }
 {}
 
-/// An entry touches the entity whose authorization value is used to check it. An event is a failed
-/// try if and only if its authorization is refused with AUTH_FAIL for an entry that touches a
+/// An entry touches the entity whose authorization value is used to check the entry. An event is a
+/// failed try if and only if an entry of its command is refused with AUTH_FAIL and touches a
 /// protected entity other than lockout. The response is AUTH_FAIL for that entry.
 #[inline(always)]
 pub fn failed_try_laws()
@@ -251,14 +251,14 @@ pub fn reset_laws()
     ensures { (one : PastEvent) → (is_reset one ≡ true ↔ IsReset one) }
 {}
 
-/// The smaller bound of `few_tries_laws` is reached: in an example run, which reads an NV index
-/// with a wrong password, as many tries fail as this bound allows.
+/// The smaller bound of `few_tries_laws` can be reached. In an example run, which reads an NV index
+/// with a wrong password, the number of failed tries equals this bound.
 #[inline(always)]
 pub fn failed_run_laws()
     ensures { IsFailedRun }
 {}
 
-/// In a sequence of events at most maxTries tries fail, and one more for each whole recoveryTime
+/// In a sequence of events, at most maxTries tries fail, and one more for each whole recoveryTime
 /// that passes. This holds if recoveryTime is not 0, and no TPM2_DictionaryAttackLockReset,
 /// TPM2_DictionaryAttackParameters or TPM2_Clear is accepted. The bound `tries_at_most` is higher
 /// by one.
@@ -291,14 +291,14 @@ pub fn auth_policy_laws()
         → AllMeetPolicies (history_after [] executions) }
 {}
 
-/// Since a device was manufactured, only policy sessions authorized the use of an object without
-/// userWithAuth, and each use met the object's policy. If the policy requires values of PCRs, the
-/// object was used only while the PCRs had these values. If it also requires a PIN, the object was
-/// used only with the PIN. If it requires a PIN or a recovery secret, the object was used only with
-/// one of the two. If it compares a counter, the object was used only after an accepted
-/// TPM2_PolicyNV. If the policy of an NV index without AUTHWRITE requires that the index is not
-/// written, commands wrote the index only while it was not written. Each of these claims holds
-/// unless the hash is broken.
+/// Since a device was manufactured, only policy sessions have authorized the use of an object
+/// without userWithAuth, and each use has met the object's policy. If the policy requires values of
+/// PCRs, the object was used only while the PCRs had these values. If it also requires a PIN, the
+/// object was used only with the PIN. If it requires a PIN or a recovery secret, the object was
+/// used only with one of the two. If it compares a counter, the object was used only after an
+/// accepted TPM2_PolicyNV. If the policy of an NV index without AUTHWRITE requires that the index
+/// is not written, commands wrote the index only while it was not written. Each of these claims
+/// holds unless the hash is broken.
 #[inline(always)]
 pub fn policy_review_laws()
     ensures every { OfEachAccepted NeedsItsPolicy }

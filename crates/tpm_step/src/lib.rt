@@ -1,9 +1,9 @@
 #![tactic(auto)]
 
-//! The events of the device, and the step of each. The definitions in `specs/` are the general
-//! checks, the table of all rows, the answer, the step of an event, runs of events, and what a
-//! history of steps determines about a device. The code of this crate consists of four types:
-//! [`event::Event`], its [`event::Outcome`], [`refused_command::RefusedCommand`], and
+//! The events of a device, and the step that each event causes. The definitions in `specs/` are the
+//! general checks, the table of all rows, the answer, the step of an event, runs of events, and
+//! what a history of steps determines about a device. The code of this crate consists of four
+//! types: [`event::Event`], its [`event::Outcome`], [`refused_command::RefusedCommand`], and
 //! [`direction::Direction`], which says whether a session decrypts or encrypts a parameter.
 //!
 //! The laws about all rows are in [`rows`], and the laws about histories in [`history`].

@@ -88,8 +88,8 @@ pub fn growth_laws()
         → IfOk (row_of r c q) (λ s. GrowsAsShaped c r s.after) }
 {}
 
-/// A row that refuses no handle refuses exactly the parameters that are not of the kinds in its
-/// command's shape. It reports their first fault.
+/// A row does not refuse parameters of the kinds in its command's shape. It refuses all other
+/// parameters with their first fault, unless it refuses a handle first.
 #[inline(always)]
 #[tactic(auto, using(crate::proofs::rows::Table::row_reads))]
 pub fn parameter_laws()
@@ -116,8 +116,8 @@ pub fn used_session_laws()
 {}
 
 /// A row reveals no secret unless its command reads a secret. On the device and on the device
-/// without its secrets, the row refuses with the same refusal, or returns the same answer and
-/// leaves the same record except for the secrets.
+/// without its secrets, the row has the same refusal, or the same answer. The new records are also
+/// the same, except for the secrets.
 #[inline(always)]
 #[tactic(auto, using(crate::proofs::rows::Table::row_tells))]
 pub fn row_secrecy_laws()
@@ -236,8 +236,8 @@ pub fn effect_laws()
         → LeavesEffect a.success.after (success_step a random).after }
 {}
 
-/// After every accepted command the device is started: before it is started, only TPM2_Startup is
-/// accepted.
+/// A device that is not started accepts only TPM2_Startup, which starts it. Therefore the device is
+/// started after every accepted command.
 #[inline(always)]
 #[tactic(auto, using(crate::proofs::rows::Started::is_started))]
 pub fn started_laws()
@@ -258,7 +258,7 @@ pub fn uncounted_laws()
 {}
 
 /// A newly manufactured device has no session, and a power cycle ends all sessions. Therefore no
-/// session of such a device has a field of a wrong size.
+/// session has a field of the wrong size.
 #[inline(always)]
 #[tactic(auto, using(crate::proofs::rows::SizedSteps::manufactured_sized, crate::proofs::rows::SizedSteps::cycled_sized))]
 pub fn new_device_size_laws()
@@ -266,9 +266,9 @@ pub fn new_device_size_laws()
     ensures cycled { (r : Record) → AreSized (cycled r) }
 {}
 
-/// A success draws at most `draw_limit` of the event's 256 random bytes, and exactly as many as the
-/// command's code and parameters determine. TPM2_Startup counts as 0 here: it has no entries, and
-/// therefore no nonces are drawn after its own bytes.
+/// A success draws at most `draw_limit` of the event's 256 random bytes. Unless the command is
+/// TPM2_Startup, its code and parameters determine the exact number (`draws_of`). For TPM2_Startup,
+/// `draws_of` is 0: it has no entries, and therefore no nonces are drawn after its own bytes.
 #[inline(always)]
 #[tactic(auto, using(crate::proofs::rows::Table::row_draws, crate::proofs::rows::Table::row_draws_so))]
 pub fn draw_laws()
@@ -289,9 +289,9 @@ pub fn row_size_laws()
         → 32 ≤ length q.random → AreSized r → IfOk (row_of r c q) (λ s. AreSized s.after) }
 {}
 
-/// After the answer to a success, the fields of all sessions still have the right sizes, if there
-/// are enough random bytes for a nonce of each entry. The answer renews nonces, resets policies and
-/// ends sessions.
+/// Answering a successful command renews nonces, resets policies and ends sessions. After that, the
+/// fields of all sessions still have the right sizes, if there are enough random bytes for a nonce
+/// of each entry.
 #[inline(always)]
 pub fn answer_size_laws()
     ensures { (c : Whole) (grants : List (Option Grant)) (a : Written) (effect : Record)
@@ -321,8 +321,8 @@ pub fn run_size_laws<F: FnMut(&Outcome)>()
         → Runs F.FnMut can old p events new q → AreSized old → AreSized new }
 {}
 
-/// The fields of a device's sessions always have the right sizes, whatever events happened since it
-/// was manufactured.
+/// The fields of a device's sessions always have the right sizes, whatever events have happened
+/// since it was manufactured.
 #[inline(always)]
 pub fn history_size_laws()
     ensures { (random : List ℕ) (events : List PlainEvent)

@@ -9,8 +9,8 @@ use tpm_bytes::{Cursor, Full, Short, Sink, SizedFault, Tap};
 /// remains.
 const TEXT: &[u8] = b"\x10\x21\x32\x43\x54\x65\x76\x87\x98\xa9\xba\xcb\xdc\xed\xfe\x0f";
 
-/// Returns its argument. The prover knows nothing about bytes that a call returns, and therefore
-/// computes nothing with them.
+/// Returns its argument. The prover knows nothing about the bytes that this call returns, and
+/// therefore cannot compute with them.
 fn unknown(bytes: &[u8]) -> &[u8] {
     bytes
 }
@@ -204,7 +204,7 @@ fn a_tap_writes_a_whole_text(rt: HostRuntime) {
     }
 }
 
-/// A reader and writer that behaves in the same way at each call, and counts the calls.
+/// A reader and writer that behaves the same way at each call, and counts the calls.
 #[derive(Drop)]
 struct CountedDevice {
     conduct: Conduct,

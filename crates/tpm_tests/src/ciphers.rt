@@ -1,4 +1,4 @@
-//! Checks AES against the examples of FIPS 197 (5.1.1 and appendices B and C) and of SP 800-38A
+//! Checks AES against the examples in FIPS 197 (5.1.1 and appendices B and C) and in SP 800-38A
 //! (F.3.13 and F.3.14).
 
 ghost use Rattle.std.specs.Prelude.{◌≡◌};
@@ -13,7 +13,7 @@ struct BlockCase {
     cipher: [u8; 16],
 }
 
-// The examples of FIPS 197, B and C.1
+// The examples in appendices B and C.1 of FIPS 197
 const BLOCKS: [BlockCase; 2] = [
     BlockCase {
         key: [
@@ -45,7 +45,7 @@ const BLOCKS: [BlockCase; 2] = [
     },
 ];
 
-// The example of SP 800-38A, F.3.13
+// The example in appendix F.3.13 of SP 800-38A
 const KEY: [u8; 16] = [
     0x2b, 0x7e, 0x15, 0x16, 0x28, 0xae, 0xd2, 0xa6, 0xab, 0xf7, 0x15, 0x88, 0x09, 0xcf, 0x4f, 0x3c,
 ];

@@ -1,5 +1,5 @@
-//! Checks digests against the examples of FIPS 180-4, HMACs against RFC 2202 and RFC 4231, and KDFa
-//! keys against keys that Python's `hmac` computed.
+//! Checks digests against the examples of FIPS 180-4, HMACs against RFC 2202 and RFC 4231, and keys
+//! derived with KDFa against keys that Python's `hmac` computed.
 
 use super::comparison::check;
 use tpm_bytes::copied;
@@ -247,8 +247,8 @@ fn keys_are_derived(rt: HostRuntime) {
 /// The contents of the buffer before a key is derived into its first bytes.
 const UNTOUCHED: [u8; 80] = [0x55; 80];
 
-// The block of KDFa with this counter, computed only with HMAC; `bits` is the total number of
-// bits that KDFa derives.
+// The KDFa block with this counter, computed only with HMAC; `bits` is the total number of bits
+// that KDFa derives.
 fn block_by_hmac(alg: HashAlg, counter: u32, bits: u32) -> Digest {
     let counter: &[u8] = &counter.to_be_bytes();
     let bits: &[u8] = &bits.to_be_bytes();

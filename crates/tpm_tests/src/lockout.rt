@@ -3,8 +3,8 @@
 use super::comparison::check;
 use tpm_lockout::{Lockout, LockoutFields};
 
-/// Lockout with this number of failed tries. maxTries is 3. Each try is forgiven after this many
-/// seconds, and lockoutAuth is disabled for the same time.
+/// A lockout state with this number of failed tries and a maxTries of 3. Both recoveryTime and
+/// lockoutRecovery are `seconds`, and lockoutAuth is disabled.
 fn locked(failed_tries: u32, seconds: u32) -> Lockout {
     Lockout::restore(LockoutFields {
         failed_tries,

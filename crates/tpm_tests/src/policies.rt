@@ -38,7 +38,7 @@ const PCR: &[u8] = b"\x09\x3c\xeb\x41\x18\x1d\x47\x80\x88\x62\xd7\x94\x62\x68\xe
 const ZEROS_HASH: &[u8] = b"\x66\x68\x7a\xad\xf8\x62\xbd\x77\x6c\x8f\xc1\x8b\x8e\x9f\x8e\x20\
     \x08\x97\x14\x85\x6e\xe2\x33\xb3\x90\x2a\x59\x1d\x0d\x5f\x29\x25";
 
-/// The list in TPM2_PolicyOR, with the policy digests `COMMAND_CODE` and `LOCALITY`.
+/// The list of digests for TPM2_PolicyOR: `COMMAND_CODE` and `LOCALITY`.
 const BRANCHES: &[u8] = b"\x00\x00\x00\x02\
     \x00\x20\x5b\xe1\x5b\x50\xc0\x23\x8a\x19\xfb\x28\x12\xee\x10\xf5\xed\xa0\
     \x6b\x24\xd8\x8f\xd4\xdf\x45\x14\xe4\xba\xdf\x55\x15\xa6\xdc\x11\
@@ -49,7 +49,7 @@ const BRANCHES: &[u8] = b"\x00\x00\x00\x02\
 const OR: &[u8] = b"\x5c\xd8\x1d\x2a\xc9\x60\x77\x5e\x3d\x72\xf3\x00\x07\xe7\xb0\x40\
     \x46\x21\x3b\x08\x17\xc4\x88\x82\x09\x81\x75\xbd\xb3\x05\xb3\xb5";
 
-/// The PCR selection of PCR 0 in the SHA-256 bank.
+/// The PCR selection that contains only PCR 0 in the SHA-256 bank.
 const SELECTION: &[u8] = b"\x00\x00\x00\x01\x00\x0b\x03\x01\x00\x00";
 
 const GET_RANDOM: u32 = 0x17b;
@@ -117,8 +117,8 @@ fn either_branch_leads_to_one_digest(rt: HostRuntime) {
     check(&rt, state.digest(), OR);
 }
 
-/// Asserts PCR 0 (with pcrUpdateCounter 7), TPM2_GetRandom, the endorsement secret, a cpHash, a
-/// written index, and locality 0.
+/// Makes assertions about PCR 0 (with pcrUpdateCounter 7), TPM2_GetRandom, the endorsement secret,
+/// a cpHash, a written index, and locality 0.
 fn assert_all(state: &mut PolicyState, selection: &PcrSelection) -> Result<(), ActionFault> {
     let name = Name::of_handle(Handle::ENDORSEMENT);
     state.pcr(HashAlg::Sha256, false, &pcr(selection))?;
@@ -163,7 +163,7 @@ fn spoiled_from(condition: u8, digest: &[u8], locality: Locality) -> Use<'_> {
     }
 }
 
-/// For each condition by number: the refusal if this condition and all later conditions fail.
+/// The number of each condition, and the refusal if this condition and all later conditions fail.
 fn refusals() -> [(u8, Rc); 8] {
     let policy_fail = ResponseCode::PolicyFail.anywhere().at_session(1);
     [

@@ -20,10 +20,11 @@ const PCR_RESET: &[u8] = b"\x80\x02\x00\x00\x00\x20\x00\x00\x01\x3d\
     \x00\x00\x00\x0e\
     \x40\x00\x00\x09\x00\x02\xaa\xbb\x01\x00\x03abc";
 
-/// The PCR selection of PCRs 0, 10 and 23 in the SHA-256 bank.
+/// A PCR selection with PCRs 0, 10 and 23 in the SHA-256 bank.
 const SELECTION: &[u8] = b"\x00\x00\x00\x01\x00\x0b\x03\x01\x04\x80";
 
-/// A list of two digests: SHA-1 with twenty bytes 01, and SHA-256 with thirty-two bytes 02.
+/// A list of two digests: a SHA-1 digest of twenty bytes 01, and a SHA-256 digest of thirty-two
+/// bytes 02.
 const DIGESTS: &[u8] = b"\x00\x00\x00\x02\
     \x00\x04\x01\x01\x01\x01\x01\x01\x01\x01\x01\x01\x01\x01\x01\x01\x01\x01\x01\x01\x01\x01\
     \x00\x0b\x02\x02\x02\x02\x02\x02\x02\x02\x02\x02\x02\x02\x02\x02\x02\x02\
@@ -133,7 +134,7 @@ fn a_hierarchy_has_its_handle_as_its_name(rt: HostRuntime) {
     check(&rt, name.is_same(&Name::of_handle(Handle::PLATFORM)), false);
 }
 
-/// The response code of the error in a command's buffer, or 0.
+/// The response code for the error in a command buffer, or 0 if there is no error.
 fn fault_of(buffer: &[u8]) -> u32 {
     match Command::read(&mut Cursor::new(buffer)) {
         Ok(_) => 0,

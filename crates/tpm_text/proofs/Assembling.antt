@@ -68,8 +68,8 @@ sessions_err (Err other) old new (Err found) fault left e h = ap Err (sym h ∙ 
 
 -- ---- the authorization area
 
--- Adding a draft of entries (`area`) to another draft as its authorization area extends the other
--- draft by the size of the entries, followed by the entries.
+-- A draft of entries (`area`) is added to another draft as its authorization area. This appends the
+-- size of the entries, and then the entries.
 area_is : (old area : Option (List ℕ)) (text : List ℕ) → area ≡ grown (Some []) text → with_area old area ≡ grown old (to_be_bytes w32 (length text) ++ text)
 unfolding with_area
 area_is old area text e = by (nat_le (length text) buffer_limit) refl
@@ -115,7 +115,7 @@ still_ten (Some text) bytes h = by (nat_le (length text + length bytes) buffer_l
     by true short = subst (λ (d : Option (List ℕ)). IfSome d (λ text. 10 ≤ length text)) (sym (fits text bytes (leb-true _ _ short))) (omega (arith, h, length-append text bytes))
     by false long = subst (λ (d : Option (List ℕ)). IfSome d (λ text. 10 ≤ length text)) (sym (spills text bytes (leb-false _ _ long))) tt
 
--- A draft that has just begun contains ten bytes, which are reserved for the header.
+-- A draft that was just begun contains only ten bytes, which are reserved for the header.
 pub begun : (draft : Option (List ℕ)) → IsSome draft → IfSome draft (λ text. length text ≡ 10) → (ten : List ℕ) × (draft ≡ Some ten) × (length ten ≡ 10)
 begun None is h = absurd cc
 begun (Some ten) is h = (ten, refl, h)

@@ -1,4 +1,4 @@
--- The parts that the code writes for an entry are the entry's encoding.
+-- The code writes an entry part by part. Together, the parts are the entry's encoding.
 use Rattle.std.proofs.Common.{◌≡◌, ℕ, ◌<◌, ◌==◌, List, [], ◌∷◌, ◌++◌, length, Option, Result, Ok, Err, refl, ap, ◌∙◌, arith}
 use Rattle.std.specs.Int.{w8, w32, to_be_bytes}
 use Rattle.std.proofs.lemmas.List.Splits.{length-slice_split}
@@ -27,7 +27,7 @@ password_text password = by (bytes_in password)
     by (Ok bytes) = refl
     by (Err fault) = refl
 
--- A token with five or more pieces does not encode a session's entry.
+-- If a token has five or more pieces, it does not encode the entry of a session.
 five_are_bad : (a b c d : List ℕ) (others : List (List ℕ)) → 0 < length others → session_pieces_of (a ∷ b ∷ c ∷ d ∷ others) ≡ Err Bad
 five_are_bad a b c d [] some = absurd (omega (arith, some))
 five_are_bad a b c d (e ∷ others) some = refl

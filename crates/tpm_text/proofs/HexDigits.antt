@@ -32,16 +32,16 @@ digits_are_good digits even all = rw ((decode_of-digits digits (omega (arith, ev
 
 pub ruleset hex_digits = (odd_is_bad, other_is_bad, digits_are_good)
 
--- An empty string of hex digits decodes to no bytes.
+-- An empty string of hex digits decodes to an empty list of bytes.
 pub none_is_good : hex_in [] ≡ Ok []
 unfolding decode_pairs
 none_is_good = refl
 
--- There are twice as many hex digits as bytes that they encode.
+-- The number of hex digits is twice the number of bytes that they encode.
 pub half_of : (digits bytes : List ℕ) → hex_in digits ≡ Ok bytes → length digits ≡ 2 * length bytes
 half_of digits bytes e = (decode_of-ok digits bytes (or_fault_ok _ _ bytes e)).2
 
--- Adding hex digits makes the draft None, if the command becomes too long.
+-- If the bytes of the hex digits make the command too long, the draft becomes None.
 pub hex_too_long : (digits text : List ℕ) (result : Result (Unit {0}) TokenFault) → IsChecked (hex_in digits) result → buffer_limit < length text + length digits / 2
     → Drafts (hex_in digits) (Some text) result None
 unfolding grown

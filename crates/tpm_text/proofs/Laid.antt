@@ -1,4 +1,5 @@
--- Lemmas about tokens that are read one after another, and the encodings that are written for them.
+-- Lemmas about tokens that are read one after another, and about the encodings that are written for
+-- their values.
 use Rattle.tpm_types.specs.Limits.{buffer_limit}
 use Rattle.std.proofs.Common.{◌≡◌, ℕ, zero, suc, ◌≤◌, true, false, List, [], ◌∷◌, ◌++◌, length, take, Option, Some, None, Result, Ok, Err, refl, sym, ap, ◌∙◌, append-nil, arith}
 use Rattle.std.specs.Option.{ForSome, option_map}

@@ -60,7 +60,7 @@ elements_last : (element : Element) (draft : Option (List ℕ)) (text piece : Li
 unfolding elements_left elements_text each_in
 elements_last element draft text piece e = ap (λ first. first >>= (λ first. Ok (first ∷ [])) >>= (λ texts. Ok (flat_map (λ text. text) texts)) >>= λ text. Ok (grown draft text)) e ∙ ap (λ l. Ok (grown draft l)) (append-nil text)
 
--- Writing the next element of a list does not change the result for the whole list.
+-- Writing the next element of a list does not change the result of writing the whole list.
 pub put_more : (element : Element) (old new : Option (List ℕ)) (piece : List ℕ) (pieces : List (List ℕ)) (result : Result (Unit {0}) TokenFault) → result ≡ Ok tt → Drafts (element_text element piece) old result new
     → elements_left element old (piece ∷ pieces) ≡ elements_left element new pieces
 put_more element old new piece pieces result e h = by (element_text element piece) refl result e h
@@ -93,7 +93,7 @@ put_stopped element old new piece pieces result fault e h = by (element_text ele
     by (Err other) is (Ok done) e h = absurd h
     by (Err other) is (Err found) e h = elements_stopped element old other piece pieces is ∙ ap Err (sym h ∙ cc)
 
--- The result for the remaining elements determines the result for the whole list.
+-- The result of writing the remaining elements determines the result of writing the whole list.
 pub elements_drafted : (element : Element) (old : Option (List ℕ)) (pieces : List (List ℕ)) (result : Result (Unit {0}) TokenFault) (new : Option (List ℕ))
     → elements_left element old pieces ≡ (result >>= λ done. Ok new) → Drafts (elements_text element pieces) old result new
 unfolding elements_left

@@ -104,8 +104,8 @@ entries_spell (suc most) (token ∷ tokens) x e = by (entries_spell most tokens)
         subst (λ (x : List Entry × List Token). (length x.0 ≤ suc most) × AllByRecursion Spells x.0) (ok_is (first.0 ∷ others.0.0, others.0.1) x others.2) (omega (arith, rest.0), (one, rest.1))
     by fewer false e = subst (λ (x : List Entry × List Token). (length x.0 ≤ suc most) × AllByRecursion Spells x.0) (ok_is ([], token ∷ tokens) x e) (omega arith, tt)
 
--- If the size of all entries together fits in 16 bits, so do the sizes of each entry's nonce and
--- HMAC.
+-- If all entries together fit in 65,535 bytes, the sizes of each entry's nonce and HMAC fit in 16
+-- bits.
 sized_entries : (entries : List Entry) → AllByRecursion Spells entries → length (entries_text entries) < 2 ^ 16 → AllByRecursion IsEntry entries
 sized_entries [] each small = tt
 sized_entries (entry ∷ entries) each small =

@@ -10,7 +10,7 @@ use Rattle.tpm_text.specs.declared.fault.AsmFault.{AsmFault}
 use Rattle.tpm_text.specs.declared.fault.AsmFault.TheVariants.{TooLong}
 use Rattle.tpm_text.specs.declared.draft.Draft.{Draft}
 
--- the bytes of a draft so far; None if there were more than a command may have
+-- the bytes written to a draft so far; None if there were more bytes than a command may have
 abbrev pub drafted : Draft → Option (List ℕ)
 drafted draft = option_map (λ size. take size draft.bytes) draft.used
 

@@ -5,7 +5,7 @@ use Rattle.tpm_text.specs.declared.fault.AsmFault.TheVariants as line
 use Rattle.tpm_number.specs.declared.fault.TokenFault.{TokenFault}
 use Rattle.tpm_number.specs.declared.fault.TokenFault.TheVariants as token
 
--- the fault of a line, from the fault of its token at this column
+-- the fault of a line whose token at this column has this fault
 abbrev pub fault_at : ℕ → TokenFault → AsmFault
 fault_at column token.Bad = line.BadField column
 fault_at column token.Range = line.Range column

@@ -42,8 +42,8 @@ handles_in (suc count) tokens = do
   others ← handles_in count first.1
   Ok (first.0 ∷ others.0, others.1)
 
--- the entries in the first tokens, at most `most`, up to the first token that does not begin like
--- an entry
+-- the entries at the beginning of the tokens, and the remaining tokens. There are at most `most`
+-- entries, and they end before the first token that does not begin like an entry
 unfoldable pub entry_tokens_in : ℕ → List Token → Result (List Entry × List Token) AsmFault
 entry_tokens_in zero tokens = Ok ([], tokens)
 entry_tokens_in (suc most) [] = Ok ([], [])
@@ -90,8 +90,8 @@ assembled line = do
   fits ← refused_if (nat_lt buffer_limit (command_size command)) fault.TooLong
   Ok (command_text command)
 
--- A call returned the encoding of the command that a line encodes, or NoMemory instead; or it
--- returned the fault of the line.
+-- A call returned the encoding of the command that a line encodes, or the fault of the line.
+-- Instead of the encoding, it may have returned NoMemory.
 abbrev pub Assembles : {X : Type 0} → (X → List ℕ)
     → Result (List ℕ) AsmFault → Result X AsmFault → Type 0
 Assembles view (Ok text) (Ok buffer) = view buffer ≡ text

@@ -24,7 +24,7 @@ use Rattle.tpm_number.specs.Number.{is_word, number_in}
 use Rattle.tpm_text.specs.Hex.{bytes_in, hex_in}
 use Rattle.tpm_text.specs.Pieces.{colon, comma, each_in, pieces_of, plus}
 
--- the encoding of the number in a token; the number is at most `most`
+-- the encoding of the number in a token; the number must be at most `most`
 abbrev pub number_text : Width → (most : ℕ) → List ℕ → Result (List ℕ) TokenFault
 number_text width most token = do
   number ← number_in most token
@@ -70,7 +70,7 @@ hash_and_rest_in piece = do
   hash ← hash_in (take place piece)
   Ok (hash, drop (place + 1) piece)
 
--- the PCR selection for PCR numbers that are separated by commas; each is at most 23
+-- the PCR selection for PCR numbers that are separated by commas; each number must be at most 23
 unfoldable pub pcrs_in : List ℕ → Result ℕ TokenFault
 pcrs_in numbers = do
   pcrs ← each_in (number_in 23) (pieces_of comma numbers)

@@ -13,8 +13,8 @@ use Rattle.tpm_step.specs.step.Events.{PlainEvent, Given, Cycled, Placed}
 use Rattle.tpm_step.specs.step.Step.{Stepped}
 use Rattle.tpm_step.specs.declared.event.Row.{Row}
 
--- A row of the table consists of the number of a supported command, or 0 for none, and the number
--- of the check that refused the command, or 0 for none.
+-- A row of the table. It consists of the number of a supported command, or 0; and the number of the
+-- check that refused the command, or 0 if no check did.
 abbrev pub IsRow : Row → Type 0
 IsRow row =
     ((row.code ≡ 0) ⊎ ((code : CommandCode) × (row.code ≡ code_number code)))
@@ -30,12 +30,12 @@ IsAnswered (Placed object) response = Unit {0}
 abbrev pub IsTraceable : PlainEvent → Stepped → Type 0
 IsTraceable event x = IsRow x.row × IsAnswered event x.response
 
--- the name of the command with this number, or `?` if there is none
+-- the name of the command with this number, or `?` if no command has this number
 unfoldable pub name_text : ℕ → List ℕ
 name_text number = unwrap_or (option_map code_name (code_named number)) (codes "?")
 
--- the name of the check with this number: `ok` if no check refused; G1 to G11 for the checks of
--- every command, A1 to A7 for the command's own checks, and M for a failed allocation
+-- the name of the check with this number: `ok` if no check refused the command; G1 to G11 for the
+-- checks of every command, A1 to A7 for the command's own checks, and M for a failed allocation
 unfoldable pub check_text : ℕ → List ℕ
 check_text number =
     if number == 0 then codes "ok"

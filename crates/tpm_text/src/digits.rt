@@ -19,8 +19,8 @@ fn are_hex_digits(bytes: &[u8]) -> bool
     bytes.iter().all(|byte| is_hex_digit(*byte))
 }
 
-/// Checks, without decoding, that there is an even number of hex digits of either case. The fault
-/// is Bad if this fails.
+/// Checks, without decoding, that the digits are hex digits of either case, and that their number
+/// is even. Otherwise, the fault is Bad.
 #[tactic(auto, using(crate::proofs::HexDigits::hex_digits))]
 pub fn check_hex(digits: &[u8]) -> Result<(), TokenFault>
     ensures { IsChecked (hex_in digits.now) result }

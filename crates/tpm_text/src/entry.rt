@@ -50,7 +50,7 @@ pub fn handle_in(token: &[u8]) -> Result<Handle, TokenFault>
     }
 }
 
-/// Parses an octet of two hex digits.
+/// Parses an octet that is written as two hex digits.
 #[tactic(auto, unfolding(crate::specs::Entry::octet_in))]
 fn octet_in(piece: &[u8]) -> Result<u8, TokenFault>
     ensures { Gives (λ octet. octet) (octet_in piece.now) result }

@@ -35,7 +35,7 @@ impl From<AllocError> for AsmFault {
     }
 }
 
-/// Returns the fault of a line, from the fault of its token at this column.
+/// Returns the fault of a line whose token at this column has this fault.
 pub fn fault_at(column: usize, fault: TokenFault) -> AsmFault
     ensures { result ≡ fault_at column fault }
 {

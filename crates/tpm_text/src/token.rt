@@ -17,7 +17,7 @@ pub fn position_of(byte: u8, bytes: &[u8]) -> Option<usize>
     memchr(byte, bytes)
 }
 
-/// The text before the first separator, and the text after it, if there is a separator.
+/// The text before the first separator, and, if there is a separator, the text after it.
 #[tactic(auto, using(crate::proofs::Cutting::cuts))]
 pub fn cut(separator: u8, text: &[u8]) -> (&[u8], Option<&[u8]>)
     ensures pieces { pieces_of separator text.now ≡ result.0.now
@@ -52,7 +52,7 @@ pub struct Tokens<'a> {
 impl<'a> Token<'a> {
     ghost use Rattle.tpm_text.specs.Fault.{at_column};
 
-    /// Returns the result of reading this token. If it is a fault, adds the token's column.
+    /// Returns the result of reading this token. If the result is a fault, adds the token's column.
     pub fn told<T>(self, read: Result<T, TokenFault>) -> Result<T, AsmFault>
         ensures { result ≡ at_column self.entry.column read }
     {
@@ -79,7 +79,7 @@ impl<'a> Tokens<'a> {
         }
     }
 
-    /// Removes and returns the next token, or fails if there is none.
+    /// Removes and returns the next token, or fails if no token remains.
     pub fn wanted(&mut self) -> Result<Token<'a>, AsmFault>
         ensures { Takes token_of (tokens_left self.old) result (tokens_left self.new) }
     {

@@ -1,5 +1,5 @@
--- If a read returns a structure exactly when the input starts with its encoding, the same is true
--- of a sized buffer that contains only the structure.
+-- Suppose that a read returns a structure exactly when the input starts with the structure's
+-- encoding. Then the same is true of a sized buffer that contains only the structure.
 use Rattle.std.proofs.Common.{◌≡◌, ℕ, ◌^◌, ◌<◌, List, [], ◌∷◌, ◌++◌, length, Result, Ok, Err, refl, sym, ap, subst, ◌∙◌, append-nil, arith}
 use Rattle.std.specs.Prelude.{◌==◌, not}
 use Rattle.std.specs.Int.{w16, to_be_bytes}
@@ -23,7 +23,8 @@ none_left : (left : List ℕ) → length left ≡ 0 → left ≡ []
 none_left [] none = refl
 none_left (byte ∷ left) none = absurd (omega arith)
 
--- If the input consists of bytes, so does the content of the sized buffer at its start.
+-- If the input consists of bytes, and starts with a sized buffer, then the content of this buffer
+-- also consists of bytes.
 content_fits : (bytes content rest : List ℕ) → AreBytes bytes → Takes bytes (sized_text content) rest → AreBytes content
 content_fits bytes content rest fits t =
     let size = to_be_bytes w16 (length content) in

@@ -1,4 +1,4 @@
--- A lookup by wire number finds a value with that number, and each value is found by its own
+-- A lookup by wire number finds only a value that has this number. Each value is found by its own
 -- number.
 use Rattle.std.proofs.Common.{◌≡◌, ℕ, ◌<◌, ◌^◌, Bool, true, false, cond, List, Option, Some, None, Ok, refl, ap, subst, ◌∙◌, arith}
 use Rattle.std.specs.Prelude.{◌==◌, ok_or}
@@ -15,8 +15,8 @@ use Rattle.tpm_types.specs.Algorithm.{hash_named, hash_number, hash_or_null_name
 use Rattle.tpm_types.specs.Rc.{plain}
 use Rattle.tpm_types.proofs.Spelled.{Spelled}
 
--- If a search finds only values with the given number, so does the search that first tests one more
--- value.
+-- Suppose that a search finds only values with the given number. Then a search that first tests one
+-- more value also finds only values with this number.
 pub link : {A : Type 0} (number_of : A → ℕ) (number : ℕ) (first : A) (others : Option A) (x : A) → ((o : A) → others ≡ Some o → number ≡ number_of o) → cond (number == number_of first) (Some first) others ≡ Some x → number ≡ number_of x
 link number_of number first others x after = chosen (number == number_of first) refl
   where

@@ -11,16 +11,17 @@ pub record Spelled {A E : Type 0} (text : A → List ℕ) (Is : A → Type 0) (a
   pub taken : IsTaken text Is at
   pub again : IsAgain text Is at
 
--- After the first fields were read, a read of the other fields returns a value exactly when the
--- value is valid and contains the first fields, and the input starts with the encoding of the other
--- fields.
+-- This is `Spelled` for the fields that are read after some first fields. A read returns a value
+-- exactly when three conditions hold: the value is valid; it contains the first fields; and the
+-- input starts with the encoding of the other fields.
 pub record Behind {B C E : Type 0} (seen : B → C) (text : B → List ℕ) (Is : B → Type 0) (at : C → List ℕ → Result (B × List ℕ) E) : Type 0 where
   pub taken : (before : C) (bytes : List ℕ) (x : B × List ℕ) → AreBytes bytes → at before bytes ≡ Ok x → Takes bytes (text x.0) x.1 × Is x.0 × (seen x.0 ≡ before)
   pub again : (x : B) (rest : List ℕ) → Is x → at (seen x) (text x ++ rest) ≡ Ok (x, rest)
 
 -- ---- one field after another
 
--- After the last field, nothing remains to be read, and the fields make up the whole value.
+-- `Behind` holds after the last field: nothing remains to be read, and the fields make up the whole
+-- value.
 pub all_read : {B C E : Type 0} (seen : B → C) (made : C → B) → ((c : C) → seen (made c) ≡ c) → ((x : B) → made (seen x) ≡ x) → Behind {E = E} seen (λ _. []) (λ _. Unit {0}) (λ c bytes. Ok (made c, bytes))
 all_read {B} {C} {E} seen made same whole = record {
   taken = λ before bytes x fits e. subst (λ (y : B × List ℕ). Takes bytes [] y.1 × Unit {0} × (seen y.0 ≡ before)) (ok_is {E = E} (made before, bytes) x e) (record { parts = refl; rest_fits = fits }, tt, same before);
@@ -44,8 +45,8 @@ then {A} {B} {C} {E} {text} {Is} {at} {seen} {others} {Are} {behind} field next 
       ∙ next.again x rest are.1;
 }
 
--- `Spelled` holds for a whole structure if it holds for the first field, and if `Behind` holds for
--- the other fields, which may depend on the first.
+-- `Spelled` holds for a whole structure, if it holds for the first field, and `Behind` holds for
+-- the other fields. How the other fields are read may depend on the first field.
 pub first : {A B E : Type 0} {text : A → List ℕ} {Is : A → Type 0} {at : List ℕ → Result (A × List ℕ) E} {seen : B → A} {others : B → List ℕ} {Are : B → Type 0} {behind : A → List ℕ → Result (B × List ℕ) E} → Spelled text Is at → Behind seen others Are behind → Spelled (λ x. text (seen x) ++ others x) (λ x. Is (seen x) × Are x) (λ bytes. at bytes >>= λ a. behind a.0 a.1)
 first {A} {B} {E} {text} {Is} {at} {seen} {others} {Are} {behind} field next = record {
   taken = λ bytes x fits e.
@@ -61,8 +62,8 @@ first {A} {B} {E} {text} {Is} {at} {seen} {others} {Are} {behind} field next = r
       ∙ next.again x rest are.1;
 }
 
--- `Behind` holds for the remaining fields if `Spelled` holds for them, no matter what the fields
--- before them contain.
+-- If `Spelled` holds for the remaining fields, whatever the fields before them contain, then
+-- `Behind` holds for the remaining fields.
 pub for_each : {B C E : Type 0} (seen : B → C) (text : B → List ℕ) (Is : B → Type 0) (at : C → List ℕ → Result (B × List ℕ) E) → ((c : C) → Spelled text (λ x. Is x × (seen x ≡ c)) (at c)) → Behind seen text Is at
 for_each seen text Is at each = record {
   taken = λ before bytes x fits e. let t = (each before).taken bytes x fits e in (t.0, t.1.0, t.1.1);

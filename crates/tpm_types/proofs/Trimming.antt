@@ -1,4 +1,5 @@
--- Trimming removes trailing zeros. Removing one zero first does not change the result.
+-- Trimming removes trailing zeros. If one trailing zero is removed before trimming, the result is
+-- the same.
 use Rattle.std.proofs.Common.{◌≡◌, ◌≢◌, ℕ, zero, suc, ◌+◌, ◌-◌, ◌<◌, ◌≤◌, List, [], ◌∷◌, ◌++◌, length, take, reverse, get_or, refl, sym, ap, ◌∙◌, arith}
 use Rattle.std.proofs.lemmas.List.{reverse-append, reverse-reverse, take_more}
 use Rattle.tpm_types.specs.AuthValue.{trimmed, without_first_zeros}
@@ -30,8 +31,8 @@ trimmed_other bytes (suc last) some =
 front_more : (bytes : List ℕ) (size : ℕ) → 0 < size → size ≤ length bytes → take size bytes ≡ take (size - 1) bytes ++ get_or bytes (size - 1) 0 ∷ []
 front_more bytes size some within = ap (λ (n : ℕ). take n bytes) (let next : size ≡ size - 1 + 1 = omega arith in next) ∙ take_more bytes (size - 1) 0 (omega arith)
 
--- If the last byte of a prefix is zero, trimming the prefix with or without that byte has the same
--- result.
+-- If the last byte of a prefix is zero, trimming the prefix has the same result as trimming the
+-- prefix without this byte.
 pub front_shorter : (bytes : List ℕ) (size : ℕ) → 0 < size → size ≤ length bytes → get_or bytes (size - 1) 0 ≡ 0 → trimmed (take size bytes) ≡ trimmed (take (size - 1) bytes)
 front_shorter bytes size some within last = ap trimmed (front_more bytes size some within) ∙ trimmed_zero (take (size - 1) bytes) _ last
 

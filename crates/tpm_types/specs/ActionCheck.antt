@@ -1,10 +1,10 @@
--- The numbers of the checks A1 to A7, which a command makes itself. A check's number is its
--- position among the checks in the command's section of TPM 2.0 Library, Part 3.
+-- The numbers of a command's own checks, A1 to A7. The number of a check is its position in the
+-- list of checks in the command's section of TPM 2.0 Library, Part 3.
 use Rattle.std.specs.Prelude.{ℕ, ◌==◌, if◌then◌else◌}
 use Rattle.tpm_types.specs.declared.action_check.ActionCheck.{ActionCheck}
 use Rattle.tpm_types.specs.declared.action_check.ActionCheck.TheVariants as action
 
--- the number of a check that a command makes itself
+-- the number of one of a command's own checks, from 1 for A1 to 7 for A7
 abbrev pub action_number : ActionCheck → ℕ
 action_number action.First = 1
 action_number action.Second = 2

@@ -16,7 +16,7 @@ hash_number Sha1 = 0x0004
 hash_number Sha256 = 0x000b
 
 -- whether an authPolicy of this size is allowed with this nameAlg: it must be empty, or have the
--- size of a digest of nameAlg
+-- digest size of nameAlg
 abbrev pub is_policy_size : HashAlg → (size : ℕ) → Bool
 is_policy_size name_alg size = size == 0 || size == digest_size name_alg
 

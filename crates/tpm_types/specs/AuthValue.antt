@@ -15,7 +15,7 @@ without_first_zeros (suc byte ∷ bytes) = suc byte ∷ bytes
 unfoldable pub trimmed : List ℕ → List ℕ
 trimmed bytes = reverse (without_first_zeros (reverse bytes))
 
--- Stored values are at most 32 bytes long and do not end in a zero.
+-- A stored value is at most 32 bytes long and does not end in a zero.
 abbrev pub IsAuthValue : List ℕ → Type 0
 IsAuthValue value = (length value ≤ 32) × (trimmed value ≡ value)
 

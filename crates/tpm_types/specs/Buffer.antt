@@ -23,6 +23,6 @@ or_sized_rc (Err fault) = Err (sized_rc fault)
 unfoldable pub buffer_at : ℕ → List ℕ → Result (List ℕ × List ℕ) Rc
 buffer_at limit text = or_sized_rc (sized_at limit text)
 
--- whether an optional value is present: its buffer is not empty
+-- whether an optional value is present, that is, its buffer is not empty
 abbrev pub is_given : List ℕ → Bool
 is_given bytes = not (length bytes == 0)

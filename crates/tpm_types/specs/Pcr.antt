@@ -1,4 +1,4 @@
--- PCRs and selections of them. TPM 2.0 Library, Part 2, sections 10.6.1 and 10.6.2: PCR n is bit n
+-- PCRs, and selections of PCRs. TPM 2.0 Library, Part 2, sections 10.6.1 and 10.6.2: PCR n is bit n
 -- mod 8 of octet n div 8. This is also bit n of the little-endian number that the octets encode.
 use Rattle.std.specs.Prelude.{◌≡◌, ℕ, ◌≤◌, ◌<◌, ◌^◌, ◌==◌, bit_or, Bool}
 use Rattle.std.specs.Prelude.{List, [], ◌∷◌, ◌++◌, take, Option, Some, None}

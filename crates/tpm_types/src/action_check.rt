@@ -1,10 +1,11 @@
-//! The checks A1 to A7, which a command makes itself, numbered in the order of the command's
-//! section of Part 3.
+//! A command's own checks, A1 to A7, numbered in the order in which the command's section of Part 3
+//! lists them.
 
 ghost use Rattle.std.specs.Prelude.{◌≡◌};
 
-/// One of the checks that a command makes itself, in addition to the checks of all commands. Its
-/// number is its position among the checks in the command's section of Part 3.
+/// One of a command's own checks, which the command makes in addition to the checks of all
+/// commands. The number of a check is its position in the list of checks in the command's section
+/// of Part 3.
 #[derive(Clone, Copy, PartialEq, Eq)]
 pub enum ActionCheck {
     First = 1,

@@ -24,7 +24,7 @@ pub fn hash_number(algorithm: HashAlg) -> u16
 }
 
 /// Whether an authPolicy of this size is allowed with this nameAlg: it must be empty, or have the
-/// size of a digest of nameAlg.
+/// digest size of nameAlg.
 pub fn is_policy_size(name_alg: HashAlg, size: usize) -> bool
     ensures { result ≡ is_policy_size name_alg size }
 {

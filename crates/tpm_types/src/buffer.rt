@@ -1,5 +1,5 @@
 //! Reads a sized buffer (TPM2B) by borrowing its bytes from the input, without a copy. Also
-//! defines the largest size of a digest.
+//! defines the maximum size of a digest.
 
 ghost use Rattle.std.specs.Prelude.{◌≤◌, IfOk, length};
 ghost use Rattle.tpm_bytes.specs.Reading.{Reads};
@@ -8,7 +8,7 @@ ghost use Rattle.tpm_types.specs.Buffer.{buffer_at};
 use crate::rc::{Rc, ResponseCode};
 use tpm_bytes::{Cursor, SizedFault};
 
-/// The largest size in bytes of a digest, and therefore of a nonce and of an HMAC.
+/// The maximum size in bytes of a digest, and therefore of a nonce and of an HMAC.
 pub const DIGEST_LIMIT: usize = 32;
 
 /// Reads a sized buffer of at most `limit` bytes (TPM2B of TPM 2.0 Library, Part 2, section 10.4).

@@ -5,7 +5,7 @@ ghost use Rattle.std.specs.Prelude.{◌≡◌};
 use crate::action_check::ActionCheck;
 
 /// The check that refused a command: one of G1 to G11, which apply to every command; one of A1 to
-/// A7, which the command makes itself; or M, out of memory. A row reports its number.
+/// A7, the command's own checks; or M, out of memory. A row reports its number.
 #[derive(Clone, Copy, PartialEq, Eq)]
 pub enum Check {
     /// G1: the buffer is shorter than a header, or longer than the limit.

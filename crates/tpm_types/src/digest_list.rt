@@ -12,10 +12,10 @@ use arrayvec::ArrayVec;
 use tpm_bytes::{Cursor, Full, Readable, Sink, append, read_many};
 use tpm_mac::Digest;
 
-/// The smallest number of digests in a list that can be read.
+/// The minimum number of digests in a list that can be read.
 pub const FEWEST_DIGESTS: u32 = 2;
 
-/// The largest number of digests in a list that can be read.
+/// The maximum number of digests in a list that can be read.
 pub const DIGEST_LIST_LIMIT: u32 = 8;
 
 /// A digest in a list, borrowed from the input.

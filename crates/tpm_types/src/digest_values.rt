@@ -14,7 +14,7 @@ use arrayvec::ArrayVec;
 use tpm_bytes::{Cursor, Full, Readable, Sink, read_many};
 use tpm_mac::HashAlg;
 
-/// The largest number of digests in a list: one for each hash algorithm.
+/// The maximum number of digests in a list: one for each hash algorithm.
 pub const DIGEST_VALUES_LIMIT: u32 = 2;
 
 /// A digest and its hash algorithm: TPMT_HA (Part 2, section 10.3.2).

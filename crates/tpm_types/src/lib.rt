@@ -6,14 +6,14 @@
 //! `tpm_types_object`, and the areas of NV indices in `tpm_types_nv`. Each structure has its own
 //! type. Its values are read from a [`tpm_bytes::cursor::Cursor`] and written to a
 //! [`tpm_bytes::sink::Sink`]. A [`refused::Refused`] is a refusal by any part of the device: the
-//! response code, the check that failed ([`check`]), and how the refusal counts for the protection
+//! response code, the check that failed ([`check`]), and how the refusal affects the protection
 //! against dictionary attacks.
 //!
 //! The crate uses `tpm_bytes` for the bytes and `tpm_mac` for digests and hash algorithms. A read
 //! returns the value, or the standard's response code for the first fault. A read or write that
-//! fails changes nothing. Each selection of PCRs, digest with its algorithm, list of digests and
-//! symmetric definition has exactly one encoding, and no other bytes decode to it. No function of
-//! this crate allocates memory.
+//! fails changes nothing. Each PCR selection, each digest with its algorithm, each list of digests
+//! and each symmetric definition has exactly one encoding, and no other bytes decode to it. No
+//! function of this crate allocates memory.
 
 pub mod action_check;
 pub mod action_fault;

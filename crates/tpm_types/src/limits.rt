@@ -6,36 +6,36 @@
 ghost use Rattle.std.specs.Prelude.{◌≡◌};
 ghost use Rattle.tpm_types.specs.Limits.{answer_limit, buffer_limit, data_limit, nv_data_limit, nv_index_limit, nv_space_limit, object_limit, persistent_limit, sensitive_limit, session_limit};
 
-/// The largest size in bytes of a command buffer and of a response.
+/// The maximum size in bytes of a command buffer and of a response.
 pub const BUFFER_LIMIT: usize = 4_096;
 
-/// The largest size in bytes of the data that one command accepts or returns: MAX_NV_BUFFER_SIZE
+/// The maximum size in bytes of the data that one command accepts or returns: MAX_NV_BUFFER_SIZE
 /// and MAX_DIGEST_BUFFER.
 pub const DATA_LIMIT: usize = 1_024;
 
-/// The largest size in bytes of a response's parameters. TPM2_NV_Read returns the longest
+/// The maximum size in bytes of a response's parameters. TPM2_NV_Read returns the longest
 /// parameters: a sized buffer of `DATA_LIMIT` bytes.
 pub const ANSWER_LIMIT: usize = DATA_LIMIT + 2;
 
-/// The largest size in bytes of an object's secret: a key, or sealed data (MAX_SYM_DATA).
+/// The maximum size in bytes of an object's secret: a key, or sealed data (MAX_SYM_DATA).
 pub const SENSITIVE_LIMIT: usize = 128;
 
-/// The largest number of sessions, of all types together.
+/// The maximum number of sessions, of all types together.
 pub const SESSION_LIMIT: usize = 16;
 
-/// The largest number of transient objects.
+/// The maximum number of transient objects.
 pub const OBJECT_LIMIT: usize = 8;
 
-/// The largest number of persistent objects.
+/// The maximum number of persistent objects.
 pub const PERSISTENT_LIMIT: usize = 16;
 
-/// The largest number of NV indices.
+/// The maximum number of NV indices.
 pub const NV_INDEX_LIMIT: usize = 64;
 
-/// The largest total size in bytes of the data of all NV indices.
+/// The maximum total size in bytes of the data of all NV indices.
 pub const NV_SPACE_LIMIT: usize = 16_384;
 
-/// The largest size in bytes of the data of one ordinary NV index.
+/// The maximum size in bytes of the data of one ordinary NV index.
 pub const NV_DATA_LIMIT: usize = 2_048;
 
 /// Each constant equals the number in `specs/Limits.antt`. This function is only a proof: it has no

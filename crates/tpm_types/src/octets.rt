@@ -1,4 +1,4 @@
-//! An owned copy of the bytes of a sized buffer (TPM2B). The type parameter `N` is the largest
+//! An owned copy of the bytes of a sized buffer (TPM2B). The type parameter `N` is the maximum
 //! size.
 
 ghost use Rattle.std.specs.Prelude.{◌≡◌, ◌≤◌, [], length};

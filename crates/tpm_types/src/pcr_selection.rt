@@ -13,7 +13,7 @@ use arrayvec::ArrayVec;
 use tpm_bytes::{Cursor, Full, Readable, Sink, read_many};
 use tpm_mac::HashAlg;
 
-/// The largest number of banks in a selection.
+/// The maximum number of banks in a selection.
 pub const BANK_LIMIT: u32 = 16;
 
 /// The selected PCRs of one bank: TPMS_PCR_SELECTION (Part 2, section 10.6.2).

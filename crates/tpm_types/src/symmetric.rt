@@ -27,7 +27,7 @@ impl SymmetricDefinition {
 
     /// Reads a symmetric definition. Fails with INSUFFICIENT if it is truncated; with SYMMETRIC if
     /// the algorithm is not NULL, AES or XOR; with VALUE if the key is not 128 bits long; with MODE
-    /// if the mode is not CFB; and with HASH if the hash algorithm is not supported.
+    /// if the mode is not CFB; or with HASH if the hash algorithm is not supported.
     pub fn read(text: &mut Cursor) -> Result<SymmetricDefinition, Rc>
         // The result is the decoded definition, or the first fault.
         ensures exact { Reads (λ definition. definition) (symmetric_at text.old) text.old
@@ -95,7 +95,7 @@ impl SymmetricDefinition {
 
     /// Reads the definition of a cipher, which must be AES. Fails with INSUFFICIENT if it is
     /// truncated; with SYMMETRIC if the algorithm is not AES; with VALUE if the key is not 128 bits
-    /// long; and with MODE if the mode is not CFB.
+    /// long; or with MODE if the mode is not CFB.
     #[tactic(auto, unfolding(crate::specs::Symmetric::cipher_at))]
     pub fn read_cipher(text: &mut Cursor) -> Result<SymmetricDefinition, Rc>
         ensures { Reads (λ definition. definition) (cipher_at text.old) text.old result text.new }

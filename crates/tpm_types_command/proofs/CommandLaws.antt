@@ -117,7 +117,8 @@ command_found old (Err fault) new fits reads = tt
 pub size_is : (c : Whole) (handles sessions : ℕ) → handles ≡ length c.handles → sessions ≡ length (sessions_text c.entries) → 10 + 4 * handles + sessions + length c.parameters ≡ command_size c
 size_is c handles sessions e f = omega (arith, command_size-is c, length-body c)
 
--- If a command fits in the buffer, the rest still fits once the header is written.
+-- If the sink has room for a whole command, it still has room for the rest of the command after the
+-- header is written.
 pub room_behind_header : (c : Whole) (capacity size : ℕ) (tag : Tag) (old one : List ℕ) → one ≡ old ++ header_text tag size c.code → length old + command_size c ≤ capacity → length one + 4 * length c.handles + length (sessions_text c.entries) + length c.parameters ≤ capacity
 room_behind_header c capacity size tag old one is room = rw is (omega (arith, command_size-is c, length-body c, length-append old (header_text tag size c.code), length-header_text tag size c.code))
 

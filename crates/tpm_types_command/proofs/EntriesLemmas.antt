@@ -23,8 +23,8 @@ moved : (front : List Entry) (x : Entry) (read : Result (List Entry) Rc) → beh
 moved front x (Err e) = refl
 moved front x (Ok y) = ap Ok (append_assoc front (x ∷ []) y)
 
--- Reading one more entry does not change the whole list: the entries already read, followed by the
--- entries in the remaining bytes.
+-- Reading one more entry does not change the list of all entries: first the entries that were
+-- already read, and then the entries in the remaining bytes.
 pub entry_more : (front : List Entry) (m n : ℕ) (x : Entry) (left rest : List ℕ) → m ≡ suc n → 0 < length left → entry_at left ≡ Ok (x, rest) → behind (front ++ x ∷ []) (entries_in n rest) ≡ behind front (entries_in m left)
 entry_more front m n x [] rest e some is = absurd (omega arith)
 entry_more front m n x (byte ∷ bytes) rest e some is =
@@ -62,7 +62,8 @@ no_entry = record { session = record { number = 0 }; nonce = record { ref_ptr = 
 pub entries_text-is : (entries : List AuthEntry) → entries_text (map entry_of entries) ≡ flat_map text_in entries
 entries_text-is entries = flat_map-map auth_entry_text entry_of entries
 
--- if the sizes in all entries fit in their size fields, so do the sizes in the entry at each index
+-- if the sizes in all entries fit in their size fields, the sizes in the entry at each index also
+-- fit
 pub sizes_at : (entries : List AuthEntry) (i : ℕ) (d : AuthEntry) → AllByRecursion HasSizes (map entry_of entries) → i < length entries → HasSizes (entry_of (get_or entries i d))
 sizes_at [] i d all below = absurd (omega arith)
 sizes_at (entry ∷ entries) zero d all below = all.0
@@ -72,8 +73,8 @@ sizes_push : (entries : List AuthEntry) (entry : AuthEntry) → AllByRecursion H
 sizes_push [] entry all one = (one, tt)
 sizes_push (first ∷ entries) entry all one = (all.0, sizes_push entries entry all.1 one)
 
--- If the sizes in the previous entries and in the next entry fit in their size fields, so do the
--- sizes in all these entries.
+-- If the sizes in the previous entries and in the next entry fit in their size fields, the sizes in
+-- all these entries fit.
 pub sizes_more : (entries : List AuthEntry) (i : ℕ) (d : AuthEntry) → i < length entries → AllByRecursion HasSizes (map entry_of (take i entries)) → HasSizes (entry_of (get_or entries i d)) → AllByRecursion HasSizes (map entry_of (take (i + 1) entries))
 sizes_more entries i d below all one = subst (λ (l : List AuthEntry). AllByRecursion HasSizes (map entry_of l)) (sym (take_more entries i d below)) (sizes_push (take i entries) (get_or entries i d) all one)
 

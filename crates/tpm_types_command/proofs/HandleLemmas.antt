@@ -20,8 +20,8 @@ behind_first number count first = handles_at (number + 1) count first.1 >>= λ o
 
 -- ---- reading handles
 
--- Reading one more handle does not change the whole list: the handles already read, followed by the
--- handles in the remaining bytes.
+-- Reading one more handle does not change the list of all handles: first the handles that were
+-- already read, and then the handles in the remaining bytes.
 pub handle_more : (front : List Handle) (place m n x : ℕ) (text rest : List ℕ) → m ≡ suc n → or_fault (number_at w32 text) (cut_at place) ≡ Ok (x, rest) → behind (front ++ record { number = x } ∷ []) (handles_at (place + 1) n rest) ≡ behind front (handles_at place m text)
 handle_more front place m n x text rest e is =
     moved front (record { number = x }) (handles_at (place + 1) n rest)

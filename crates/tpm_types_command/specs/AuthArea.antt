@@ -20,8 +20,8 @@ area_text entries = to_be_bytes w32 (length (entries_text entries)) ++ entries_t
 
 -- ---- reading an authorization area: every fault is AUTHSIZE
 
--- all entries in the bytes. Fails with AUTHSIZE if an entry is truncated, or if bytes are left
--- after this many entries
+-- all entries in the bytes; at most this many are allowed. Fails with AUTHSIZE if an entry is
+-- truncated, or if bytes are left after the last allowed entry
 abbrev pub entries_in : ℕ → List ℕ → Result (List Entry) Rc
 entries_in most [] = Ok []
 entries_in zero (byte ∷ bytes) = Err (plain code.Authsize)

@@ -62,8 +62,8 @@ entry_at text = do
     hmac.1,
   )
 
--- A write appends the whole encoding of an entry if the entry can be encoded and fits. Otherwise it
--- appends nothing.
+-- A write appends the whole encoding of an entry if the entry can be encoded and the encoding fits.
+-- Otherwise, the write appends nothing.
 abbrev pub PutsEntry : {E : Type 0} → ℕ → Entry → List ℕ → Result (Unit {0}) E → List ℕ → Type 0
 PutsEntry capacity e old result new =
     (IsOk result

@@ -120,8 +120,8 @@ command_at text = do
     [],
   )
 
--- A write appends the whole encoding of a command if the command can be encoded and fits. Otherwise
--- it appends nothing.
+-- A write appends the whole encoding of a command if the command can be encoded and the encoding
+-- fits. Otherwise, the write appends nothing.
 abbrev pub PutsCommand : {E : Type 0} → ℕ → Whole → List ℕ → Result (Unit {0}) E → List ℕ → Type 0
 PutsCommand capacity c old result new =
     (IsOk result ↔ (HasText c × (length old + command_size c ≤ capacity)))

@@ -9,10 +9,10 @@ use arrayvec::ArrayVec;
 use tpm_bytes::Cursor;
 use tpm_types::{Rc, ResponseCode};
 
-/// The largest number of entries in an authorization area.
+/// The maximum number of entries in an authorization area.
 pub const ENTRY_LIMIT: usize = 3;
 
-/// The smallest size in bytes of an authorization area: one entry with an empty nonce and HMAC.
+/// The minimum size in bytes of an authorization area: one entry with an empty nonce and HMAC.
 pub const LEAST_AREA: usize = 9;
 
 /// The authorization area of a command with sessions: authorizationSize, then one to three entries

@@ -1,5 +1,5 @@
 //! A whole command: its code, handles, authorization entries and parameters (TPM 2.0 Library, Part
-//! 1, section 18). Submodules read and write it.
+//! 1, section 18). The submodules read and write commands.
 
 ghost use Rattle.std.specs.Prelude.{◌≡◌, length};
 ghost use Rattle.tpm_commands.specs.CommandCode.{handle_count};

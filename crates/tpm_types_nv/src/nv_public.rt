@@ -18,7 +18,7 @@ pub struct NvPublic {
     pub name_alg: HashAlg,
     pub attributes: NvAttributes,
     pub auth_policy: Octets<32>,
-    /// The size of the data after the first write.
+    /// The size of the index's data once it has been written.
     pub data_size: u16,
 }
 
@@ -43,8 +43,8 @@ impl NvPublic {
         NvPublic::read_fields(text)
     }
 
-    /// Reads a public area that fills a sized buffer (TPM2B_NV_PUBLIC). Fails as
-    /// [`tpm_types::read_filled`] does.
+    /// Reads a public area that fills a sized buffer (TPM2B_NV_PUBLIC). Fails under the same
+    /// conditions as [`tpm_types::read_filled`].
     pub fn read_sized(text: &mut Cursor) -> Result<NvPublic, Rc>
         ensures exact { Reads (λ public. public) (filled_by nv_public_at text.old) text.old
             result text.new }

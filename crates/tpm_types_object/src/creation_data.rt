@@ -50,7 +50,8 @@ impl CreationData {
         CreationData::read_fields(text)
     }
 
-    /// Reads creation data that fill a sized buffer (TPM2B). Fails as [`read_filled`] does.
+    /// Reads creation data that fill a sized buffer (TPM2B). Fails under the same conditions as
+    /// [`read_filled`].
     pub fn read_sized(text: &mut Cursor) -> Result<CreationData, Rc>
         ensures exact { Reads (λ creation. creation) (filled_by creation_data_at text.old) text.old
             result text.new }

@@ -227,7 +227,8 @@ impl Public {
         Public::read_fields(text)
     }
 
-    /// Reads a public area that fills a sized buffer (TPM2B). Fails as [`read_filled`] does.
+    /// Reads a public area that fills a sized buffer (TPM2B). Fails under the same conditions as
+    /// [`read_filled`].
     pub fn read_sized(text: &mut Cursor) -> Result<Public, Rc>
         ensures exact { Reads (λ public. public) (filled_by public_at text.old) text.old
             result text.new }

@@ -43,7 +43,8 @@ impl Sensitive {
         Sensitive::read_fields(text)
     }
 
-    /// Reads a sensitive area that fills a sized buffer (TPM2B). Fails as [`read_filled`] does.
+    /// Reads a sensitive area that fills a sized buffer (TPM2B). Fails under the same conditions as
+    /// [`read_filled`].
     pub fn read_sized(text: &mut Cursor) -> Result<Sensitive, Rc>
         ensures exact { Reads (λ area. area) (filled_by sensitive_at text.old) text.old
             result text.new }

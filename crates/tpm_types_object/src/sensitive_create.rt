@@ -42,7 +42,8 @@ impl<'a> SensitiveCreate<'a> {
         SensitiveCreate::read_fields(text)
     }
 
-    /// Reads values that fill a sized buffer (TPM2B). Fails as [`read_filled`] does.
+    /// Reads values that fill a sized buffer (TPM2B). Fails under the same conditions as
+    /// [`read_filled`].
     pub fn read_sized(text: &mut Cursor<'a>) -> Result<SensitiveCreate<'a>, Rc>
         ensures exact { Reads sensitive_values_of (filled_by sensitive_create_at text.old) text.old
             result text.new }

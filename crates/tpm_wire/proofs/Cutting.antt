@@ -1,4 +1,4 @@
--- A stream is cut into the same buffers, regardless of which part of it is executed in between.
+-- How a stream is divided into buffers does not depend on when its buffers are executed.
 use Rattle.tpm_types.specs.Limits.{buffer_limit}
 use Rattle.std.proofs.Common.{◌≡◌, ℕ, ◌+◌, ◌<◌, ◌≤◌, Bool, true, false, List, [], ◌∷◌, ◌++◌, length, take, drop, Option, Some, None, refl, sym, ap, ◌∙◌, subst, append_assoc, append-nil, length-append, length-drop, arith, inl, inr}
 use Rattle.std.proofs.Math.Seq.{drop-append_seam, take-append_seam}
@@ -64,7 +64,7 @@ unfolding command_size
 buffer_bounds (t ∷ u ∷ a ∷ b ∷ c ∷ d ∷ bytes) n is = rw (← some_is _ _ is) (size_bounds (from_be_bytes w32 (a ∷ b ∷ c ∷ d ∷ [])))
 buffer_bounds bytes n is = absurd cc
 
--- ---- whole buffers, and incomplete ones
+-- ---- complete and incomplete buffers
 
 whole_at : (bytes : List ℕ) (n : ℕ) → buffer_size bytes ≡ Some n → is_whole bytes ≡ (n == length bytes)
 whole_at bytes n is = ap (λ (o : Option ℕ). option_map_or (λ size. size == length bytes) o false) is
@@ -90,8 +90,8 @@ completes done rest byte is = rw is refl
 length-one : (rest : List ℕ) (byte : ℕ) → length (rest ++ byte ∷ []) ≡ length rest + 1
 length-one rest byte = length-append rest (byte ∷ [])
 
--- If more bytes of a stream complete no buffer, the stream's cut contains the same buffers as
--- before.
+-- Further bytes that do not complete a buffer only extend the rest of a stream. The buffers stay
+-- the same.
 grows : (done : List (List ℕ)) (rest more all : List ℕ) → rest ++ more ≡ all → ((n : ℕ) → buffer_size all ≡ Some n → length all < n) → fold with_byte (begun done rest) more ≡ begun done all
 grows done rest [] all is less = ap (begun done) (sym (append-nil rest) ∙ is)
 grows done rest (byte ∷ more) all is less =
@@ -121,8 +121,8 @@ ends_here done grown more all n same here six =
     let last : is_last all ≡ is_last grown = rw (← same) (last_shorter grown more (omega (arith, here, six))) in
     rw (front, behind, last) refl
 
--- If more bytes of a stream complete a buffer, the stream's cut also contains that buffer and the
--- buffers after it.
+-- If further bytes complete a buffer, the stream is divided into the earlier buffers, this buffer,
+-- and the buffers in the bytes after it.
 completed : (done : List (List ℕ)) (rest more all : List ℕ) (n : ℕ) → rest ++ more ≡ all → buffer_size all ≡ Some n → length rest < n → n ≤ length all → fold with_byte (begun done rest) more ≡ fold with_byte (uncut (done ++ take n all ∷ []) (is_last all)) (drop n all)
 completed done rest [] all n is size less fits = absurd (omega (arith, ap length is, length-append rest []))
 completed done rest (byte ∷ more) all n is size less fits =
@@ -169,8 +169,8 @@ next_by taken size = option_and_then (λ n. cut_within n (is_last taken) taken) 
 next_is : (taken : List ℕ) (size : Option ℕ) (o : Option Cut) → buffer_size taken ≡ size → next_by taken (buffer_size taken) ≡ o → next_by taken size ≡ o
 next_is taken size o is e = sym (ap (next_by taken) is) ∙ e
 
--- Let `c` be the next buffer of a stream. The cut of the stream consists of the buffers executed
--- before, then this buffer, and then the cut of the rest.
+-- Suppose that `c` is the next buffer of a stream. Then the stream is divided into the executed
+-- buffers, this buffer, and the buffers in the bytes after it.
 pub cut_next : (done : List (List ℕ)) (s : Stream) (c : Cut) → next_of s ≡ Some c → cut_with done s ≡ cut_with (done ++ c.buffer ∷ []) c.after
 cut_next done s c is = by s.ended s.taken (buffer_size s.taken) refl is
   where
@@ -200,8 +200,8 @@ too_few n taken is = by (nat_le n (length taken)) refl is
 waits_for : (taken : List ℕ) → next_of (record { taken = taken; ended = false }) ≡ None → (n : ℕ) → buffer_size taken ≡ Some n → length taken < n
 waits_for taken none n size = too_few n taken (next_is taken (Some n) None size none)
 
--- If the next buffer of a stream is not complete, the cut of the stream has no further buffer, and
--- all bytes of the stream are its rest.
+-- If the next buffer of a stream is not complete, the stream has no further buffer, and the bytes
+-- that it stores are the rest.
 pub cut_last : (done : List (List ℕ)) (s : Stream) → next_of s ≡ None → cut_with done s ≡ record { buffers = done; rest = s.taken; ended = s.ended }
 cut_last done s none = by s.ended s.taken none
   where
@@ -250,8 +250,8 @@ next_shorter s c is = by s.ended s.taken (buffer_size s.taken) refl is
 
 -- ---- reading more bytes of a stream
 
--- Cutting a stream and then adding bytes to its cut has the same result as first adding the bytes
--- to the stream.
+-- Dividing a stream into buffers, and then adding bytes, has the same result as adding the bytes
+-- first.
 pub cut_fed : (done : List (List ℕ)) (s : Stream) (bytes : List ℕ) → fold with_byte (cut_with done s) bytes ≡ cut_with done (fed s bytes)
 cut_fed done s bytes = sym (fold-append with_byte (uncut done s.ended) s.taken bytes)
 
@@ -261,8 +261,8 @@ pub read_more : (read bytes : List ℕ) (done : List (List ℕ)) (s : Stream) �
 read_more read bytes done s is =
     fold-append with_byte (uncut [] false) read bytes ∙ ap (λ (c : Cutting). fold with_byte c bytes) is ∙ cut_fed done s bytes
 
--- If some buffers were cut off a stream, and then one more buffer was cut off, all these buffers
--- were cut off the original stream.
+-- Suppose that cutting the buffers `done` off a stream leaves the stream `t`. Then cutting off
+-- `done` and the next buffer of `t` leaves the bytes after that buffer.
 pub cuts_one : (s t : Stream) (done : List (List ℕ)) (u : Stream) (c : Cut) → CutsTo s done t → next_of t ≡ Some c → u ≡ c.after → CutsTo s (done ++ c.buffer ∷ []) u
 cuts_one s t done u c to is same before =
     to before ∙ cut_next (before ++ done) t c is
@@ -272,13 +272,13 @@ cuts_one s t done u c to is same before =
 pub cuts_none : (s : Stream) → CutsTo s [] s
 cuts_none s before = ap (λ (l : List (List ℕ)). cut_with l s) (sym (append-nil before))
 
--- After more bytes are read and more buffers are executed, all executed buffers are the first
--- buffers in the cut of all bytes.
+-- Suppose that more bytes are read, and then more buffers are executed. The bytes read so far are
+-- still divided into the executed buffers and the stream that is left.
 pub read_on : (read bytes : List ℕ) (done more : List (List ℕ)) (s t u : Stream) → cut_of read ≡ cut_with done s → t ≡ fed s bytes → CutsTo t more u → cut_of (read ++ bytes) ≡ cut_with (done ++ more) u
 read_on read bytes done more s t u is same to =
     read_more read bytes done s is ∙ ap (cut_with done) (sym same) ∙ to done
 
--- The cut of a stream keeps its buffers when more bytes are read; new buffers are added after them.
+-- When more bytes are read, the buffers of a stream stay the same, and new buffers may follow them.
 pub buffers_stay : (c : Cutting) (bytes : List ℕ) → (more : List (List ℕ)) × ((fold with_byte c bytes).buffers ≡ c.buffers ++ more)
 buffers_stay c [] = ([], sym (append-nil c.buffers))
 buffers_stay c (byte ∷ bytes) =

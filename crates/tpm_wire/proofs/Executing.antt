@@ -1,4 +1,4 @@
--- Lemmas about executions one after another, and about how serving ends.
+-- Lemmas about successive executions, and about how serving ends.
 use Rattle.std.proofs.Common.{◌≡◌, ◌≢◌, ℕ, List, [], ◌∷◌, ◌++◌, Bool, true, false, Option, Some, None, Result, Ok, Err, refl, sym, ap, ◌∙◌, subst, append_assoc, append-nil}
 use Rattle.std.proofs.KnownBytes.{Appends-trans}
 use Rattle.std.proofs.lemmas.Bool.{false≢true}
@@ -23,7 +23,7 @@ use Rattle.tpm_wire.specs.declared.host.Host.{Host}
 use Rattle.tpm_wire.proofs.Cutting.{buffers_stay, cut_next, cuts_one, read_on}
 use Rattle.tpm_wire.proofs.Folds.{folds_on}
 
--- ---- further executions after the first ones
+-- ---- executions that follow earlier executions
 
 pub buffers_more : (first more : List Execution) → buffers_of (first ++ more) ≡ buffers_of first ++ buffers_of more
 buffers_more first more = map-append (λ (one : Execution). buffer_in one.event) first more
@@ -38,14 +38,14 @@ written_more held mid holds first more written also =
 pub asks_more : {F : Type 0} (g : Asking F) (asked at asking : F) (first more : List Execution) → AsksForEach g asked first at → AsksForEach g at more asking → AsksForEach g asked (first ++ more) asking
 asks_more g asked at asking first more asks also = folds_on (Asks g) asked at asking first more asks also
 
--- After more bytes are read and more buffers are executed, all executed buffers are the first
--- buffers in the cut of all bytes.
+-- Suppose that more bytes are read, and then more buffers are executed. The bytes read so far are
+-- still divided into the buffers of all executions and the stream that is left.
 pub cut_more : (read bytes : List ℕ) (first more : List Execution) (s t u : Stream) → cut_of read ≡ cut_with (buffers_of first) s → t ≡ fed s bytes → CutsTo t (buffers_of more) u → cut_of (read ++ bytes) ≡ cut_with (buffers_of (first ++ more)) u
 cut_more read bytes first more s t u is same to =
     read_on read bytes (buffers_of first) (buffers_of more) s t u is same to
     ∙ ap (λ (done : List (List ℕ)). cut_with done u) (sym (buffers_more first more))
 
--- ---- a single further execution
+-- ---- one more execution
 
 pub leads_one : (can : Bool) (old r new : Record) (executions : List Execution) (buffer : List ℕ) (host : Host) (outcome : Outcome) → Leads can old executions r → Executes can r (given buffer host) (outcome_step new outcome) → Leads can old (executions ++ execution_of r buffer host new outcome ∷ []) new
 leads_one can old r new executions buffer host outcome leads executes =
@@ -106,8 +106,8 @@ holds_back_behind held mid holds first more written (answered, last, are, also) 
   written_more held mid holds first answered written also,
 )
 
--- If serving continues with further executions that end with a fault, serving as a whole ends with
--- that fault.
+-- If serving continues with further executions, and these end with a fault, then serving as a whole
+-- ends with that fault.
 pub ends_so : {F : Type 0} (g : Asking F) (held mid holds : Option (List ℕ)) (before after reader : Marks) (cut : Cutting) (asked at : F) (first more : List Execution) (asking : F) (left : Stream) (e : ServeFault) → cut ≡ cut_with (buffers_of (first ++ more)) left → AsksForEach g asked first at → Appends held mid (responses_of first) → Finishes g mid holds before after at more asking left (Err e) → Ends g held holds reader after cut asked (first ++ more) asking (Err e)
 ends_so g held mid holds before after reader cut asked at first more asking left fault.Write is asks written f =
     (are_first cut (buffers_of (first ++ more)) left is, f.1, asks_more g asked at asking first more asks f.0, loses_behind held mid holds first more written f.2)
@@ -127,7 +127,7 @@ notes_one notes old mid new executions one told also = FoldsTo-push notes old ex
 pub notes_more : {S : Type 0} (notes : S → Execution → S → Type 0) (old mid new : S) (first more : List Execution) → NotesEach notes old first mid → NotesEach notes mid more new → NotesEach notes old (first ++ more) new
 notes_more notes old mid new first more told also = folds_on notes old mid new first more told also
 
--- Serving ends with the fault of the first response that cannot be delivered.
+-- Serving ends with the fault of the first delivery that fails.
 pub unanswered : {F S : Type 0} (g : Asking F) (notes : S → Execution → S → Type 0) (failed : S → Bool) (held mid holds : Option (List ℕ)) (before at after : Marks) (asked asking : F) (witness told new : S) (executions : List Execution) (r left : Record) (buffer : List ℕ) (host : Host) (outcome : Outcome) (stream : Stream) (e : ServeFault) → AsksForEach g asked (executions ++ execution_of r buffer host left outcome ∷ []) asking → Appends held mid (responses_of executions) → NotesEach notes witness executions told → Delivers notes failed mid holds at after (execution_of r buffer host left outcome) told (Err e) new → Finishes g held holds before after asked (executions ++ execution_of r buffer host left outcome ∷ []) asking stream (Err e) × Notes notes failed witness (executions ++ execution_of r buffer host left outcome ∷ []) new (Err e)
 unanswered g notes failed held mid holds before at after asked asking witness told new executions r left buffer host outcome stream fault.Write asks written noted delivers =
     ((asks, delivers.2, lost_last held mid holds executions r left buffer host outcome written delivers.1), notes_one notes witness told new executions (execution_of r buffer host left outcome) noted delivers.0)
@@ -139,8 +139,8 @@ unanswered g notes failed held mid holds before at after asked asking witness to
 unanswered g notes failed held mid holds before at after asked asking witness told new executions r left buffer host outcome stream fault.Read asks written noted delivers = absurd delivers
 unanswered g notes failed held mid holds before at after asked asking witness told new executions r left buffer host outcome stream fault.Host asks written noted delivers = absurd delivers
 
--- If notifying a witness of further executions ends with a fault, then notifying it of all
--- executions ends with that fault.
+-- Suppose that a witness was notified of earlier executions. If its notification of further
+-- executions ends with a fault, its notification of all executions ends with that fault.
 pub notes_so : {S : Type 0} (notes : S → Execution → S → Type 0) (failed : S → Bool) (old mid new : S) (first more : List Execution) (e : ServeFault) → NotesEach notes old first mid → Notes notes failed mid more new (Err e) → Notes notes failed old (first ++ more) new (Err e)
 notes_so notes failed old mid new first more fault.Save told (others, last, are, at, also, fails) =
     (first ++ others, last, ap (λ (l : List Execution). first ++ l) are ∙ sym (append_assoc first others (last ∷ [])), at, notes_more notes old mid at first others told also, fails)

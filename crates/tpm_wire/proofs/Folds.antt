@@ -1,5 +1,5 @@
 -- Folding a relation over one list, and then over a second list, is the same as folding it over the
--- two lists joined.
+-- concatenation of both.
 use Rattle.std.proofs.Common.{List, [], ◌∷◌, ◌++◌, sym, subst}
 use Rattle.std.specs.List.{FoldsTo}
 

@@ -29,7 +29,8 @@ use Rattle.tpm_wire.specs.declared.turn.Turn.TheVariants.{Answer, Ended, Wants}
 use Rattle.tpm_wire.proofs.Cutting.{buffers_stay, cut_next, read_more}
 use Rattle.tpm_wire.proofs.Folds.{folds_on}
 
--- Both lists have the same length, and `IsServed` holds for each connection's stream and life.
+-- Both lists have the same length. For each connection number, `IsServed` holds for the
+-- connection's stream and life.
 record Serve (streams : List (Option Stream)) (lives : List (Option Life)) : Type 0 where
   pub many : length lives ≡ length streams
   pub each : (number : ℕ) → IsServed (at_place streams number) (at_place lives number)
@@ -226,8 +227,8 @@ new_served r = record { many = refl; each = none_served 8 }
 led_anew : (can : Bool) (r : Record) (calls : List Call) (new : Wire) → Schedules can (new_wire r) calls new → Led can (new_wire r) new (lives_after_all (free 8) calls) (events_in (free 8) calls)
 led_anew can r calls new run = schedule_led can (new_wire r) new (free 8) calls (new_served r) run
 
--- After every schedule, each connection has executed its buffers in order, one for each answer that
--- its turns returned.
+-- After every schedule, each connection has executed its buffers in order. The number of executed
+-- buffers is the number of answers that its turns returned.
 pub schedules_served : SchedulesAreServed
 schedules_served can r calls new run = (led_anew can r calls new run).served.each
 

@@ -10,8 +10,8 @@ use Rattle.tpm_wire.specs.declared.host.Host.{Host}
 use Rattle.tpm_wire.specs.declared.turn.Turn.{Turn}
 use Rattle.tpm_wire.specs.declared.turn.Turn.TheVariants.{Answer}
 
--- the history after a buffer was cut off and executed with the host's values: if the command was
--- accepted, the history has one more command
+-- the history after a buffer was cut off a stream, and executed with the host's values; the command
+-- is added to the history if it was accepted
 abbrev pub answered_history : Cut → Record → Host → Result Turn NoConnection → History → History
 answered_history c r host (Ok (Answer outcome)) history =
     recorded r (given c.buffer host) outcome.row.check history
@@ -26,8 +26,8 @@ abbrev pub stream_history : Option Stream → Record → Host → Result Turn No
 stream_history (Some s) r host result history = cut_history (next_of s) r host result history
 stream_history None r host result history = history
 
--- the history after a turn of the connection with this number: the connection's next buffer is
--- added, if it was complete and accepted
+-- the history after a turn of the connection with this number; the command in the connection's next
+-- buffer is added, if the buffer was complete and the command was accepted
 abbrev pub turn_history : Wire → ℕ → Host → Result Turn NoConnection → History → History
 turn_history old number host result history =
     stream_history (at_place old.streams number) old.machine host result history

@@ -48,8 +48,8 @@ Schedules can old calls new = FoldsTo (Does can) old calls new
 
 -- ---- facts that depend only on the calls and their results
 
--- the life of a connection: all bytes that it received since it was opened, and all outcomes that
--- its turns returned, in order
+-- the life of a connection: all bytes that it has received since it was opened, and all outcomes
+-- that its turns have returned, in order
 pub record Life : Type 0 where
   pub bytes : List ℕ
   pub answers : List Outcome
@@ -57,7 +57,8 @@ pub record Life : Type 0 where
 abbrev pub new_life : Life
 new_life = record { bytes = []; answers = [] }
 
--- the lives of the connections, with `change` applied to the life with this number
+-- the lives of the connections, with `change` applied to the life of the connection with this
+-- number
 abbrev pub with_life : List (Option Life) → ℕ → (Life → Life) → List (Option Life)
 with_life lives number change = slice_set lives number (option_map change (at_place lives number))
 
@@ -77,7 +78,8 @@ abbrev pub lives_after_all : List (Option Life) → List Call → List (Option L
 lives_after_all lives [] = lives
 lives_after_all lives (call ∷ calls) = lives_after_all (lives_after lives call) calls
 
--- the buffer that the connection executes next: the first buffer of its cut that has no answer yet
+-- the buffer that the connection executes next: the first buffer in its bytes that has no answer
+-- yet
 abbrev pub buffer_due : Life → List ℕ
 buffer_due l = unwrap_or (slice_get (cut_of l.bytes).buffers (length l.answers)) []
 
@@ -128,8 +130,8 @@ SchedulesLead = (can : Bool) (r : Record) (calls : List Call) (new : Wire)
     → IsRecord r → Schedules can (new_wire r) calls new
     → EventsLead can r (events_in (free 8) calls) new.machine
 
--- A connection's buffers were executed in order, one for each answer so far, and the connection
--- stores the bytes that follow them.
+-- A connection's buffers were executed in order. Their number is the number of answers so far. The
+-- connection stores the bytes that follow the executed buffers.
 abbrev pub IsServed : Option Stream → Option Life → Type 0
 IsServed None None = Unit {0}
 IsServed (Some s) (Some l) =
@@ -137,8 +139,8 @@ IsServed (Some s) (Some l) =
 IsServed None (Some l) = ⊥
 IsServed (Some s) None = ⊥
 
--- After every schedule, each connection has executed its buffers in order, one for each answer that
--- its turns returned.
+-- After every schedule, each connection has executed its buffers in order. The number of executed
+-- buffers is the number of answers that its turns returned.
 abbrev pub SchedulesAreServed : Type 0
 SchedulesAreServed = (can : Bool) (r : Record) (calls : List Call) (new : Wire)
     → Schedules can (new_wire r) calls new → (number : ℕ)

@@ -22,7 +22,7 @@ use Rattle.tpm_wire.specs.declared.host.Host.{Host}
 
 -- ---- the buffers that are executed
 
--- the buffer of an event; a power cycle and a placed object have none
+-- the buffer of an event; empty for a power cycle and for a placed object
 abbrev pub buffer_in : PlainEvent → List ℕ
 buffer_in (Given buffer locality elapsed random) = buffer
 buffer_in Cycled = []
@@ -59,7 +59,8 @@ AsksInVain {F} g old executions new =
 
 -- ---- the steps of serving
 
--- One read into a stream requested as many bytes as still fit.
+-- One read requested as many bytes as still fit into a stream. On success, the bytes that were read
+-- were added to the stream. On failure, the stream is unchanged.
 abbrev pub Fills : Option (List ℕ) → Option (List ℕ) → Marks → Marks
     → Stream → Result ℕ Failed → Stream → Type 0
 Fills had has before after old (Err failed) new =
@@ -84,8 +85,8 @@ Delivers notes failed held holds before after one old (Err fault.Write) new =
     notes old one new × AppendsFront held holds one.seen.response × (after.failed ≡ true)
 Delivers notes failed held holds before after one old (Err e) new = ⊥
 
--- The writer failed at the response of the last execution. All earlier responses were written
--- completely. A prefix of the last response, which may be empty, was written.
+-- The writer failed while writing the response of the last execution. All earlier responses were
+-- written completely. A prefix of the last response, which may be empty, was written.
 abbrev pub LosesLast : Option (List ℕ) → Option (List ℕ) → List Execution → Type 0
 LosesLast held holds executions =
     (answered : List Execution) × (lost : Execution) × (executions ≡ answered ++ lost ∷ [])
@@ -126,9 +127,9 @@ AreFirst done buffers = (others : List (List ℕ)) × (buffers ≡ done ++ other
 abbrev pub room_left : Cutting → ℕ
 room_left cut = buffer_limit - length cut.rest
 
--- One read returned a piece of the stream: at least one byte, and at most as many as fit. The bytes
--- read earlier do not end the stream, and all complete buffers in them are among the buffers
--- executed.
+-- One read returned a piece of the stream: at least one byte, and at most as many bytes as fit. The
+-- stream had not ended before. The complete buffers in the bytes read earlier are the first of the
+-- executed buffers.
 abbrev pub ReadsPiece : (done : List (List ℕ)) → (old piece new : List ℕ) → Type 0
 ReadsPiece done old piece new =
     (new ≡ old ++ piece) × (0 < length piece) × (length piece ≤ room_left (cut_of old))
@@ -141,13 +142,13 @@ abbrev pub AreFewer : List (List ℕ) → List (List ℕ) → Type 0
 AreFewer done buffers =
     (next : List ℕ) × (others : List (List ℕ)) × (buffers ≡ done ++ next ∷ others)
 
--- The reader was at its end when a read requested as many bytes as fit; or the stream ended.
+-- The stream ended; or the reader was at its end when a read requested as many bytes as fit.
 abbrev pub IsAtEnd : Marks → Cutting → Type 0
 IsAtEnd reader cut =
     ((reader.ended ≡ true) × (reader.room ≡ room_left cut)) ⊎ (cut.ended ≡ true)
 
--- The reader failed when a read requested as many bytes as fit; or the connection reached its limit
--- on reads that return bytes.
+-- The connection reached its limit on reads that return bytes; or the reader failed when a read
+-- requested as many bytes as fit.
 abbrev pub ReadsNoMore : Marks → Cutting → Type 0
 ReadsNoMore reader cut =
     ((reader.failed ≡ true) × (reader.room ≡ room_left cut)) ⊎ (reader.reads ≡ 1048576)
@@ -184,8 +185,8 @@ Ends g held holds reader writer cut asked executions asking (Err fault.Full) = �
 -- A connection was served: pieces were read from the reader, each in one read, within the limit on
 -- reads for one connection. The pieces are joined and cut into buffers, and the first of these
 -- buffers were executed. The executions change the old record to the new one. If the old record
--- follows a history, the executions satisfy `StretchFollows` after it. `Ends` defines how serving
--- ended.
+-- follows a history, the executions satisfy `StretchFollows` after that history. `Ends` defines how
+-- serving ended.
 pub record Serves {F : Type 0} (g : Asking F) (can : Bool) (had has held holds : Option (List ℕ))
     (reader writer : Marks) (old : Record) (asked : F) (result : Result ℕ ServeFault)
     (new : Record) (asking : F) : Type 0

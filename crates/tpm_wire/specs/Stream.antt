@@ -1,5 +1,5 @@
--- The bytes of a connection, and the command buffers that they are cut into. TPM 2.0 Library,
--- Part 1, section 18 (command structure): after a tag of two bytes a command has commandSize, a
+-- The bytes of a connection, and how they are divided into command buffers. TPM 2.0 Library, Part
+-- 1, section 18 (command structure): after a tag of two bytes a command has commandSize, a
 -- four-byte number, which is the size of the whole command.
 use Rattle.tpm_types.specs.Limits.{buffer_limit}
 use Rattle.std.specs.Prelude.{◌≡◌, ℕ, ◌==◌, ◌-◌, ◌≤◌, ◌&&◌, nat_le, not, Bool, false}
@@ -9,12 +9,12 @@ use Rattle.std.specs.Int.{w32, from_be_bytes}
 use Rattle.std.specs.Option.{option_map_or}
 use Rattle.tpm_wire.specs.declared.front.Front.{Front}
 
--- commandSize of the command that begins with these bytes, if they include it
+-- commandSize of the command that begins with these bytes, if the bytes include commandSize
 unfoldable pub command_size : List ℕ → Option ℕ
 command_size (t ∷ u ∷ a ∷ b ∷ c ∷ d ∷ bytes) = Some (from_be_bytes w32 (a ∷ b ∷ c ∷ d ∷ []))
 command_size bytes = None
 
--- whether a buffer can have this size: at least the size of a header, at most the limit
+-- whether a buffer can have this size: at least the size of a header, and at most the limit
 abbrev pub is_size : ℕ → Bool
 is_size size = nat_le 10 size && nat_le size buffer_limit
 
@@ -32,47 +32,46 @@ buffer_size bytes = option_map size_by (command_size bytes)
 abbrev pub is_last : List ℕ → Bool
 is_last bytes = option_map_or (λ size. not (is_size size)) (command_size bytes) false
 
--- whether these bytes are exactly one complete buffer: their number is the size that `buffer_size`
--- finds
+-- whether these bytes are exactly one complete buffer: their number is the buffer's size
 abbrev pub is_whole : List ℕ → Bool
 is_whole bytes = option_map_or (λ size. size == length bytes) (buffer_size bytes) false
 
--- ---- the cut of a stream
+-- ---- dividing a stream into buffers
 
--- a stream cut into buffers: its complete buffers in order, and the bytes after the last of them.
--- If `ended` is true, no more buffers follow
+-- the division of a stream into buffers: its complete buffers, in order, and the remaining bytes.
+-- `ended` says that the stream has ended: no further buffer follows
 pub record Cutting : Type 0 where
   pub buffers : List (List ℕ)
   pub rest : List ℕ
   pub ended : Bool
 
--- a cut with these bytes as its rest; if the bytes are a complete buffer, they become one more
--- buffer of the cut instead
+-- a division with these bytes as its rest; but if the bytes are exactly one complete buffer, this
+-- buffer is added to the buffers, and the rest is empty
 abbrev pub with_rest : Cutting → List ℕ → Cutting
 with_rest c rest =
     if is_whole rest
     then record { buffers = c.buffers ++ rest ∷ []; rest = []; ended = is_last rest }
     else record c { rest = rest }
 
--- a cut after the stream received one more byte; if the stream has ended, the byte only extends the
--- rest
+-- a division after the stream received one more byte; if the stream has ended, the byte is only
+-- added to the rest
 unfoldable pub with_byte : Cutting → ℕ → Cutting
 with_byte c byte =
     let rest = c.rest ++ byte ∷ [] in
     if c.ended then record c { rest = rest } else with_rest c rest
 
--- a cut that consists of these buffers, with no bytes after them
+-- a division that consists of these buffers, with no bytes after them
 abbrev pub uncut : List (List ℕ) → Bool → Cutting
 uncut buffers ended = record { buffers = buffers; rest = []; ended = ended }
 
--- the cut of a stream with these bytes, computed byte by byte
+-- the division of a stream with these bytes into buffers, computed byte by byte
 abbrev pub cut_of : List ℕ → Cutting
 cut_of bytes = fold with_byte (uncut [] false) bytes
 
--- ---- the part of its stream that a connection stores
+-- ---- the part of a stream that a connection stores
 
--- the part of its stream that a connection stores: the bytes that were received but not yet
--- executed, and whether the stream has ended, so that no more buffers follow
+-- the part of a stream that a connection stores: the bytes that were received but not yet executed.
+-- `ended` says that the stream has ended: no further buffer follows
 pub record Stream : Type 0 where
   pub taken : List ℕ
   pub ended : Bool
@@ -102,7 +101,7 @@ cut_at size last bytes = record {
   after = record { taken = drop size bytes; ended = last };
 }
 
--- cuts off the first `size` bytes as a buffer, if there are enough
+-- cuts off the first `size` bytes as a buffer, if there are that many bytes
 abbrev pub cut_within : ℕ → Bool → List ℕ → Option Cut
 cut_within size last bytes =
     if nat_le size (length bytes) then Some (cut_at size last bytes) else None
@@ -119,10 +118,10 @@ abbrev pub IsFront : Stream → Option Front → Type 0
 IsFront s None = next_of s ≡ None
 IsFront s (Some f) = (f.size ≤ length s.taken) × (next_of s ≡ Some (cut_at f.size f.last s.taken))
 
--- ---- the cut, and what a connection stores
+-- ---- the division of a whole stream, and what a connection stores
 
--- the cut of a whole stream: the executed buffers `done`, followed by the cut of the remaining
--- stream `s`
+-- the division of a whole stream into buffers: first the executed buffers `done`, and then the
+-- buffers in the stored bytes of `s`
 abbrev pub cut_with : List (List ℕ) → Stream → Cutting
 cut_with done s = fold with_byte (uncut done s.ended) s.taken
 

@@ -37,7 +37,8 @@ wire_of record_of mux = record {
 abbrev pub new_wire : Record → Wire
 new_wire r = record { machine = r; streams = free 8 }
 
--- a machine and its connections, with the stream of this number replaced; None removes the stream
+-- a machine and its connections, after the stream with this number is replaced; None removes the
+-- stream
 abbrev pub with_stream : Wire → ℕ → Option Stream → Wire
 with_stream w number stream = record w { streams = slice_set w.streams number stream }
 

@@ -13,7 +13,7 @@ use tpm_bytes::append;
 use tpm_types::BUFFER_LIMIT;
 
 /// The received bytes of a connection that are not yet executed, and whether the connection has
-/// ended: no more buffers follow.
+/// ended, so that no more buffers follow.
 #[derive(Drop)]
 pub struct Connection {
     taken: ArrayVec<u8, BUFFER_LIMIT>,
@@ -39,7 +39,7 @@ impl Connection {
         }
     }
 
-    /// Whether the connection has ended: no more buffers follow.
+    /// Whether the connection has ended, so that no more buffers follow.
     pub fn has_ended(&self) -> bool
         ensures { result ≡ self.now.ended }
     {

@@ -19,11 +19,11 @@ pub enum ServeFault {
     Full,
     /// The reader failed, or the connection reached its limit on reads that return bytes.
     Read,
-    /// The writer failed while writing a response; its command has been executed.
+    /// The writer failed while writing the response to a command, which has been executed.
     Write,
     /// The host returned a fault for a command, which has not been executed.
     Host,
     /// The witness, which is notified of each command, failed. The command has been executed, but
-    /// nothing of its response was written.
+    /// no part of its response was written.
     Save,
 }

@@ -5,7 +5,7 @@ ghost use Rattle.tpm_wire.specs.Stream.{IsFront};
 
 use tpm_types::BUFFER_LIMIT;
 
-/// The smallest size of a command: the size of its header.
+/// The minimum size of a command: the size of its header.
 const HEADER_SIZE: usize = 10;
 
 /// The offset of the end of commandSize in a command.

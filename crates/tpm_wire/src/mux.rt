@@ -24,7 +24,7 @@ use tpm_machine::{Machine, SavesNothing, Unsaved, Witness};
 use tpm_record::Keep;
 use tpm_step::{Event, Outcome};
 
-/// The largest number of open connections.
+/// The maximum number of open connections.
 const CONNECTION_LIMIT: usize = 8;
 
 /// A machine with up to eight connections. Only the connections' turns and power cycles change
@@ -36,7 +36,7 @@ pub struct Mux<K: Keep> {
 }
 
 impl<K: Keep> Mux<K> {
-    /// Creates a `Mux` of a machine, without connections.
+    /// Creates a `Mux` for a machine, without connections.
     pub fn new(machine: Machine<K>) -> Mux<K>
         ensures { wire_of K.record_of result ≡ new_wire (state_of K.record_of machine) }
     {
@@ -92,8 +92,8 @@ impl<K: Keep> Mux<K> {
         ensures turns { Turns K.can_refuse (wire_of K.record_of self.old) (number_of connection)
             host result (wire_of K.record_of self.new) }
 
-        // If the machine followed a history, it still follows that history, extended by the
-        // buffer's command if a buffer was executed and its command was accepted.
+        // If the machine followed a history, it still follows that history. If a buffer was
+        // executed and its command was accepted, the command is added to the history.
         ensures history { (history : History)
             → Follows (wire_of K.record_of self.old).machine history
             → Follows (wire_of K.record_of self.new).machine (turn_history
@@ -102,7 +102,7 @@ impl<K: Keep> Mux<K> {
         self.take_turn(connection, host)
     }
 
-    /// Takes a turn like [`Mux::turn`], but its contract does not mention histories.
+    /// Like [`Mux::turn`], but with a contract that does not mention histories.
     #[inline(always)]
     fn take_turn(&mut self, connection: ConnectionNumber, host: Host) -> Result<Turn, NoConnection>
         ensures { Turns K.can_refuse (wire_of K.record_of self.old) (number_of connection) host

@@ -3,7 +3,7 @@
 ghost use Rattle.std.specs.Prelude.{◌≡◌, ◌<◌};
 
 /// The number of a connection, 0 to 7. After a connection is closed, its number refers to no
-/// connection until another connection is opened with it.
+/// connection until another connection is opened with the same number.
 #[derive(Clone, Copy, PartialEq, Eq)]
 pub struct ConnectionNumber {
     number: usize,

@@ -27,7 +27,7 @@ use tpm_record::Keep;
 use tpm_step::Outcome;
 use tpm_types::BUFFER_LIMIT;
 
-/// The largest number of reads that return bytes, for one connection.
+/// The maximum number of reads that return bytes, for one connection.
 const READS: u32 = 1_048_576;
 
 /// Serves one connection: reads buffers, executes each complete buffer with the host's values,
@@ -59,8 +59,8 @@ pub fn serve<K: Keep, R: Read, W: Write, H: FnMut() -> Result<Host, HostFault>>(
     serve_saving(mux, reader, writer, host, &mut SavesNothing)
 }
 
-/// Serves one connection like [`serve`], and notifies a witness of each command before its
-/// response is written. If the witness fails, nothing of that response is written.
+/// Serves one connection like [`serve`], and notifies a witness of each command before its response
+/// is written. If the witness fails, no part of that response is written.
 pub fn serve_saving<K: Keep, R: Read, W: Write, H: FnMut() -> Result<Host, HostFault>, S: Witness>(
     mux: &mut Mux<K>,
     reader: &mut Tap<R>,

@@ -35,7 +35,8 @@ use Rattle.tpmsim_script.specs.declared.fault.ScriptFault.TheVariants.{Line, Rea
 abbrev pub alone : Subject → Cause
 alone subject = record { subject = subject; error = None }
 
--- the fault with the number of a system error added to its cause; unchanged if it has no cause
+-- the fault with the number of a system error added to its cause; a fault without a cause is
+-- unchanged
 abbrev pub with_cause : Fault → Error → Fault
 with_cause (File cause) error = File (with_error cause error)
 with_cause (Socket cause) error = Socket (with_error cause error)
@@ -74,7 +75,8 @@ abbrev pub fault_of_line : AsmFault → Fault
 fault_of_line line.NoMemory = Memory
 fault_of_line fault = Asm fault
 
--- the fault if no line was found that encodes a buffer: there may be none, or memory ran out
+-- the fault if no line that encodes a buffer was found: there may be no such line, or memory ran
+-- out
 abbrev pub fault_of_spelling : SpellFault → Fault
 fault_of_spelling spelling.NoLine = NoLine
 fault_of_spelling spelling.NoMemory = Memory
@@ -92,8 +94,9 @@ abbrev pub fault_of_play : PlayFault → Fault
 fault_of_play (play.Script fault) = fault_of fault
 fault_of_play (play.Kept fault) = Kept fault
 
--- the exit status: 2 if the request is not valid, 3 if a file, a socket, a stream or memory caused
--- the failure, 4 if the contents of an image, a state text or a journal are not accepted
+-- the exit status for a fault: 2 if the request is not valid; 3 if a file, a socket, a stream or
+-- memory caused the failure; and 4 if the contents of an image, a state text or a journal are not
+-- accepted
 abbrev pub status_of : Fault → ℕ
 status_of Usage = 2
 status_of (ScriptLine number) = 2

@@ -1,4 +1,4 @@
--- Defines the check of a state text before its device replaces another device.
+-- Defines the check that a state text must pass before the device in it replaces another device.
 use Rattle.std.specs.Prelude.{◌≡◌, List, ℕ, Result, Ok, Err}
 use Rattle.tpm_state_text.specs.Body.{WholeState}
 use Rattle.tpm_state_text.specs.State.{state_of_text}

@@ -1,4 +1,4 @@
-//! Checks a script, which the program reads without running it.
+//! Checks a script without running it.
 
 use crate::fault::Fault;
 use std::io::Read;
@@ -6,8 +6,8 @@ use std::{fs, io};
 use tpmsim_image::Subject;
 use tpmsim_script::report_of;
 
-/// Prints the fault of each bad line of a script, which is in a file or on standard input. Ends as
-/// a run of the script would.
+/// Prints the fault of each bad line of a script, which is in a file or on standard input. Then
+/// returns the result that a run of the script would have.
 pub fn check_script(rt: &HostRuntime, script: &str) -> Result<(), Fault> {
     let text = Fault::file(Subject::Script).unless(read(rt, script))?;
     let report = report_of(rt.alloc(), text.as_slice())?;

@@ -1,5 +1,5 @@
 //! If the environment requests it, explains a fault: prints the path that the fault concerns, and
-//! the system's reason. The line of the fault itself does not change.
+//! the system's reason. The line that reports the fault itself does not change.
 
 use crate::fault::Fault;
 use std::{env, io};
@@ -90,7 +90,7 @@ fn front_of<'a>(arguments: &Arguments<'a>, subject: Subject) -> Option<&'a str> 
     }
 }
 
-/// Returns where the device of `run` or `serve` is kept.
+/// Returns where the device that `run` or `serve` uses is kept.
 fn place_of<'a>(arguments: &Arguments<'a>) -> Option<Place<'a>> {
     match arguments {
         Arguments::Serve(service) => Some(service.place),

@@ -29,11 +29,12 @@ pub enum Fault {
     Asm(AsmFault),
     /// No line encodes the buffer.
     NoLine,
-    /// The contents of the image's file are not an image.
+    /// The image file does not contain an image.
     Image(ImageFault),
-    /// The contents of the file that `restore` reads are not a state text.
+    /// The file that `restore` reads does not contain a state text.
     State(StateFault),
-    /// A file, or standard input or output, could not be opened, read or written.
+    /// A file could not be opened, read or written; or standard input could not be read; or
+    /// standard output could not be written.
     File(Cause),
     /// The socket could not be created, or could not accept a connection.
     Socket(Cause),
@@ -112,9 +113,9 @@ impl Fault {
         }
     }
 
-    /// Returns the exit status: 2 if the request is not valid, 3 if a file, a socket, a stream or
-    /// memory caused the failure, 4 if the contents of an image, a state text or a journal are not
-    /// accepted.
+    /// Returns the exit status for the fault. It is 2 if the request is not valid. It is 3 if a
+    /// file, a socket, a stream or memory caused the failure. It is 4 if the contents of an image,
+    /// a state text or a journal are not accepted.
     pub fn status(self) -> u8
         ensures { result ≡ status_of self }
     {

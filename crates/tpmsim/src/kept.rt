@@ -1,7 +1,7 @@
 //! A device that is kept in a folder. Its journal contains the device as it was when the journal
-//! began, and each command that was answered since. tpm_keeping decides each step in the folder,
-//! and proves that the device executed exactly the answered commands, whatever is killed, fails or
-//! crashes.
+//! began, and each command that has been answered since. tpm_keeping decides each step in the
+//! folder, and proves that the device executed exactly the answered commands, even if processes are
+//! killed, operations fail or the system crashes.
 //!
 //! [`Kept`] is a kept device, which performs the keeper's requests in the folder. Several processes
 //! can use one device at the same time. [`playing`] plays a script on it, and [`serving`] serves it

@@ -61,7 +61,7 @@ fn open_or_begin(kept: &mut Kept<'_>, entropy: &mut Entropy) -> Result<(), Fault
     Ok(kept.open()?)
 }
 
-/// Returns when the journal is synced to disk: before each response with `--save-each`, otherwise
+/// Returns when the journal is synced to disk: with `--save-each`, before each response; otherwise,
 /// only when the journal is restarted.
 fn force_of(service: &Service) -> Force {
     if service.saves_each {

@@ -7,7 +7,7 @@
 //!
 //! A device is kept in an image, or in a folder with its state. `power` power-cycles a device in a
 //! folder, `snapshot` and `restore` write and read its state text, and `script` prints its history.
-//! `replay` executes again the commands that were recorded.
+//! `replay` executes the recorded commands again.
 //!
 //! The results are on standard output. For `run`, each response is a line of hex. With `--trace`, a
 //! line that traces the command precedes it. For `check`, there is a line for each bad line. A run
@@ -85,7 +85,7 @@ fn report(rt: &HostRuntime, fault: Fault) -> Result<(), Fault> {
     Err(fault)
 }
 
-/// Executes a request of the command line.
+/// Executes the request that a command line makes.
 fn perform(rt: &HostRuntime, arguments: &Arguments<'_>) -> Result<(), Fault> {
     match arguments {
         Arguments::Run {

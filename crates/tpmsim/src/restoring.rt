@@ -1,4 +1,4 @@
-//! Writes the state text of the device in a folder, and replaces this device with the device of a
+//! Writes the state text of the device in a folder, and replaces this device with the device in a
 //! state text.
 
 ghost use Rattle.tpmsim.specs.Restoring.{IsChecked};
@@ -23,9 +23,9 @@ pub fn print_snapshot(rt: &HostRuntime, folder: &str) -> Result<(), Fault> {
     Fault::file(Subject::Output).unless(rt.stdout().write_all(text))
 }
 
-/// Replaces the device in a folder with the device of a state text in a file, or creates the device
-/// if there is none. Keeps `past` finished journals in the folder. If the text is refused, the
-/// folder stays unchanged.
+/// Replaces the device in a folder with the device in a state text, which is in a file. Creates the
+/// device if the folder contains none. Keeps `past` finished journals in the folder. If the text is
+/// refused, the folder stays unchanged.
 pub fn restore_snapshot(
     rt: &HostRuntime,
     folder: &str,

@@ -70,8 +70,8 @@ fn device_of(
     }
 }
 
-/// Opens the file of random bytes, if one is given. Then returns the device, whose image was in a
-/// file.
+/// Opens the file of random bytes, if one is given. Then returns the machine as a device whose
+/// image was in a file.
 fn with_entropy(
     rt: &HostRuntime,
     machine: Machine<SlotKeep>,

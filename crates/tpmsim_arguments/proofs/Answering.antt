@@ -39,7 +39,7 @@ no_run kind trace None storage e = cc
 no_run kind trace (Some s) None e = cc
 no_run kind trace (Some s) (Some kept) e = cc
 
--- if neither of two options is this request, the chosen option is not this request
+-- if neither of two requests is `wish`, the chosen request is not `wish`
 otherwise : {A : Type 0} (wish : A) (here : Bool) (this other : Option A) → (this ≡ Some wish → ⊥) → (other ≡ Some wish → ⊥)
     → (if here then this else other) ≡ Some wish → ⊥
 otherwise wish true this other one two e = one e
@@ -145,7 +145,8 @@ refused words kind Usage is (inl out) help version =
 refused words kind Usage is (inr among) help version =
     inl (kind, among, λ wish. elim wish [ inl h ↦ help h | inr v ↦ version v ])
 
--- a kind of error is help or the version, by a case distinction over all kinds
+-- if a kind of error is not different from both help and the version, it is one of the two; the
+-- proof distinguishes all kinds
 is_wish : (kind : ErrorKind) → ((kind ≢ DisplayHelp) × (kind ≢ DisplayVersion) → ⊥) → IsTold kind
 is_wish DisplayHelp never = inl refl
 is_wish DisplayVersion never = inr refl

@@ -1,4 +1,4 @@
--- Lemmas about what usual command lines request (`AskFor`), such as to assemble a line or to serve
+-- Lemmas about what common command lines request (`AskFor`), such as to assemble a line or to serve
 -- a device.
 use Rattle.std.proofs.Common.{◌≡◌, Bool, List, ◌∙◌, ℕ, ◌≤◌, refl, inl, inr, true, false, [], ◌∷◌, Some, None, Option, ap, ap₂, codes, option_map, option_and_then}
 use Rattle.std.proofs.lemmas.Bool.{le-leb}
@@ -59,12 +59,12 @@ pub damage_is_cut : (name state : Text) → begins_with_hyphen state ≡ false �
 unfolding clap_on_literals
 damage_is_cut name state e = rw (no_end state e, no_long state e, no_short state e) (refl, refl)
 
--- --keep accepts each number of journals up to 99
+-- --keep accepts every number of journals up to 99
 past_is : (keep : Text) (past : ℕ) → decimal_of keep ≡ Some past → past ≤ 99 → past_by (Some keep) ≡ Some past
 past_is keep past e small = rw (e, le-leb past 99 small) refl
 
--- the request of a command line `power` with this number of journals; None if the number is not
--- valid
+-- the request of a `power` command line that keeps this number of journals; None if the number is
+-- not valid
 abbrev with_past : (state : Text) → Option ℕ → Option Invocation
 with_past state past = option_and_then (λ count. Some (cycle_power state false count)) past
 
@@ -103,7 +103,7 @@ state_is_played name state = (refl, refl)
 locality_is : (number : ℕ) → number ≤ 4 → locality_of number ≡ Some number
 locality_is number small = rw (le-leb number 4 small) refl
 
--- the request of a command line `serve` with this locality and this number of connections; None if
+-- the request of a `serve` command line with this locality and this number of connections; None if
 -- one of the numbers is not valid
 abbrev pub with_numbers : (socket : Text) → Kept → (log : Option Text) → (entropy : Text) → Option ℕ → Option ℕ → Bool → Option Invocation
 with_numbers socket place log entropy locality connections saves = option_map serve (option_and_then (λ l. option_and_then (λ c.
@@ -179,8 +179,8 @@ pub folder_is_served : (name socket state : Text) → AskForFolder (short_line n
 unfolding clap_on_literals
 folder_is_served name socket state = (refl, refl)
 
--- the request of a command line `serve --complete` with this number of journals; None if the number
--- is not valid
+-- the request of a `serve --complete` command line that keeps this number of journals; None if the
+-- number is not valid
 abbrev completed : (socket state : Text) → Option ℕ → Option Invocation
 completed socket state past = option_map serve (option_and_then (λ place. option_and_then (λ log. option_and_then (λ completes.
     Some (record { socket = socket; place = place; log = log; entropy = codes "/dev/urandom"; locality = 0; connections = None; saves_each = false; completes = completes }))

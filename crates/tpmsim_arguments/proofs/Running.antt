@@ -1,4 +1,4 @@
--- A command line of `run` with a script after its options requests to run this script.
+-- A `run` command line with a script after its options is a request to run that script.
 use Rattle.std.proofs.Common.{◌≡◌, ◌∙◌, ◌++◌, ap, refl, sym, subst, true, false, codes, fold, List, [], ◌∷◌, Some, None, inl, inr, is_some, find, unwrap_or}
 use Rattle.clap.specs.Words.{Rule, Shape, Text}
 use Rattle.clap.specs.Kinds.{or_else}
@@ -45,7 +45,7 @@ run_fault : (rest : List Text) → walk_fault top top_names (walk_from nothing_h
 run_fault rest = step top top_names (walk_from nothing_held) (stopped_at (codes "run") []) (codes "run") rest run_turn run_met
     ∙ stopped_fault top top_names (codes "run") [] rest
 
--- what a command line of `run` requests, if the walk over its words ends in this state
+-- what a `run` command line requests, if the walk over its words ends in this state
 is_asked : (name : Text) (rest : List Text) (end : Walk) (asked : Invocation)
     → (walk run_shape.rules [] nothing_held rest ≡ end) × (walk_fault run_shape [] begun rest ≡ [])
     → or_else (settle_fault run_shape.rules run_shape.args_override_self end.held)
@@ -149,7 +149,7 @@ entropy_turn : (image entropy : Text) → turn_fault run_shape [] (walk_from (im
 unfolding clap_on_literals
 entropy_turn image entropy = refl
 
--- a request to run a script with traces, on the device of an image
+-- a request to run a script with traces, on the device in an image
 abbrev run_kept : (image entropy script : Text) → Invocation
 run_kept image entropy script = run script true (Some (record { place = in_image image; entropy = Some entropy }))
 

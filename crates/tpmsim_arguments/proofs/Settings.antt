@@ -1,5 +1,5 @@
--- A command line of `serve` requests to serve a device with its settings. Here each value is a
--- separate word, as in `--socket PATH`.
+-- A `serve` command line is a request to serve a device with the given settings. Here each value is
+-- a separate word, as in `--socket PATH`.
 use Rattle.std.proofs.Common.{◌≡◌, ◌∙◌, ◌++◌, ap, refl, sym, subst, true, false, Bool, codes, fold, List, [], ◌∷◌, Some, None, append-nil, append_assoc, is_some, find, unwrap_or}
 use Rattle.clap.specs.Words.{Row, Rule, Shape, Text}
 use Rattle.clap.specs.Kinds.{Kinds, or_else}
@@ -53,7 +53,7 @@ level s names words sub below w f e b r = rw (f, e, b) r
 
 -- ---- the words before the settings
 
--- the state of a walk that has reached a subcommand; the words after it are not read yet
+-- the state of a walk that has reached a subcommand, and has not yet read the words after it
 abbrev pub stopped_at : Text → List Text → Walk
 stopped_at name words = record (walk_from nothing_held) { stopped = Some (name, words) }
 
@@ -172,7 +172,7 @@ given₅ s i e l n p = value_walked serve_shape.rules (rows₄ s i e l) (codes "
 abbrev ended : (s i e l n : Text) → Walk
 ended s i e l n = walk_at (rows₄ s i e l) (codes "connections") (n ∷ []) idle
 
--- a walk over several words is the step over the first word, and then the walk over the others
+-- a walk over several words consists of the step over the first word and the walk over the others
 ahead : (w v : Walk) (word : Text) (rest : List Text) → W w word ≡ v → fold W w (word ∷ rest) ≡ fold W v rest
 ahead w v word rest e = ap (λ x. fold W x rest) e
 

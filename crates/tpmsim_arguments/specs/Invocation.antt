@@ -15,8 +15,8 @@ use Rattle.tpmsim_arguments.specs.declared.place.Place.TheVariants as place
 use Rattle.tpmsim_arguments.specs.declared.service.Service.{Service}
 use Rattle.tpmsim_arguments.specs.declared.storage.Storage.{Storage}
 
--- where a device is kept: in the file of its image; or in a folder with its state, in which this
--- many finished journals stay
+-- where a device is kept: in an image file; or in a folder with its state, in which this many
+-- finished journals stay
 pub data Kept : Type 0 where
   in_image : Text → Kept
   in_state : Text → (past : ℕ) → Kept
@@ -40,12 +40,13 @@ pub record Stored : Type 0 where
   pub entropy : Option Text
 
 -- what a command line requests: run a script, with or without its trace, on a device that is or is
--- not kept; check the lines of a script; print the buffer of a line; print the line of a buffer;
--- print the form in words of one command or of all; print the meaning of a response code; serve a
--- device; power-cycle the device in a folder, with or without dropping the journal after damage;
--- print the device's state text; replace the device by the device of a state text; print the
--- device's history as a script; execute again the commands that a journal recorded; print clap's
--- help or the version. `past` is the number of finished journals that stay in the folder
+-- not kept; check the lines of a script; print the buffer that a line encodes; print the line that
+-- encodes a buffer; print the form in words of one command or of all; print the meaning of a
+-- response code; serve a device; power-cycle the device in a folder, with or without dropping the
+-- journal after damage; print the device's state text; replace the device with the device in a
+-- state text; print the device's history as a script; execute again the commands that a journal
+-- recorded; print clap's help or the version. `past` is the number of finished journals that stay
+-- in the folder
 pub data Invocation : Type 0 where
   run : Text → Bool → Option Stored → Invocation
   check : Text → Invocation
@@ -72,7 +73,7 @@ infixl 10 ◌>>=◌
 abbrev pub ◌>>=◌ : {A B : Type 0} → Option A → (A → Option B) → Option B
 found >>= next = option_and_then next found
 
--- the number of finished journals that stay in a device's folder, if it is at most 99
+-- this number of finished journals to keep in a device's folder, if it is at most 99
 abbrev pub past_of : ℕ → Option ℕ
 past_of number = if nat_le number 99 then Some number else None
 
@@ -118,8 +119,8 @@ abbrev pub locality_by : Option Text → Option ℕ
 locality_by None = Some 0
 locality_by (Some digits) = decimal_of digits >>= locality_of
 
--- the number of connections, from its decimal digits; without digits it is None, which means no
--- limit
+-- the number of connections, from its decimal digits; without digits, the number is None, which
+-- means no limit
 abbrev pub connections_by : Option Text → Option (Option ℕ)
 connections_by None = Some None
 connections_by (Some digits) = option_map (λ count. Some count) (decimal_of digits)
@@ -143,8 +144,8 @@ service_in rows = do
     completes = completes;
   })
 
--- the files of a device that is kept, or none if it is not kept; without an image or a folder, a
--- file of random bytes and a number of journals are refused
+-- the files of the device: None if neither an image nor a folder is given, so that the device is
+-- not kept. In this case, a file of random bytes and a number of journals are refused
 abbrev pub stored_by : (image state keep entropy : Option Text) → Option (Option Stored)
 stored_by None None None None = Some None
 stored_by image state keep entropy = option_map
@@ -154,8 +155,8 @@ abbrev pub storage_in : List Row → Option (Option Stored)
 storage_in rows = stored_by (first_of (codes "image") rows) (first_of (codes "state") rows)
     (first_of (codes "keep") rows) (first_of (codes "entropy") rows)
 
--- the given script. If no script is given, the script of a device in a folder is standard input;
--- otherwise there is none
+-- the given script. If no script is given, the script for a device in a folder is standard input;
+-- for any other device, there is no script
 abbrev pub script_by : (script state : Option Text) → Option Text
 script_by (Some script) state = Some script
 script_by None (Some state) = Some (codes "-")
@@ -202,11 +203,11 @@ asked_of name rows = if bytes_eq name (codes "run") then run_in rows
 abbrev pub asked_in : Option (Text × List Row) → Option Invocation
 asked_in = option_and_then (λ command. asked_of command.0 command.1)
 
--- what these words request; the first of them is the program's name
+-- what these words request; the first word is the program's name
 abbrev pub asked_by : List Text → Option Invocation
 asked_by words = asked_in (subcommand_of program words)
 
--- ---- the values of the code, as the definitions see them
+-- ---- the values of the code, as the definitions represent them
 
 abbrev pub kept : Place → Kept
 kept (place.Image path) = in_image path.now

@@ -11,7 +11,7 @@ use Rattle.tpmsim_arguments.specs.Invocation.{Invocation, Kept, asked_by, in_ima
 abbrev pub AskFor : List Text → Invocation → Type 0
 AskFor words asked = AreTaken words × (asked_by words ≡ Some asked)
 
--- whether a word begins with a hyphen (45), as the name of an argument does
+-- whether a word begins with a hyphen (45), like the name of an argument
 abbrev pub begins_with_hyphen : Text → Bool
 begins_with_hyphen [] = false
 begins_with_hyphen (byte ∷ rest) = byte == 45
@@ -100,21 +100,21 @@ serve_line name socket image entropy locality connections = name ∷ codes "serv
     ∷ codes "--socket" ∷ socket ∷ codes "--image" ∷ image ∷ codes "--entropy" ∷ entropy
     ∷ codes "--locality" ∷ locality ∷ codes "--connections" ∷ connections ∷ []
 
--- the command line of `serve` with each value joined to its name, as in `--socket=SOCKET`
+-- the `serve` command line with each value joined to its name, as in `--socket=SOCKET`
 abbrev pub joined_line : (name socket image entropy locality connections : Text) → List Text
 joined_line name socket image entropy locality connections = name ∷ codes "serve"
     ∷ (codes "--socket=" ++ socket) ∷ (codes "--image=" ++ image)
     ∷ (codes "--entropy=" ++ entropy) ∷ (codes "--locality=" ++ locality)
     ∷ (codes "--connections=" ++ connections) ∷ []
 
--- the command line of `serve` with `--save-each` before the other arguments
+-- the `serve` command line with `--save-each` before the other arguments
 abbrev pub saving_line : (name socket image entropy locality connections : Text) → List Text
 saving_line name socket image entropy locality connections = name ∷ codes "serve"
     ∷ codes "--save-each" ∷ (codes "--socket=" ++ socket) ∷ (codes "--image=" ++ image)
     ∷ (codes "--entropy=" ++ entropy) ∷ (codes "--locality=" ++ locality)
     ∷ (codes "--connections=" ++ connections) ∷ []
 
--- the command line of `serve` with `--log=LOG` after the image
+-- the `serve` command line with `--log=LOG` after the image
 abbrev pub logging_line : (name socket image log entropy locality connections : Text) → List Text
 logging_line name socket image log entropy locality connections = name ∷ codes "serve"
     ∷ (codes "--socket=" ++ socket) ∷ (codes "--image=" ++ image) ∷ (codes "--log=" ++ log)
@@ -136,16 +136,16 @@ abbrev pub incomplete_line : (name socket image : Text) → List Text
 incomplete_line name socket image = name ∷ codes "serve" ∷ (codes "--socket=" ++ socket)
     ∷ (codes "--image=" ++ image) ∷ codes "--complete" ∷ []
 
--- the command line of `serve` with `--state=STATE` instead of the image
+-- the `serve` command line with `--state=STATE` instead of the image
 abbrev pub state_line : (name socket state entropy locality connections : Text) → List Text
 state_line name socket state entropy locality connections = name ∷ codes "serve"
     ∷ (codes "--socket=" ++ socket) ∷ (codes "--state=" ++ state)
     ∷ (codes "--entropy=" ++ entropy) ∷ (codes "--locality=" ++ locality)
     ∷ (codes "--connections=" ++ connections) ∷ []
 
--- If `locality` and `connections` are numbers in decimal, and the locality is at most 4, these
--- words request to serve a device that is kept in this place, with these settings. `saves_each`
--- says whether the device is saved before each response.
+-- These words request to serve a device that is kept in this place, with these settings. `locality`
+-- and `connections` must be decimal numbers, and the locality must be at most 4. `saves_each` says
+-- whether the device is saved before each response.
 abbrev pub AskForService : (words : List Text) (socket : Text) (place : Kept) (log : Option Text)
     (entropy locality connections : Text) (saves_each : Bool) → Type 0
 AskForService words socket place log entropy locality connections saves_each = (number count : ℕ)
@@ -165,9 +165,9 @@ AskForService words socket place log entropy locality connections saves_each = (
 abbrev pub AskForNothing : List Text → Type 0
 AskForNothing words = AreTaken words × (asked_by words ≡ None)
 
--- These words ask for the device in this folder to be served with the system's random bytes,
--- locality 0, and no limit on connections. The folder keeps the newest `past` finished journals.
--- `completes` says whether the completing layer is on.
+-- These words request to serve the device in this folder. The random bytes are the system's, the
+-- locality is 0, and there is no limit on connections. The folder keeps the newest `past` finished
+-- journals. `completes` says whether the completing layer is on.
 abbrev pub AskForFolder : (words : List Text) (socket state : Text) (past : ℕ) (completes : Bool)
     → Type 0
 AskForFolder words socket state past completes = AskFor words (serve (record {

@@ -59,7 +59,7 @@ pub enum Arguments<'a> {
     /// Serve a device on a socket, with these settings.
     Serve(Service<'a>),
     /// Power-cycle the device whose state is in this folder. With `cuts`, a damaged journal is
-    /// accepted, and the device is opened from the last whole record before the damage. `past` is
+    /// accepted, and the device is opened from the last complete entry before the damage. `past` is
     /// the number of finished journals that stay in the folder.
     Power {
         state: &'a str,
@@ -70,8 +70,9 @@ pub enum Arguments<'a> {
     Snapshot {
         state: &'a str,
     },
-    /// Put the device of the state text in this file into this folder, where it replaces the
-    /// device, if there is one. `past` is the number of finished journals that stay in the folder.
+    /// Restore the device in this folder from the state text in this file. A device that is already
+    /// in the folder is replaced. `past` is the number of finished journals that stay in the
+    /// folder.
     Restore {
         state: &'a str,
         text: &'a str,
@@ -187,8 +188,8 @@ fn run_of<'a>(options: &ArgMatches<'a>) -> Option<Arguments<'a>>
     })
 }
 
-/// Returns the script that the matches of `run` name. If they name none and the device's state is
-/// in a folder, the script is standard input.
+/// Returns the script that the matches of `run` name. If they name no script and the device's state
+/// is in a folder, the script is standard input.
 fn script_of<'a>(options: &ArgMatches<'a>) -> Option<&'a str>
     ensures { option_map (λ text. text.now) result ≡ script_in (rows_of (found_of options.now)) }
 {
@@ -221,8 +222,8 @@ fn restore_of<'a>(options: &ArgMatches<'a>) -> Option<Arguments<'a>>
     })
 }
 
-/// Returns where the device of `run` is kept, if it is kept, from the matches. Without an image or
-/// a folder, a file of random bytes and a number of journals are refused.
+/// Returns, from the matches, where the device that `run` uses is kept, if it is kept. Without an
+/// image or a folder, a file of random bytes and a number of journals are refused.
 fn storage_of<'a>(options: &ArgMatches<'a>) -> Option<Option<Storage<'a>>>
     ensures { option_map (option_map stored) result ≡ storage_in (rows_of (found_of options.now)) }
 {
@@ -281,7 +282,7 @@ fn past_of(number: u32) -> Option<u32>
     if number <= 99 { Some(number) } else { None }
 }
 
-/// Returns the place where the device of `serve` is kept, from the matches.
+/// Returns, from the matches, the place where the device that `serve` uses is kept.
 fn place_of<'a>(options: &ArgMatches<'a>) -> Option<Place<'a>>
     ensures { option_map kept result ≡ place_in (rows_of (found_of options.now)) }
 {
@@ -292,7 +293,7 @@ fn place_of<'a>(options: &ArgMatches<'a>) -> Option<Place<'a>>
     )
 }
 
-/// Returns the log of a device in this place, if one is requested. Only a device in an image can
+/// Returns the log of a device in this place, if a log is requested. Only a device in an image can
 /// have a log.
 fn log_by<'a>(place: Place<'_>, log: Option<&'a str>) -> Option<Option<&'a str>>
     ensures { option_map (option_map (λ text. text.now)) result
@@ -337,8 +338,8 @@ fn locality_by(digits: Option<&str>) -> Option<Locality>
     }
 }
 
-/// Returns the number of connections from these decimal digits. Without digits it is None, which
-/// means no limit.
+/// Returns the number of connections from these decimal digits. Without digits, the number is None,
+/// which means no limit.
 fn connections_by(digits: Option<&str>) -> Option<Option<u32>>
     ensures { result ≡ connections_by (option_map (λ text. text.now) digits.entry) }
 {

@@ -1,4 +1,4 @@
-//! What usual command lines request.
+//! Laws about what common command lines request.
 
 ghost use Rattle.std.specs.Prelude.{◌≡◌, ◌≤◌, ◌∷◌, List, [], None, Some, ℕ, codes, false, true};
 ghost use Rattle.tpm_number.specs.Number.{decimal_of};
@@ -15,7 +15,7 @@ ghost use Rattle.tpmsim_arguments.specs.Lines.{played_line, power_line, replay_l
 ghost use Rattle.tpmsim_arguments.specs.Lines.{run_line, saving_line, script_line, serve_line};
 ghost use Rattle.tpmsim_arguments.specs.Lines.{short_line, snapshot_line, state_line, trace_line};
 
-/// Each usual command line requests what a user expects, if no word except the names of settings
+/// Each common command line requests what a user expects, if no word except the names of settings
 /// begins with a hyphen. A script may be a single hyphen. A value that is joined to its name by `=`
 /// may be any text.
 #[inline(always)]

@@ -2,7 +2,7 @@
 
 //! The command line of the simulator: its subcommands and their options ([`command_line`]), what a
 //! command line requests ([`arguments`]), the settings with which a device is served on a socket
-//! ([`service`]), where the device of a script is kept ([`storage`], [`place`]), and why words are
+//! ([`service`]), where a script's device is kept ([`storage`], [`place`]), and why words are
 //! refused ([`fault`]).
 //!
 //! The crate uses `clap`, which matches the words, and opens no file. `specs/` defines what each

@@ -1,8 +1,8 @@
-//! Where the device of a script is kept.
+//! Where a script's device is kept.
 
 use crate::place::Place;
 
-/// The files of the device of a script.
+/// The files of the device on which a script is played.
 #[derive(Clone, Copy)]
 pub struct Storage<'a> {
     /// Where the device is kept between two runs.

@@ -8,7 +8,7 @@ use Rattle.tpmsim_folder.specs.declared.fault.Place.TheVariants as place
 use Rattle.tpmsim_folder.specs.declared.fault.Said.{Said}
 use Rattle.tpmsim_folder.specs.declared.fault.Said.TheVariants as said
 
--- the part of the file's or folder's path that follows the path of the device's folder
+-- the rest of a file's or folder's path, after the path of the device's folder
 abbrev pub place_file : Place → List ℕ
 place_file place.Folder = codes ""
 place_file place.Journal = codes "/journal"

@@ -69,8 +69,7 @@ pub struct KeptFault {
 }
 
 impl Place {
-    /// Returns the part of the file's or folder's path that follows the path of the device's
-    /// folder.
+    /// Returns the rest of the file's or folder's path, after the path of the device's folder.
     pub fn file(self) -> &'static str
         ensures { result.now ≡ place_file self }
     {

@@ -104,8 +104,8 @@ impl Folder {
         }
     }
 
-    /// Opens an existing file for reading and writing. If another file, perhaps a link, has
-    /// replaced it meanwhile, the call fails.
+    /// Opens an existing file for reading and writing. The call fails if another file, perhaps a
+    /// link, replaced this file just before it was opened.
     pub fn open_file(&self, rt: &HostRuntime, place: Place) -> Result<OpenedFile, KeptFault> {
         let Some(looked) = self.look(rt, place)? else {
             return Err(place.that(Said::IsNotThere));
@@ -136,10 +136,10 @@ impl Folder {
         }
     }
 
-    /// Syncs the names of the folder's files to the disk, and the first time also the folder's own
-    /// name. The process that created the folder or its files may have been killed before it synced
-    /// them. Returns whether this call did not sync the folder's own name, because the user may not
-    /// read the parent.
+    /// Syncs the names of the folder's files to the disk. The first call also syncs the folder's
+    /// own name, since the process that created the folder may have been killed before it did so.
+    /// Returns true if this call could not sync the folder's own name because the user may not read
+    /// the parent folder.
     pub fn force(&mut self, rt: &HostRuntime) -> Result<bool, KeptFault> {
         match self.force_names(rt) {
             Ok(is_left_out) => Ok(is_left_out),
@@ -171,7 +171,8 @@ pub fn fault_of(error: &io::Error, place: Place, said: Said) -> KeptFault {
     }
 }
 
-/// Returns a path without the slashes at its end, since a link before a slash would be followed.
+/// Returns a path without its trailing slashes, because the system would follow a link that comes
+/// before a slash.
 fn without_slashes(path: &str) -> &str {
     let front = path.trim_end_matches('/');
     if front.is_empty() { path } else { front }
@@ -225,9 +226,9 @@ fn create(rt: &HostRuntime, path: &str) -> io::Result<File> {
         .open(rt, path)
 }
 
-/// Syncs the parent of this folder to the disk, and returns whether it did. If the user may not
-/// read the parent, the parent cannot be opened and therefore not synced. This is a failure only if
-/// this process created the folder.
+/// Syncs the parent of this folder to the disk, and returns whether the parent was synced. If the
+/// user may not read the parent, it cannot be opened, and therefore cannot be synced. This is a
+/// failure only if this process created the folder.
 fn force_above(rt: &HostRuntime, path: &str, was_made: bool) -> io::Result<bool> {
     let above = format!(in rt.alloc(); "{path}/..")?;
     match fs::open(rt, above.as_str()) {

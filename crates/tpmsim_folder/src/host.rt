@@ -153,8 +153,9 @@ impl<'a> Host<'a> {
         }
     }
 
-    /// Creates a new journal with these bytes, and syncs it to the disk. Before that, removes a new
-    /// journal that a killed process left. If writing fails, removes the created file too.
+    /// Creates a new journal with these bytes, and syncs it to the disk. If an earlier process was
+    /// killed and left a new journal, that file is removed first. If the call fails, the file that
+    /// it created is also removed.
     pub fn make(&mut self, text: &[u8]) -> Result<(), KeptFault> {
         if self.folder.look(self.rt, Place::NewJournal)?.is_some() {
             self.remove_new();
@@ -189,8 +190,9 @@ impl<'a> Host<'a> {
         let _ = fs::remove_file(self.rt, self.folder.path(Place::NewJournal));
     }
 
-    /// Renames the new journal to `journal`, and returns its number. The old journal stays as
-    /// journal.1 if finished journals are to stay. If renaming fails, the new file is removed.
+    /// Renames the new journal to `journal`, so that it replaces the old journal, and returns its
+    /// number. If finished journals are to stay in the folder, the old journal stays as journal.1.
+    /// If renaming fails, the new journal is removed.
     pub fn name(&mut self) -> Result<u64, KeptFault> {
         let Some(fresh) = self.fresh.take() else {
             return Err(Place::NewJournal.that(Said::IsNotThere));
@@ -220,7 +222,7 @@ impl<'a> Host<'a> {
         }
     }
 
-    /// Syncs the folder to the disk. Returns whether the folder's own name was not synced.
+    /// Syncs the folder to the disk. Returns true if the folder's own name could not be synced.
     pub fn settle(&mut self) -> Result<bool, KeptFault> {
         self.folder.force(self.rt)
     }

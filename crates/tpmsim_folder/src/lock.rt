@@ -18,8 +18,8 @@ impl Lock {
         Lock { opened: None }
     }
 
-    /// Waits until no other process has the lock, and takes it. The locked file is the file that is
-    /// then at the lock's path.
+    /// Waits until no other process has the lock, and takes it. On success, the locked file is the
+    /// file that is now at the lock's path.
     pub fn take(&mut self, rt: &HostRuntime, folder: &Folder) -> Result<(), KeptFault> {
         for _ in 0..TRIES {
             let opened = match self.opened.take() {

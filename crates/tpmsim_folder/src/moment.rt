@@ -18,8 +18,8 @@ pub fn clock_of(clock: &impl Clock) -> Result<u64, KeptFault> {
     }
 }
 
-/// Returns a start number for a completing layer, from random bytes of the system, so that no
-/// earlier layer is likely to have it.
+/// Returns a start number for a completing layer. The number consists of random bytes from the
+/// system, so an earlier layer is unlikely to have had the same number.
 pub fn start_of(random: &impl RandomSource) -> Result<u64, KeptFault> {
     let mut bytes = [0; 8];
     match random.fill_bytes(&mut bytes) {

@@ -27,8 +27,8 @@ pub(crate) fn keep_past(rt: &HostRuntime, folder: &Folder, count: u32) -> Result
     }
 }
 
-/// Checks whether there is a journal that is not yet linked as journal.1. A process may have been
-/// killed after it linked the journal.
+/// Checks whether there is a journal that is not yet linked as journal.1. The journal is already
+/// linked if a process was killed just after linking it.
 fn is_unlinked(rt: &HostRuntime, folder: &Folder) -> Result<bool, KeptFault> {
     let Some(journal) = folder.look(rt, Place::Journal)? else {
         return Ok(false);
@@ -40,8 +40,8 @@ fn is_unlinked(rt: &HostRuntime, folder: &Folder) -> Result<bool, KeptFault> {
 }
 
 /// Renames each journal below the first free number to the next number, so that there is no
-/// journal.1. If a process was killed during the renaming, one number is free, and no further
-/// journal is lost.
+/// journal.1. If a process was killed during an earlier renaming, one number is free. Only the
+/// journals below that number are then renamed, and no further journal is lost.
 fn move_on(rt: &HostRuntime, folder: &str, count: u32) -> io::Result<()> {
     if count == 1 {
         return remove_last(rt, folder);

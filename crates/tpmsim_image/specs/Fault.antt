@@ -14,7 +14,8 @@ use Rattle.tpmsim_image.specs.declared.fault.Cause.{Cause}
 abbrev pub with_error : Cause → Error → Cause
 with_error cause error = record cause { error = raw_os_error error }
 
--- the fault with the number of a system error added to its cause; unchanged if it has no cause
+-- the fault with the number of a system error added to its cause; a fault without a cause is
+-- unchanged
 abbrev pub with_cause : DeviceFault → Error → DeviceFault
 with_cause (File cause) error = File (with_error cause error)
 with_cause (Socket cause) error = Socket (with_error cause error)

@@ -1,12 +1,12 @@
--- The state of the saver of an image, after a device was passed to it.
+-- The state of an image's saver after a device was passed to it.
 use Rattle.std.specs.Prelude.{Some, if◌then◌else◌}
 use Rattle.std.specs.Str.{bytes_eq}
 use Rattle.tpm_image_text.specs.KeptText.{kept_text}
 use Rattle.tpm_record.specs.Record.{Record}
 use Rattle.tpmsim_image.specs.declared.image_saver.ImageSaver.{ImageSaver}
 
--- the saver after it was notified that its device may have changed; if more than the device's clock
--- changed, it has written the device
+-- the saver after it was notified that its device may have changed. If anything except the device's
+-- clock changed, the saver has written the device
 abbrev pub changed : ImageSaver → Record → ImageSaver
 changed old r = record old {
   kept = kept_text r;

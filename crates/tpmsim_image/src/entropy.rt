@@ -1,5 +1,5 @@
-//! Random bytes that are read from a file for a served device, and new devices that are
-//! manufactured with such bytes.
+//! Random bytes for a served device, which are read from a file, and new devices that are
+//! manufactured with these random bytes.
 
 ghost use Rattle.std.specs.Prelude.{◌≡◌, IfOk, ℕ, List};
 ghost use Rattle.std.specs.Io.KnownBytes.{Consumes};

@@ -26,7 +26,7 @@ pub enum Subject {
 }
 
 impl Subject {
-    /// Returns a cause that concerns this subject, without an error of the system.
+    /// Returns a cause that concerns this subject, without a system error.
     pub fn alone(self) -> Cause
         ensures { result ≡ record { subject = self; error = None } }
     {
@@ -59,7 +59,7 @@ impl Cause {
 /// Why a device that is kept in an image could not be opened, saved or served.
 #[derive(Clone, Copy, PartialEq, Eq)]
 pub enum DeviceFault {
-    /// The contents of the image's file are not an image.
+    /// The image file does not contain an image.
     Image(ImageFault),
     /// A file could not be opened, read or written.
     File(Cause),

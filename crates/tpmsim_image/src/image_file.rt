@@ -1,5 +1,5 @@
 //! The file with the device's image. It is locked and opened at the start, and each save replaces
-//! it as a whole, so that a failed save leaves the old image.
+//! it as a whole, so that a failed save leaves the old image intact.
 
 use crate::fault::{DeviceFault, Subject};
 use crate::folder::folder_of;
@@ -14,13 +14,13 @@ use tpm_machine::Machine;
 use tpm_record::Keep;
 use tpm_slots::SlotKeep;
 
-/// The file of an image, which no other run can use while this value exists. The value contains all
-/// paths that a save needs. Therefore a save allocates no memory, and a served device is not lost
-/// if memory runs out.
+/// An image file, which no other run can use while this value exists. The value contains all paths
+/// that a save needs. Therefore a save allocates no memory, and a served device is not lost if
+/// memory runs out.
 #[derive(Drop)]
 pub struct ImageFile<'a> {
     path: &'a str,
-    /// The path of the file to which a save writes the new image, in the folder of the old image.
+    /// The path of the file, in the old image's folder, to which a save writes the new image.
     new: String,
     folder: String,
     _lock: ImageLock,
@@ -28,8 +28,8 @@ pub struct ImageFile<'a> {
 
 impl<'a> ImageFile<'a> {
     /// Locks the file at this path, whether the file exists or not. The lock is on another file in
-    /// the same folder, since each save replaces the file of the image. If another run holds the
-    /// lock, the call fails and changes nothing.
+    /// the same folder, since each save replaces the image file. If another run holds the lock, the
+    /// call fails and changes nothing.
     pub fn take(rt: &HostRuntime, path: &'a str) -> Result<ImageFile<'a>, DeviceFault> {
         let folder = folder_of(path);
         let new = format!(in rt.alloc(); "{path}.new")?;

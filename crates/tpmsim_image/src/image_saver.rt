@@ -1,4 +1,4 @@
-//! Saves a script's device to the file of its image.
+//! Saves a script's device to its image file.
 
 ghost use Rattle.std.specs.Prelude.{◌≡◌, [], None, OnErr, OnOk, is_some, true};
 ghost use Rattle.tpm_image_text.specs.KeptText.{kept_text};
@@ -45,7 +45,7 @@ impl<'a> ImageSaver<'a> {
         let _ = self.kept.renew(machine);
     }
 
-    /// Returns why a save failed, if a save failed.
+    /// Returns why a save failed, or None if no save failed.
     pub fn fault(&self) -> Option<DeviceFault> {
         self.fault
     }

@@ -1,9 +1,9 @@
 #![tactic(auto)]
 
-//! A device that is kept in an image: the image's file and its lock ([`image_file`],
+//! A device that is kept in an image: the image file and its lock ([`image_file`],
 //! [`image_lock`]), its savers ([`image_saver`], [`command_saver`]), and the serving of the device
-//! on a socket ([`serving`]). A log, if there is one ([`log`]), is in a file of its own
-//! ([`log_file`]). Only their owner can use these files ([`owner_file`]).
+//! on a socket ([`serving`]). An optional log ([`log`]) is in its own file ([`log_file`]). Only the
+//! owner of these files can use them ([`owner_file`]).
 //!
 //! The device's inputs come from the host: random bytes from a file ([`entropy`]), the time that
 //! has passed ([`stopwatch`]), and both together for each command ([`source`]). The socket

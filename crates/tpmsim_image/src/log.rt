@@ -3,7 +3,7 @@
 //!
 //! A log has the form of a journal: its head contains the image of the device at power-on, and each
 //! command has an entry. [`Log`] is a log that is written to any writer, and is notified of the
-//! commands as the device's witness; [`Logged`] is a witness that keeps a log, if there is one. The
+//! commands as the device's witness; [`Logged`] is a witness that keeps an optional log. The
 //! contracts say that a log's text contains exactly the commands of which it was notified, in their
 //! order ([`laws`]).
 
@@ -49,7 +49,8 @@ pub struct Log<W> {
 impl<W: Write + Drop> Log<W> {
     ghost use Rattle.tpmsim_image.specs.log.Log.{Begins, written_of};
 
-    /// Begins the log of a device at power-on, at this time of the host's clock in milliseconds.
+    /// Begins the log of a device whose power has just come on. Writes the head of the log, with
+    /// the device's image and the time `now_ms` of the host's clock, in milliseconds.
     pub fn begin<K: Keep>(writer: W, machine: &Machine<K>, now_ms: u64) -> Result<Log<W>, Unsaved>
         ensures begins { IfOk result (λ log. Begins now_ms
             (image_text Two (kept_of (state_of K.record_of machine.now)))
@@ -110,8 +111,8 @@ impl<W: Write> Log<W> {
     ghost use Rattle.tpmsim_image.specs.log.Executed.{entry_by, has_entry};
     ghost use Rattle.tpmsim_image.specs.log.Log.{AddsSome, written_of};
 
-    /// Adds the entry of an event that had this response and drew `drawn` random bytes. If the
-    /// event has no entry, or the write fails, nothing more can be added to the log.
+    /// Adds the entry of an event to the log. The event had this response, and drew `drawn` random
+    /// bytes. If the event has no entry, or the write fails, nothing more can be added to the log.
     fn add(&mut self, event: &Event, drawn: usize, response: &[u8]) -> Result<(), Unsaved>
         ensures added { OnOk result (AddsSome (written_of W.contents self.old)
             (entry_by (plain_event event.now) drawn response.now) (written_of W.contents self.new)) }

@@ -1,4 +1,4 @@
-//! The file of a served device's log, a new file that only its owner can use.
+//! The log file of a served device: a new file that only its owner can use.
 
 use crate::fault::{DeviceFault, Subject};
 use crate::log::Log;
@@ -9,8 +9,8 @@ use std::time::{SystemTime, UNIX_EPOCH};
 use tpm_machine::Machine;
 use tpm_record::Keep;
 
-/// Creates the file of a log at this path, and begins the log of a device at power-on. Nothing may
-/// exist at the path yet, not even a link.
+/// Creates a file at this path, and begins in it the log of a device whose power has just come on.
+/// The call fails if anything is already at the path, even a link.
 pub fn begin_log<K: Keep>(
     rt: &HostRuntime,
     path: &str,

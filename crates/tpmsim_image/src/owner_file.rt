@@ -8,8 +8,8 @@ use std::os::unix::fs::{OpenOptionsExt, PermissionsExt};
 /// The permissions of a file that only its owner can use.
 const OWNER_ALONE: u32 = 0o600;
 
-/// Creates a file at this path. Nothing may exist there yet, not even a link. Its owner can read
-/// and write it, whatever the umask is.
+/// Creates a file at this path. The call fails if anything is already there, even a link. The
+/// file's owner can read and write it, whatever the umask is.
 pub fn create_for_owner(rt: &HostRuntime, path: &str) -> io::Result<File> {
     let file = OpenOptions::new()
         .read(true)

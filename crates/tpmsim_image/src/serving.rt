@@ -95,9 +95,9 @@ fn serve_connections<K: Keep>(
 }
 
 /// Saves the device with its clock after a connection. Returns a fault if the program has to end.
-/// Does not save again if the device is saved before each response, and a command was not answered
-/// because a write of the log or image failed. In this case, the image already contains the effects
-/// of all answered commands.
+/// The device is not saved if it is saved before each response, and a command was not answered
+/// because writing the log or the image failed. In that case, the image already contains the
+/// effects of all answered commands.
 fn save_after<K: Keep>(
     served: Result<u64, ServeFault>,
     mux: &Mux<K>,

@@ -86,7 +86,7 @@ fn identity_at(rt: &HostRuntime, path: &str) -> io::Result<Identity> {
 }
 
 /// Creates a socket at this path. From its creation on, only its owner can use it. Replaces an
-/// existing socket at which nobody answers.
+/// existing socket on which no process listens.
 pub fn bind(rt: &HostRuntime, path: &str) -> Result<Socket, DeviceFault> {
     DeviceFault::Socket(Subject::Socket.alone()).unless(bind_aside(rt, path))
 }
@@ -119,8 +119,8 @@ const FOLDERS: u8 = 100;
 
 impl Aside {
     /// Creates a folder that nobody else can enter, in the folder with the path `front`. Its name
-    /// is short, since the address of a socket has room for few bytes. An existing folder is not
-    /// used.
+    /// is short, since the address of a socket has room for only a few bytes. An existing folder is
+    /// not used.
     fn make(rt: &HostRuntime, front: &str) -> io::Result<Aside> {
         for number in 0..FOLDERS {
             let folder = format!(in rt.alloc(); "{front}.{number}")?;
@@ -164,8 +164,8 @@ fn bind_in_folder(rt: &HostRuntime, aside: &Aside, path: &str, folder: &str) -> 
     })
 }
 
-/// Replaces a socket at which nobody answers. The folder is locked during the replacement: if two
-/// runs do this at once, the second finds the socket of the first, and does not replace it.
+/// Replaces a socket on which no process listens. The folder is locked during the replacement: if
+/// two runs do this at once, the second finds the socket of the first, and does not replace it.
 fn replace_left(rt: &HostRuntime, aside: &str, path: &str, folder: &str) -> io::Result<()> {
     let folder = fs::open(rt, folder)?;
     folder.lock()?;
@@ -175,7 +175,7 @@ fn replace_left(rt: &HostRuntime, aside: &str, path: &str, folder: &str) -> io::
     fs::hard_link(rt, aside, path)
 }
 
-/// Whether there is a socket at this path at which nobody answers.
+/// Whether there is a socket at this path on which no process listens.
 fn is_left(rt: &HostRuntime, path: &str) -> bool {
     let is_socket = match fs::symlink_metadata(rt, path) {
         Ok(metadata) => metadata.file_type().is_socket(),

@@ -39,9 +39,9 @@ impl<R: Read> Source<R> {
         }
     }
 
-    /// Returns the values for a command that arrives now. The locality is always the same, the
-    /// random bytes are the next 256 of the reader, and the stopwatch returns the elapsed time at
-    /// the present time of the host's clock.
+    /// Returns the values for a command that arrives now. They are the locality, which never
+    /// changes; the next 256 random bytes of the reader; and the elapsed time. The stopwatch
+    /// computes the elapsed time from the current time of the host's clock.
     pub fn host(&mut self, clock: &impl Clock) -> io::Result<Host>
         ensures locality { IfOk result (λ host. host.locality ≡ self.old.locality) }
         ensures elapsed { IfOk result (λ host. (now : ℕ)

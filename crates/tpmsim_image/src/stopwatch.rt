@@ -7,9 +7,9 @@ ghost use Rattle.tpmsim_image.specs.Stopwatch.{after_command, told};
 use std::marker::Model;
 use std::time::Instant;
 
-/// A stopwatch, which records the time that was already passed to commands. In contracts, its state
-/// is the arrival time of the first command, and the number of milliseconds since then that were
-/// passed to commands or dropped.
+/// A stopwatch, which measures the elapsed time of each command. In contracts, its state is the
+/// arrival time of the first command, and how many of the milliseconds since then have been
+/// reported as elapsed time, or dropped.
 #[derive(Drop)]
 pub struct Stopwatch {
     first: Option<Instant>,
@@ -39,8 +39,8 @@ impl Stopwatch {
 
     /// Returns the elapsed milliseconds of a command that arrives now. For the first command, this
     /// is 0. For a later command, it is the number of milliseconds since the first command that
-    /// were not yet passed to any command, at most 2^32 - 1. Any milliseconds above this limit are
-    /// dropped.
+    /// have not yet been reported for any command, at most 2^32 - 1. All milliseconds above this
+    /// limit are dropped.
     pub fn tell(&mut self, now: Instant) -> u32
         ensures value { result ≡ told (instant_nanos now) self.old }
         ensures after { self.new ≡ after_command (instant_nanos now) self.old }

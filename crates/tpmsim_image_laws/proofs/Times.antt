@@ -5,7 +5,7 @@ use Rattle.tpmsim_image.specs.Stopwatch.{StopwatchState, told}
 use Rattle.tpmsim_image_laws.specs.Times.{TellsNoTimeTwice, new_stopwatch, told_together}
 
 -- a stopwatch whose first command arrived at the time `first`; since then, `passed` milliseconds
--- were passed to commands or dropped
+-- have been reported as elapsed time, or dropped
 abbrev running : (first passed : ℕ) → StopwatchState
 running first passed = record { first = Some first; passed = passed }
 

@@ -1,4 +1,4 @@
--- If the bytes are not an image, the error does not depend on the type that the device would have.
+-- If the bytes are not an image, the error is the same for every type of device.
 use Rattle.std.specs.Prelude.{ℕ, Bool, List, Err}
 use Rattle.tpm_record.specs.Record.{Record}
 use Rattle.tpm_image_text.specs.Opening.{Opens}

@@ -1,5 +1,5 @@
--- Restoring from the state text of a device yields that device, with its layer and its history. If
--- the bytes are not a state text, the reported error is the first error in the bytes.
+-- If a state text of a device is restored, the result is that device, with its layer and its
+-- history. If the bytes are not a state text, the reported error is the first error in the bytes.
 use Rattle.std.proofs.Common.{◌≡◌, ◌≢◌, ℕ, List, Err, sym, ap, subst, ◌∙◌}
 use Rattle.tpm_machine.specs.Follows.{Follows}
 use Rattle.tpm_machine.specs.History.{History}

@@ -8,8 +8,8 @@ use Rattle.std.specs.declared.alloc.Global.{Global}
 use Rattle.std.specs.declared.option.Option.{Option}
 use Rattle.std.specs.declared.option.Option.TheVariants.{None, Some}
 
--- the memory that a holder owns: the box of its device, at its pointer, with the right to free it;
--- or nothing if the holder is empty and its pointer is null
+-- the memory that a holder owns: the box at the holder's pointer, with the right to free it. If the
+-- holder is empty, its pointer is null, and it owns nothing
 abbrev pub held : (R : RattleType) → Global → Ptr → Option R.Denot → Fml
 held R alloc at None = feq Ptr at null_ptr
 held R alloc at (Some device) = box_owns (ghosts.dealloc_token alloc) R at device

@@ -22,27 +22,27 @@ use Rattle.tpmsim_library.specs.declared.device.Answered.{Answered}
 use Rattle.tpmsim_library.specs.declared.keeper.DeviceKeeper.{DeviceKeeper}
 use Rattle.tpmsim_library.specs.declared.request.Request.{Request}
 
--- the state of a keeper in the definitions of tpm_keeping: `call_of` includes the call that begins
--- again after a cut, and `view_of` does not
+-- the state of a keeper, as tpm_keeping defines it. `call_of` includes a call that has to begin
+-- again after damage was cut off, and `view_of` does not
 abbrev pub call_of : DeviceKeeper → Caller
 call_of keeper = caller_of (λ device. spot_in device.parts.value) keeper.keeper
 
 abbrev pub view_of : DeviceKeeper → Holder
 view_of keeper = (call_of keeper).holder
 
--- A call with this command began. An unfinished call was abandoned.
+-- A call for this job began. An unfinished call was abandoned.
 abbrev pub Begins : (cuts : Bool) → Job → (text : List ℕ) → (before after : DeviceKeeper) → Type 0
 Begins cuts job text before after =
     (call_of after ≡ called cuts job text (view_of before)) × (after.cuts ≡ before.cuts)
 
--- the `Force` with this number; None if there is none
+-- the `Force` with this number, or None if no `Force` has it
 abbrev pub force_of : ℕ → Option Force
 force_of number =
     if number == 0 then Some Never
     else (if number == 1 then Some Power
     else (if number == 2 then Some Always else None))
 
--- the `Job` with this number; None if there is none
+-- the `Job` with this number, or None if no `Job` has it
 abbrev pub job_of : ℕ → Option Job
 job_of number =
     if number == 0 then Some Execute
@@ -69,7 +69,7 @@ end_number (ending.Failed fault.NoCommand) = 12
 end_number (ending.Failed fault.Damaged) = 13
 end_number (ending.Failed fault.Memory) = 14
 
--- the fault with this number; None if there is none
+-- the fault with this number, or None if no fault has it
 abbrev pub fault_of : ℕ → Option Fault
 fault_of number =
     if number == 1 then Some fault.Idle
@@ -113,7 +113,7 @@ text_of k = text_by (ask_of k) k.out
 abbrev pub response_of : Holder → List ℕ
 response_of k = response_by (ask_of k) k.response
 
--- whether the new journal that this job makes drops the damage of the old journal
+-- whether the new journal that this job makes drops the damage in the old journal
 abbrev pub drops_damage : Job → Bool
 drops_damage Cut = true
 drops_damage job = false
@@ -157,8 +157,8 @@ abbrev pub number_of : Bool → ℕ
 number_of true = 1
 number_of false = 0
 
--- the request for a keeper's task, with the number of bytes to write or the size of the response,
--- and whether a new journal drops damage
+-- the request for a keeper's task. It contains the number of bytes to write, or the size of the
+-- response. It also says whether a new journal drops damage
 abbrev pub request_by : Ask → (drops : Bool) → (text response : ℕ) → Request
 request_by (ask.Nothing end) drops text response =
     record (task_of 0) { size = response; fault = end_number end }

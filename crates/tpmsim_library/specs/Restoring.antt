@@ -10,12 +10,13 @@ use Rattle.tpm_state_text.specs.declared.layer.Layer.{Layer}
 use Rattle.tpmsim_library.specs.State.{record_of}
 use Rattle.tpmsim_library.specs.declared.device.Device.{Device}
 
--- the journal of a restored device, which is not started yet; its layer is the layer in the state
--- text
+-- the journal of a restored device. The journal is not started yet, and its completing layer comes
+-- from the state text
 abbrev pub journal_restored : Option Layer → Journal
 journal_restored layer = record { sum = 0; time = 0; layer = completion_of layer }
 
--- The device has the state in a state text, and a journal that is not started yet.
+-- The bytes are a state text with the state of this device. The device's journal is not started
+-- yet.
 abbrev pub IsOfState : List ℕ → Device → Type 0
 IsOfState text device =
     (layer : Option Layer) × (state_of_text text ≡ Ok (state_of (record_of device) layer))

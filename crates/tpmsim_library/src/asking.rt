@@ -21,8 +21,8 @@ use std::alloc::Global;
 use tpm_kept_device::answer::read_answer;
 use tpm_types::Locality;
 
-/// Begins the execution of a TPM command at this time of the host's clock. If `completes` is not 0,
-/// the completing layer is used. On failure nothing changes.
+/// Begins the execution of a TPM command. `now_ms` is the time of the host's clock. If `completes`
+/// is not 0, the completing layer is used. On failure, nothing changes.
 #[unsafe(no_mangle)]
 pub extern "C" fn tpmsim_keeper_execute(
     alloc: Global,
@@ -58,7 +58,7 @@ pub extern "C" fn tpmsim_keeper_execute(
     }
 }
 
-/// Begins a power cycle at this time of the host's clock. The number `start` has no effect. On
+/// Begins a power cycle. `now_ms` is the time of the host's clock, and `start` has no effect. On
 /// failure nothing changes.
 #[unsafe(no_mangle)]
 pub extern "C" fn tpmsim_keeper_power(
@@ -87,8 +87,8 @@ pub extern "C" fn tpmsim_keeper_power(
     }
 }
 
-/// Begins the call that opens the device, or creates a device with a seed if there is none. On
-/// failure nothing changes.
+/// Begins a call that opens the device. If there is no device, the call creates one from the seed.
+/// On failure, nothing changes.
 #[unsafe(no_mangle)]
 pub extern "C" fn tpmsim_keeper_seed(
     alloc: Global,
@@ -118,8 +118,8 @@ pub extern "C" fn tpmsim_keeper_seed(
     }
 }
 
-/// Begins to restore a state text. Since the state replaces the device, damage in the old journal
-/// is cut off. On failure nothing changes.
+/// Begins to restore a state text. Because the state replaces the device, damage in the old journal
+/// is cut off. On failure, nothing changes.
 #[unsafe(no_mangle)]
 pub extern "C" fn tpmsim_keeper_restore(
     alloc: Global,
@@ -187,7 +187,7 @@ pub extern "C" fn tpmsim_keeper_answer(
 }
 
 /// Writes the state text from the latest call to the start of a buffer, if it fits. Returns its
-/// size; 0 if there is no keeper, or if that call is not done or returned no state text.
+/// size. Returns 0 if there is no keeper, or if that call is not done or returned no state text.
 #[unsafe(no_mangle)]
 pub extern "C" fn tpmsim_keeper_state(
     alloc: Global,

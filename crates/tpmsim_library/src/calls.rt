@@ -43,8 +43,8 @@ pub extern "C" fn tpmsim_version() -> u32
     0x00_01_00
 }
 
-/// Creates a new device; these random bytes become its secrets. It replaces any device of the
-/// holder. Returns NO_MEMORY, and leaves the holder unchanged, if an allocation fails.
+/// Creates a new device, whose secrets are these random bytes. The device replaces any device that
+/// the holder had. Returns NO_MEMORY, and leaves the holder unchanged, if an allocation fails.
 #[unsafe(no_mangle)]
 pub extern "C" fn tpmsim_manufacture(alloc: Global, holder: &mut Holder, random: &[u8; 256]) -> u8
     ensures made { result ≡ done → (device : Device) × (holder.new.device ≡ Some device)
@@ -61,7 +61,7 @@ pub extern "C" fn tpmsim_manufacture(alloc: Global, holder: &mut Holder, random:
 }
 
 /// Executes a command, and writes its response to the start of a buffer. Returns NO_LOCALITY if the
-/// locality is above 4, and NO_DEVICE if the holder is empty. In both cases nothing is written.
+/// locality is above 4, and NO_DEVICE if the holder is empty. In both cases, nothing is written.
 #[unsafe(no_mangle)]
 pub extern "C" fn tpmsim_execute(
     alloc: Global,
@@ -122,7 +122,7 @@ pub extern "C" fn tpmsim_power_cycle(alloc: Global, holder: &mut Holder) -> u8
 }
 
 /// Writes the image of the device to the start of a buffer, if it fits. Returns the size of the
-/// image, whether it was written or not; 0 if the holder is empty.
+/// image, even if it does not fit, or 0 if the holder is empty.
 #[unsafe(no_mangle)]
 pub extern "C" fn tpmsim_save(alloc: Global, holder: &mut Holder, room: &mut [u8]) -> usize
     ensures saved { MatchOption holder.old.device ((result ≡ 0) × (room.new ≡ room.old))
@@ -138,8 +138,9 @@ pub extern "C" fn tpmsim_save(alloc: Global, holder: &mut Holder, room: &mut [u8
     size
 }
 
-/// Writes what the device keeps without power, except its clock, to the start of a buffer, if it
-/// fits. Returns the size, whether it was written or not; 0 if the holder is empty.
+/// If they fit, writes the data that the device keeps without power, except its clock, to the start
+/// of a buffer. Returns the size of these data, even if they do not fit, or 0 if the holder is
+/// empty.
 #[unsafe(no_mangle)]
 pub extern "C" fn tpmsim_kept(alloc: Global, holder: &mut Holder, room: &mut [u8]) -> usize
     ensures told { MatchOption holder.old.device ((result ≡ 0) × (room.new ≡ room.old))
@@ -154,8 +155,9 @@ pub extern "C" fn tpmsim_kept(alloc: Global, holder: &mut Holder, room: &mut [u8
     size
 }
 
-/// Replaces the holder's device by the device of an image, after a power cycle. On failure, returns
-/// the number of the first error, or NO_MEMORY, and leaves the holder unchanged.
+/// Replaces the holder's device with the device whose image is passed, and power-cycles that
+/// device. On failure, returns the number of the first error, or NO_MEMORY, and leaves the holder
+/// unchanged.
 #[unsafe(no_mangle)]
 pub extern "C" fn tpmsim_open(alloc: Global, holder: &mut Holder, image: &[u8]) -> u8
     ensures opens { (opened : Result Device Fault) × Opens record_of true image.now opened
@@ -176,7 +178,7 @@ pub extern "C" fn tpmsim_open(alloc: Global, holder: &mut Holder, image: &[u8]) 
     }
 }
 
-/// Frees the device, if there is one, and leaves the holder empty.
+/// Frees the holder's device, if any, and leaves the holder empty.
 #[unsafe(no_mangle)]
 pub extern "C" fn tpmsim_free(alloc: Global, holder: &mut Holder)
     ensures { holder.new.device ≡ None }

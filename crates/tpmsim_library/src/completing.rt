@@ -16,7 +16,7 @@ use std::alloc::Global;
 use tpm_step::Event;
 use tpm_types::Locality;
 
-/// Executes a command as tpmsim_execute does, with the completing layer above the device.
+/// Like tpmsim_execute, but executes the command with the completing layer above the device.
 #[unsafe(no_mangle)]
 pub extern "C" fn tpmsim_complete(
     alloc: Global,

@@ -45,8 +45,8 @@ use tpm_snapshot::{RestoreFault, completion_of, layer_of, restore_new};
 use tpm_step::{Event, Outcome};
 use tpm_types::Locality;
 
-/// A device, the outcome of its last event (which the next event overwrites), the state of its
-/// journal, and a buffer for what is saved.
+/// A device, the outcome of its last event, the state of its journal, and a buffer for what is
+/// saved. The next event overwrites the outcome.
 #[derive(Drop)]
 pub struct Device {
     machine: Machine<SlotKeep>,
@@ -63,7 +63,7 @@ pub struct Answered {
     pub size: usize,
     /// The number of random bytes that the command used, from the first one on.
     pub drawn: usize,
-    /// The command code; 0 if none was found.
+    /// The command code, or 0 if no command code was found.
     pub code: u32,
     /// The number of the check that refused the command; 0 if the command was accepted.
     pub check: u8,
@@ -92,8 +92,8 @@ impl Device {
         }
     }
 
-    /// Opens the device of an image, or returns the first error. Returns NoMemory if the bytes are
-    /// an image and an allocation fails.
+    /// Opens the device whose image is passed, or returns the first error. Returns NoMemory if the
+    /// bytes are an image but an allocation fails.
     pub fn open(alloc: Global, image: &[u8]) -> Result<Box<Device>, ImageFault>
         ensures exact { Opens (λ b. record_of b.value) true image.now result }
         ensures history { (version : Version) (r : Record) (history : History) → IsRecord r
@@ -161,8 +161,8 @@ impl Device {
         self.scratch.save_into(&self.machine, room)
     }
 
-    /// Writes what the device keeps without power, except its clock, to the start of a buffer, if
-    /// it fits. Returns its size.
+    /// If they fit, writes the data that the device keeps without power, except its clock, to the
+    /// start of a buffer. Returns the size of these data.
     pub fn kept_into(&mut self, room: &mut [u8]) -> usize
         ensures put { PutsFront (kept_text (record_of self.old)) room.old result room.new }
         ensures kept { self.new ≡ self.old }
@@ -170,7 +170,8 @@ impl Device {
         self.scratch.kept_into(&self.machine, room)
     }
 
-    /// Writes the state text to the start of a buffer, if it fits. Returns its size.
+    /// Writes the state text to the start of a buffer, if it fits. Returns the size of the state
+    /// text.
     pub fn snapshot_into(&mut self, buffer: &mut [u8]) -> usize
         ensures put { PutsFront (state_text (whole_state self.old)) buffer.old result buffer.new }
         ensures small { result ≤ state_text_size }
@@ -182,7 +183,7 @@ impl Device {
             .snapshot_into(&self.machine, Some(&layer), buffer)
     }
 
-    /// Restores the device of a state text, or returns the first error in the bytes. Returns
+    /// Restores a device from a state text, or returns the first error in the bytes. Returns
     /// NoMemory if an allocation fails, whatever the bytes are.
     pub fn restored(alloc: Global, text: &[u8]) -> Result<Box<Device>, RestoreFault>
         ensures { RestoresDevice (λ b. b.value) text.now result }
@@ -194,8 +195,8 @@ impl Device {
         Ok(device)
     }
 
-    /// Turns a new device, whose secrets are zeros, into the device of a state text. On error, the
-    /// device's state is unspecified.
+    /// Restores a state text in a new device, whose secrets are zeros. On error, the device's state
+    /// is unspecified.
     fn restore(&mut self, text: &[u8]) -> Result<(), RestoreFault>
         requires { record_of self.old ≡ manufactured (replicate 256 0) }
         ensures { RestoresDevice (λ done. self.new) text.now result }
@@ -220,8 +221,8 @@ impl Device {
             .begin(&mut self.machine, now_ms, &mut self.outcome, room)
     }
 
-    /// Returns the clock for a checkpoint at this time: the journal's clock, or `now_ms` if no
-    /// journal has been started yet.
+    /// Returns the clock that a checkpoint stores: the journal's clock, or `now_ms` if no journal
+    /// has been started yet.
     fn checkpoint_clock(&self, now_ms: u64) -> u64
         ensures { result ≡ checkpoint_clock self.now now_ms }
     {
@@ -243,8 +244,8 @@ impl Device {
         self.journal.checkpoint(&self.machine, clock_ms, buffer)
     }
 
-    /// Opens the device of a journal, and reports the size of the journal's head and entries; or
-    /// returns the first error. Returns None if an allocation fails.
+    /// Opens a journal: returns its device, and reports the size of its head and entries. If the
+    /// bytes cannot be opened, returns the first error. Returns None if an allocation fails.
     pub fn open_journal(
         alloc: Global,
         text: &[u8],
@@ -262,8 +263,8 @@ impl Device {
         }
     }
 
-    /// Turns a new device, whose secrets are zeros, into the device of a journal. Returns the size
-    /// of the journal's head and entries. On error, the device's state is unspecified.
+    /// Opens a journal in a new device, whose secrets are zeros. Returns the size of the journal's
+    /// head and entries. On error, the device's state is unspecified.
     fn open_in_place(&mut self, text: &[u8]) -> Result<usize, OpenFault>
         requires { record_of self.old ≡ manufactured (replicate 256 0) }
         ensures opens { IfOk result (λ taken. IsOfJournal text.now taken self.new) }
@@ -274,7 +275,7 @@ impl Device {
         Ok(opened.taken)
     }
 
-    /// Executes entries that continue the device's journal.
+    /// Executes further entries of the device's journal.
     pub fn follow(&mut self, text: &[u8]) -> Followed
         ensures { Replays false self.old.journal (record_of self.old) text.now result
             self.new.journal (record_of self.new) }
@@ -284,8 +285,8 @@ impl Device {
     }
 
     /// Executes a command at the time `now_ms` of the host's clock, with or without the completing
-    /// layer. Writes its response to the start of one buffer, whose remaining bytes are unchanged,
-    /// and its entry to the start of another. Returns the size of the entry.
+    /// layer. Writes the response to the start of `response`, whose remaining bytes are unchanged.
+    /// Writes the entry to the start of `entry`, and returns the size of the entry.
     pub fn execute_recorded(
         &mut self,
         buffer: &[u8],

@@ -52,7 +52,7 @@ impl Holder {
         }
     }
 
-    /// Takes the device out, if there is one, and leaves the holder empty.
+    /// Takes out the device, if any, and leaves the holder empty.
     pub fn take(&mut self, alloc: Global) -> Option<Box<Device>>
         ensures taken { MatchOption result (self.old.device ≡ None)
             (λ b. self.old.device ≡ Some b.value) }

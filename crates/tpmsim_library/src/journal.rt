@@ -72,9 +72,9 @@ pub extern "C" fn tpmsim_journal_checkpoint(
     size
 }
 
-/// Replaces the holder's device by the device of a journal, and reports the size of the journal's
-/// head and entries. On failure, returns the number of the first error, or NO_MEMORY, and leaves
-/// the holder unchanged.
+/// Opens a journal: replaces the holder's device with the journal's device, and reports the size of
+/// the journal's head and entries. On failure, returns the number of the first error, or NO_MEMORY,
+/// and leaves the holder unchanged.
 #[unsafe(no_mangle)]
 pub extern "C" fn tpmsim_journal_open(
     alloc: Global,
@@ -99,7 +99,7 @@ pub extern "C" fn tpmsim_journal_open(
     }
 }
 
-/// Executes entries that continue the device's journal, and reports the number of bytes executed.
+/// Executes further entries of the device's journal, and reports the number of bytes executed.
 /// Returns NO_DEVICE, without any effect, if the holder is empty.
 #[unsafe(no_mangle)]
 pub extern "C" fn tpmsim_journal_follow(
@@ -127,7 +127,7 @@ pub extern "C" fn tpmsim_journal_follow(
 /// Executes a command at the time `now_ms` of the host's clock. Writes its response to the start of
 /// one buffer, and its entry to the start of another. If `completes` is not 0, the completing layer
 /// is used. Returns NO_LOCALITY if the locality is above 4, and NO_DEVICE if the holder is empty.
-/// In both cases nothing is written.
+/// In both cases, nothing is written.
 #[unsafe(no_mangle)]
 pub extern "C" fn tpmsim_journal_execute(
     alloc: Global,

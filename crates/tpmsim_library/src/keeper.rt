@@ -50,7 +50,7 @@ impl DeviceKeeper {
         self.cuts = cuts;
     }
 
-    /// Begins a call with this command.
+    /// Begins a call for this job.
     pub fn begin(&mut self, alloc: Global, job: Job, text: &[u8]) -> Result<(), Exhausted>
         ensures ok { OnOk result (Begins self.old.cuts job text.now self.old self.new) }
         ensures err { OnErr result (self.new ≡ self.old) }
@@ -61,7 +61,7 @@ impl DeviceKeeper {
         self.keeper.begin(self.cuts, job, text)
     }
 
-    /// Begins the execution of a TPM command at this time of the host's clock.
+    /// Begins the execution of a TPM command. `now_ms` is the time of the host's clock.
     pub fn execute(
         &mut self,
         alloc: Global,
@@ -82,7 +82,7 @@ impl DeviceKeeper {
         self.keeper.begin(self.cuts, Job::Execute, text)
     }
 
-    /// Begins a power cycle at this time of the host's clock. The number `start` has no effect.
+    /// Begins a power cycle. `now_ms` is the time of the host's clock, and `start` has no effect.
     pub fn cycle_power(&mut self, alloc: Global, now_ms: u64, start: u64) -> Result<(), Exhausted>
         ensures ok { OnOk result (Begins self.old.cuts Execute (cycle_text now_ms start)
             self.old self.new) }
@@ -94,7 +94,8 @@ impl DeviceKeeper {
         self.keeper.begin(self.cuts, Job::Execute, text)
     }
 
-    /// Begins the call that opens the device, or creates a device with a seed if there is none.
+    /// Begins a call that opens the device. If there is no device, the call creates one from the
+    /// seed.
     pub fn begin_device(
         &mut self,
         alloc: Global,
@@ -113,7 +114,7 @@ impl DeviceKeeper {
         self.keeper.begin(self.cuts, Job::Begin, text)
     }
 
-    /// Begins to restore a state text. Since the state replaces the device, damage in the old
+    /// Begins to restore a state text. Because the state replaces the device, damage in the old
     /// journal is cut off.
     pub fn restore(
         &mut self,
@@ -168,23 +169,24 @@ impl DeviceKeeper {
         )
     }
 
-    /// Writes the bytes that the host must write to the start of a buffer, if they fit. Returns
-    /// their number.
+    /// Copies the bytes that the host must write, if they fit, to the start of a buffer. Returns
+    /// the number of these bytes.
     pub fn text_into(&self, buffer: &mut [u8]) -> usize
         ensures { PutsFront (text_of (view_of self.now)) buffer.old result buffer.new }
     {
         put_whole(self.text(), buffer)
     }
 
-    /// Writes the response that may be sent to the start of a buffer, if it fits. Returns its size.
+    /// Copies the response that may be sent, if it fits, to the start of a buffer. Returns the size
+    /// of the response.
     pub fn response_into(&self, buffer: &mut [u8]) -> usize
         ensures { PutsFront (response_of (view_of self.now)) buffer.old result buffer.new }
     {
         put_whole(self.response(), buffer)
     }
 
-    /// Returns the response to a command, if the latest call executed one and is done. Otherwise,
-    /// returns an empty slice.
+    /// Returns the response to a command, if the latest call executed a command and is done.
+    /// Otherwise, returns an empty slice.
     pub fn executed(&self) -> &[u8]
         ensures { result.now ≡ executed_by self.now }
     {
@@ -195,7 +197,7 @@ impl DeviceKeeper {
     }
 
     /// Writes the state text from the latest call to the start of a buffer, if it fits. Returns its
-    /// size; 0 if that call returned no state text.
+    /// size, or 0 if that call returned no state text.
     pub fn state_into(&self, buffer: &mut [u8]) -> usize
         ensures { PutsFront (content_at (shown_by self.now)) buffer.old result buffer.new }
     {

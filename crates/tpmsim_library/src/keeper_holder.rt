@@ -52,7 +52,7 @@ impl KeeperHolder {
         }
     }
 
-    /// Takes the keeper out, if there is one, and leaves the holder empty.
+    /// Takes out the keeper, if any, and leaves the holder empty.
     pub fn take(&mut self, alloc: Global) -> Option<Box<DeviceKeeper>>
         ensures taken { MatchOption result (self.old.keeper ≡ None)
             (λ b. self.old.keeper ≡ Some b.value) }

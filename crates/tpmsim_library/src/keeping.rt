@@ -23,7 +23,7 @@ use crate::shown::put_whole;
 use crate::told::{DONE, NO_DEVICE, NO_MEMORY, NO_WORD};
 use std::alloc::Global;
 
-/// Creates a keeper, which replaces any keeper of the holder.
+/// Creates a keeper, which replaces any keeper that the holder had.
 #[unsafe(no_mangle)]
 pub extern "C" fn tpmsim_keeper_new(
     alloc: Global,
@@ -51,7 +51,7 @@ pub extern "C" fn tpmsim_keeper_new(
     }
 }
 
-/// Begins a call. On failure nothing changes.
+/// Begins a call. On failure, nothing changes.
 #[unsafe(no_mangle)]
 pub extern "C" fn tpmsim_keeper_begin(
     alloc: Global,
@@ -83,8 +83,8 @@ pub extern "C" fn tpmsim_keeper_begin(
     }
 }
 
-/// If `cuts` is not 0, later calls cut off damage in the journal. If it is 0, they refuse a damaged
-/// journal.
+/// Sets whether later calls cut off damage in the journal (`cuts` is not 0), or refuse a damaged
+/// journal (`cuts` is 0).
 #[unsafe(no_mangle)]
 pub extern "C" fn tpmsim_keeper_cuts(alloc: Global, holder: &mut KeeperHolder, cuts: u8) -> u8
     ensures set { MatchOption holder.old.keeper (holder.new.keeper ≡ None) (λ before.
@@ -114,8 +114,8 @@ pub extern "C" fn tpmsim_keeper_ask(alloc: Global, holder: &mut KeeperHolder, re
     holder.put(kept);
 }
 
-/// Writes the bytes that the host must write to the start of a buffer, if they fit. Returns their
-/// number, or 0 if there is no keeper.
+/// Copies the bytes that the host must write, if they fit, to the start of a buffer. Returns the
+/// number of these bytes, or 0 if there is no keeper.
 #[unsafe(no_mangle)]
 pub extern "C" fn tpmsim_keeper_text(
     alloc: Global,
@@ -134,7 +134,8 @@ pub extern "C" fn tpmsim_keeper_text(
     size
 }
 
-/// Writes the response of a finished call to the start of a buffer, if it fits. Returns its size.
+/// Writes the response of a finished call to the start of a buffer, if it fits. Returns the size of
+/// the response.
 #[unsafe(no_mangle)]
 pub extern "C" fn tpmsim_keeper_response(
     alloc: Global,
@@ -188,7 +189,7 @@ pub extern "C" fn tpmsim_fault_text(fault: u8, buffer: &mut [u8]) -> usize
     put_whole(fault.sentence().as_bytes(), buffer)
 }
 
-/// Frees the keeper and its device, if there is one, and leaves the holder empty.
+/// Frees the holder's keeper, if any, with its device, and leaves the holder empty.
 #[unsafe(no_mangle)]
 pub extern "C" fn tpmsim_keeper_free(alloc: Global, holder: &mut KeeperHolder)
     ensures { holder.new.keeper ≡ None }

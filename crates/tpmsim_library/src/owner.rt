@@ -41,7 +41,7 @@ impl<T: Drop> Owner<T> {
         Owner { at, alloc }
     }
 
-    /// Returns the box, if there is one.
+    /// Returns the box, or None if the pointer is null.
     pub fn into_box(self) -> Option<Box<T>>
         ensures { MatchOption result (self.value ≡ None) (λ b. self.value ≡ Some b.value) }
     {

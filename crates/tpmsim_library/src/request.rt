@@ -12,8 +12,8 @@ use tpm_keeping::keeper::{Ask, Got};
 #[repr(C)]
 #[derive(Clone, Copy, PartialEq, Eq)]
 pub struct Request {
-    /// The size to which the file must be truncated first; or, for a new journal, the size of the
-    /// old journal's part that the device executed.
+    /// The size to which the host must truncate the file before it writes. For a new journal: the
+    /// size of the part of the old journal that the device executed.
     pub cut: u64,
     /// The offset in the file for a read or a write.
     pub at: u64,
@@ -23,7 +23,7 @@ pub struct Request {
     pub task: u8,
     /// The number that reports how the call ended.
     pub fault: u8,
-    /// 1 if a new journal drops the damage of the old journal, otherwise 0.
+    /// 1 if a new journal drops the damage in the old journal, otherwise 0.
     pub drops: u8,
 }
 
@@ -127,8 +127,8 @@ impl Request {
         }
     }
 
-    /// Returns the request for a keeper's task, with the number of bytes to write or the size of
-    /// the response, and whether a new journal drops damage.
+    /// Returns the request for a keeper's task. It contains the number of bytes to write, or the
+    /// size of the response. It also says whether a new journal drops damage.
     pub fn of(asked: Ask, drops: bool, text: usize, response: usize) -> Request
         ensures { result ≡ request_by asked drops text response }
     {

@@ -50,8 +50,8 @@ impl Scratch {
         put_front(head.as_slice(), self.text.as_slice(), buffer)
     }
 
-    /// Writes what a machine keeps without power, except its clock, to the start of a buffer, if it
-    /// fits. Returns its size.
+    /// If they fit, writes the data that a machine keeps without power, except its clock, to the
+    /// start of a buffer. Returns the size of these data.
     pub fn kept_into(&mut self, machine: &Machine<SlotKeep>, buffer: &mut [u8]) -> usize
         ensures { PutsFront (kept_text (slot_record machine.now.keep)) buffer.old result
             buffer.new }

@@ -1,4 +1,4 @@
-//! Writes to C's buffers what a keeper returns.
+//! Writes a keeper's results to C's buffers.
 
 ghost use Rattle.std.specs.Prelude.{◌≡◌, ◌≤◌, drop, length};
 ghost use Rattle.tpm_image_text.specs.Saving.{PutsFront};
@@ -21,9 +21,9 @@ pub fn put_whole(bytes: &[u8], buffer: &mut [u8]) -> usize
     bytes.len()
 }
 
-/// Writes the content of the head at the start of the bytes to the start of a buffer, if it fits.
-/// Returns its size, or 0 if there is no head. The function is not inlined, so that its large
-/// buffer is not in its caller's stack frame.
+/// If `text` begins with a head whose content fits in `buffer`, writes that content to the start of
+/// `buffer`. Returns the size of the content, or 0 if `text` does not begin with a head. Not
+/// inlined, to keep this function's large local buffer out of the caller's stack frame.
 #[inline(never)]
 pub fn put_content(text: &[u8], buffer: &mut [u8]) -> usize
     ensures { PutsFront (content_at text.now) buffer.old result buffer.new }

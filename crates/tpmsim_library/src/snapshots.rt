@@ -22,7 +22,7 @@ use crate::told::{DONE, restore_number};
 use std::alloc::Global;
 
 /// Writes the state text of the device to the start of a buffer, if it fits. Returns the size of
-/// the state text, whether it was written or not; 0 if the holder is empty.
+/// the state text, even if it does not fit, or 0 if the holder is empty.
 #[unsafe(no_mangle)]
 pub extern "C" fn tpmsim_snapshot(alloc: Global, holder: &mut Holder, buffer: &mut [u8]) -> usize
     ensures written { MatchOption holder.old.device
@@ -40,7 +40,7 @@ pub extern "C" fn tpmsim_snapshot(alloc: Global, holder: &mut Holder, buffer: &m
     size
 }
 
-/// Replaces the holder's device by the device of a state text. On failure, returns the number of
+/// Replaces the holder's device with the device in a state text. On failure, returns the number of
 /// the first error, or NO_MEMORY, and leaves the holder unchanged.
 #[unsafe(no_mangle)]
 pub extern "C" fn tpmsim_restore(alloc: Global, holder: &mut Holder, text: &[u8]) -> u8
@@ -50,8 +50,8 @@ pub extern "C" fn tpmsim_restore(alloc: Global, holder: &mut Holder, text: &[u8]
     ensures told { result ≢ done → result ≢ no_memory → (fault : StateFault)
         × (result ≡ state_number fault) × (state_of_text text.now ≡ Err fault) }
 
-    // The state text of a device restores exactly that device, including its layer and its history,
-    // unless an allocation fails.
+    // Unless an allocation fails, restoring the state text of a device yields exactly that device,
+    // including its layer and its history.
     ensures taken { (state : WholeState) → IsWholeState state → text.now ≡ state_text state
         → result ≢ done → result ≡ no_memory }
     ensures again { (before : Device) → IsWholeState (whole_state before)

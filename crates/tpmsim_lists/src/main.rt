@@ -40,7 +40,7 @@ fn try_main(rt: &HostRuntime) -> Result<(), Fault> {
     run_over_lists(CommandLine { rt, words })
 }
 
-/// The arguments of the command line, and the host's facilities.
+/// The command-line arguments, and the host's facilities.
 #[derive(Drop)]
 struct CommandLine<'a> {
     rt: &'a HostRuntime,

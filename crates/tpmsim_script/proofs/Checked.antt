@@ -11,7 +11,7 @@ use Rattle.tpmsim_script.specs.Line.{Meaning, Executes, ExecutesWords, SetsLocal
 use Rattle.tpmsim_script.specs.Script.{Effect, Playing, execute, output_with, perform, perform_line, play, repeated, set_entropy, silence}
 use Rattle.tpmsim_script.specs.declared.bad_line.BadLine.{BadLine}
 
--- the milliseconds waited since the last command, after a line with this effect
+-- the number of milliseconds waited since the last command, after a line with this effect
 abbrev waited_after : Effect → ℕ
 waited_after effect = effect.next.waited
 
@@ -58,8 +58,8 @@ line_checked p line = reading_checked p (nat_le (length line) 65536) (line_readi
 some_is : (x y : ℕ) → Some x ≡ Some y → x ≡ y
 some_is x y e = cc
 
--- Checking and playing find the same first bad line, if they agree on the first line and on the
--- lines after it.
+-- Suppose that checking and playing agree on the first line, and find the same first bad line after
+-- it. Then they find the same first bad line among all these lines.
 first_by : (p : Playing) (number : ℕ) (line : List ℕ) (lines : List (List ℕ)) (checked : Result ℕ BadLine) (effect : Option Effect) → result_ok checked ≡ option_map waited_after effect
     → ((q : Playing) → first_number (faults_of q.waited (number + 1) lines) ≡ (play q (number + 1) lines).bad)
     → first_number (fault_at checked number line ++ faults_of (waited_behind checked p.waited) (number + 1) lines) ≡ (output_with effect number (λ next. play next (number + 1) lines)).bad

@@ -5,8 +5,8 @@ use Rattle.std.specs.Io.KnownBytes.{Appends, Keeps, append_known}
 use Rattle.tpm_bytes.specs.Tap.{AppendsFront}
 use Rattle.tpmsim_script.specs.Answers.{CutOff}
 
--- If only a prefix of the buffered output was written and the rest was dropped, the new output is a
--- prefix of the old output.
+-- If only a prefix of the buffered output was written, and the rest was dropped, the new contents
+-- are a prefix of the old output.
 pub cut_writing : (old new : Option (List ℕ)) (held : List ℕ) → AppendsFront old new held → CutOff (append_known old held) (append_known new [])
 cut_writing None new held h = tt
 cut_writing (Some old) None held h = absurd h.3
@@ -38,16 +38,16 @@ cut_longer None b more h = tt
 cut_longer (Some a) None more h = absurd h
 cut_longer (Some a) (Some b) more h = (h.0 ++ more, ap (λ (l : List ℕ). l ++ more) h.1 ∙ append_assoc b h.0 more)
 
--- If a text was printed and the output was then truncated, the result is a prefix of the old output
--- followed by the text.
+-- If a text was printed, and the output was truncated after that, the result is a prefix of the old
+-- output followed by the text.
 pub cut_behind : (a b c : Option (List ℕ)) (text : List ℕ) → Appends a b text → CutOff b c → CutOff (append_known a text) c
 cut_behind None b c text h k = tt
 cut_behind (Some a) None c text h k = absurd h
 cut_behind (Some a) (Some b) None text h k = absurd k
 cut_behind (Some a) (Some b) (Some c) text h k = (k.0, sym h ∙ k.1)
 
--- If one text is printed completely, and a second text only in part, the result is a prefix of the
--- old output followed by both texts.
+-- Suppose that one text is printed completely, and a second text only in part. Then the result is a
+-- prefix of the old output followed by both texts.
 pub cut_within : (a b c d : Option (List ℕ)) (text more : List ℕ) → Appends a b text → Keeps b c → CutOff (append_known c more) d → CutOff (append_known a (text ++ more)) d
 cut_within None b c d text more h k cut = tt
 cut_within (Some a) None c d text more h k cut = absurd h
@@ -56,8 +56,8 @@ cut_within (Some a) (Some b) (Some c) None text more h k cut = absurd cut
 cut_within (Some a) (Some b) (Some c) (Some d) text more h k cut =
     (cut.0, sym (append_assoc a text more) ∙ ap (λ (l : List ℕ). l ++ more) (sym (k ∙ h)) ∙ cut.1)
 
--- If a text is printed, and a second text directly after it is truncated, the result is a prefix of
--- the old output followed by both texts.
+-- Suppose that a text is printed, and that the output is then truncated within a second text. Then
+-- the result is a prefix of the old output followed by both texts.
 pub cut_after : (a b d : Option (List ℕ)) (text more : List ℕ) → Appends a b text → CutOff (append_known b more) d → CutOff (append_known a (text ++ more)) d
 cut_after None b d text more h cut = tt
 cut_after (Some a) None d text more h cut = absurd h

@@ -67,8 +67,8 @@ appended_twice (Some old) None new first more h k = absurd h
 appended_twice (Some old) (Some mid) None first more h k = absurd k
 appended_twice (Some old) (Some mid) (Some new) first more h k = k ∙ ap (λ (l : List ℕ). l ++ more) h ∙ append_assoc old first more
 
--- The line of a command had its effect if the command was executed, and first its trace (if
--- requested) and then its response were printed.
+-- A line with a command satisfies `Did` under these conditions: the command was executed; its trace
+-- was printed, if requested; and then its response was printed or, if the writer failed, truncated.
 pub executed : (p : Playing) (buffer : List ℕ) (s : Stepped) (old mid : Option (List ℕ)) (result : Result (Unit {0}) LineFault) (new : Option (List ℕ)) (after : Playing)
     → s ≡ step p.device (command_of p buffer) → Appends old mid (printed_trace p.traced (command_of p buffer) s) → OnOk result (Appends mid new (printed_response s.response)) → OnErr result (CutOff mid new)
     → after ≡ (answer p (command_of p buffer) s).next → OnErr result (result ≡ Err Write) → Did (Some (execute p buffer)) old p result new after
@@ -79,8 +79,8 @@ executed p buffer s old mid (Err Write) new after is traced printed cut next err
     (answer p (command_of p buffer) s, ap (λ s. Some (answer p (command_of p buffer) s)) (sym is), cut_after old mid new _ _ traced (cut_longer mid new _ cut), next)
 executed p buffer s old mid (Err Save) new after is traced printed cut next err = absurd (save_is_no_write err)
 
--- If a command was executed, but its trace or response could not be printed, the output was
--- truncated.
+-- A line with a command also satisfies `Did` if the command was executed, but the writer failed and
+-- the output was truncated.
 pub untraced : (p : Playing) (buffer : List ℕ) (s : Stepped) (old : Option (List ℕ)) (result : Result (Unit {0}) LineFault) (new : Option (List ℕ)) (after : Playing)
     → s ≡ step p.device (command_of p buffer) → OnErr result (CutOff old new) → after ≡ (answer p (command_of p buffer) s).next → result ≡ Err Write → Did (Some (execute p buffer)) old p result new after
 untraced p buffer s old (Ok done) new after is cut next e = absurd (ok_is_no_write done e)
@@ -89,8 +89,8 @@ untraced p buffer s old (Err Write) new after is cut next e =
     (answer p (command_of p buffer) s, ap (λ s. Some (answer p (command_of p buffer) s)) (sym is), cut_longer old new _ cut, next)
 untraced p buffer s old (Err Save) new after is cut next e = absurd (save_is_no_write e)
 
--- The line of a power cycle had its effect if the device was power-cycled, and the trace (if
--- requested) was printed.
+-- A line with a power cycle satisfies `Did` under these conditions: the device was power-cycled;
+-- and the trace was printed, if requested, or, if the writer failed, truncated.
 pub cycled : (p : Playing) (s : Stepped) (old : Option (List ℕ)) (result : Result (Unit {0}) LineFault) (new : Option (List ℕ)) (after : Playing)
     → s ≡ step p.device Cycled → OnOk result (Appends old new (printed_trace p.traced Cycled s)) → OnErr result (CutOff old new) → after ≡ (cycle_to p s).next → OnErr result (result ≡ Err Write)
     → Did (Some (cycle p)) old p result new after
@@ -101,7 +101,8 @@ cycled p s old (Err Save) new after is printed cut next err = absurd (save_is_no
 
 -- ---- the saver's notifications
 
--- `Told` holds for every result if the saver was notified and only the writer can have failed.
+-- `Told` holds for every result, if the saver was notified, and no part except the writer can have
+-- failed.
 pub told_then : {S : Type 0} (tells : S → Type 0) (old : S) (result : Result (Unit {0}) LineFault) (new : S) → OnErr result (result ≡ Err Write) → tells new → Told tells old result new
 told_then tells old (Ok done) new err told = told
 told_then tells old (Err Bad) new err told = absurd (bad_is_no_write err)

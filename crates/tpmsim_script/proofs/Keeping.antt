@@ -23,7 +23,7 @@ use Rattle.tpmsim_script.proofs.Doing.{lt_none}
 
 -- ---- playing one more line
 
--- These lines are the first lines of a text, and were read from it.
+-- These lines, the first lines of a text, were read.
 abbrev pub LosesLines : Option (List ℕ) → List (List ℕ) → Option (List ℕ) → Type 0
 LosesLines None lines new = Unit {0}
 LosesLines (Some text) lines None = ⊥
@@ -146,7 +146,7 @@ stopped saves saves_change text left here rest first now held new writer number 
 
 -- ---- a run that ends because no next line was found
 
--- If the first remaining line is too long, neither it nor any later line was played.
+-- If the first remaining line is too long, then neither this line nor any later line was played.
 left_long : (text here left : Option (List ℕ)) (lines : List (List ℕ)) (p : Playing) (number : ℕ) → LosesLines text lines here → IfSome here BeginsTooLong
     → IfSome text (λ text. (rest : List (List ℕ)) × (lines_of text ≡ lines ++ rest) × Leaves (Err (fault.Line number)) left p rest)
 left_long None here left lines p number h k = tt
@@ -245,7 +245,7 @@ failed saves saves_change text left here rest first now new writer number start 
 
 -- ---- the end after the last line that a script may have
 
--- If a line remains after the largest allowed number of lines, at least one line was not played.
+-- If a line remains after the maximum number of lines, at least one line was not played.
 left_more : (text here rest left : Option (List ℕ)) (lines : List (List ℕ)) (line : List ℕ) (p : Playing) → LosesLines text lines here → LosesFirstLine here line rest
     → IfSome text (λ text. (rest : List (List ℕ)) × (lines_of text ≡ lines ++ rest) × Leaves (Err fault.TooManyLines) left p rest)
 left_more text here rest left lines line p h k = left_from text here rest lines line (Leaves (Err fault.TooManyLines) left p) h k (λ others. (line, others, refl))
@@ -317,8 +317,8 @@ others_yet : (text : Option (List ℕ)) (lines : List (List ℕ)) (P Q : List (L
 others_yet None lines P Q q h = tt
 others_yet (Some text) lines P Q q h = (h.0, h.1, q h.0)
 
--- If `Played` holds for a run with one result, it holds with any other result that allows the same
--- lines and output.
+-- If `Played` holds for a run with one result, it also holds for any other result that allows the
+-- same lines and the same output.
 recast : {S : Type 0} (saves saves_change : S → Record → S → Type 0) (text left old mid new : Option (List ℕ)) (start : Kept S) (result other : Result (Unit {0}) ScriptFault) (Last Next : Kept S → Type 0)
     → (h : Played saves saves_change text left old mid start result Last) → Counts other (length h.lines) → ((rest : List (List ℕ)) → Leaves other left h.end.playing rest) → Writes other old new h.print → Next h.end
     → Played saves saves_change text left old new start other Next

@@ -97,8 +97,8 @@ found_too_long line rest more at h e long =
 pub found_more : (line rest : List ℕ) → IsUnbroken line → position is_break rest ≡ None → IsUnbroken (line ++ rest)
 found_more line rest h e = All-append IsWithin line rest h (no_break rest e)
 
--- If the line so far and all bytes that were read contain no 0a and have more than 65,536 bytes
--- together, the line is too long.
+-- If the line so far and all bytes that were read contain no 0a, and have more than 65,536 bytes in
+-- total, the line is too long.
 pub found_no_end : (line rest more : List ℕ) → IsUnbroken line → position is_break rest ≡ None → 65536 < length line + length rest → BeginsTooLong (line ++ (rest ++ more))
 found_no_end line rest more h e long =
     let whole = found_more line rest h e in
@@ -128,7 +128,7 @@ stopped_finds old new true (byte ∷ line) e l whole behind h none short = λ mo
     ∙ ap (λ (x : List ℕ). x ∷ lines_of ([] ++ more)) (sym whole) ∙ ap (λ (rest : List ℕ). line_of new ∷ lines_of (rest ++ more)) (sym behind)
 
 -- If the bytes that were read begin with a line that is too long, the whole remaining text begins
--- with such a line.
+-- with a line that is too long.
 pub too_long_left : (left remaining : Option (List ℕ)) (line rest : List ℕ) → Keeps left (prepend_known (line ++ rest) remaining) → ((more : List ℕ) → BeginsTooLong (line ++ (rest ++ more)))
     → IfSome left BeginsTooLong
 too_long_left None remaining line rest h long = tt

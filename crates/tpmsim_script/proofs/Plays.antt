@@ -109,8 +109,8 @@ pub reached_on : (left rest old held mid new : Option (List ℕ)) (p q : Playing
 reached_on left rest old held mid new p q number line done next behind t k did h =
     reached_next left rest old held mid new p number line did.0 next behind t k did.1 did.2 (subst (λ x. PlaysUpTo rest mid new x (number + 1) next behind) did.3 h)
 
--- If the lines from `here` up to some later line were played, all lines from `start` up to that
--- line were played.
+-- Suppose that the lines from `here` up to some later line were played. Then all lines from `start`
+-- up to that line were played.
 abbrev pub Leads : Option (List ℕ) → Option (List ℕ) → Playing → ℕ → Option (List ℕ) → Option (List ℕ) → Playing → Option (List ℕ) → Type 0
 Leads here old p number start first q new = (next : ℕ) (behind : List (List ℕ)) → PlaysUpTo here old new p number next behind → PlaysUpTo start first new q 1 next behind
 
@@ -163,7 +163,7 @@ stopped_with_memory number stop.Bad fact = tt
 stopped_with_memory number stop.Write fact = tt
 stopped_with_memory number stop.Save fact = tt
 
--- ---- the end of a script with the largest allowed number of lines
+-- ---- the end of a script with the maximum number of lines
 
 abbrev HasLine : Option (List ℕ) → Type 0
 HasLine left = IfSome left (λ text. (line : List ℕ) × (rest : List (List ℕ)) × (lines_of text ≡ line ∷ rest))
@@ -290,8 +290,8 @@ ran_too_many start text before old mid written new q p (Err Write) a b c k d h =
 ran_too_many start text before old mid written new q p (Err Save) a b c k d h = tt
 ran_too_many start text before old mid written new q p (Err NoMemory) a b c k d h = tt
 
--- If the writer's flags are unchanged, and a saver that had failed still counts as failed, the
--- fault still names the part that failed.
+-- Suppose that a fault names the part that failed. The fault still names this part if the writer's
+-- flags are unchanged, and a saver that had failed still counts as failed.
 pub theirs_yet : (result : Result (Unit {0}) ScriptFault) (reader old new : Marks) (unsaved still : Bool) → new ≡ old → (unsaved ≡ true → still ≡ true) → AreTheirs result reader old unsaved → AreTheirs result reader new still
 theirs_yet (Ok done) reader old new unsaved still e stays h = tt
 theirs_yet (Err (Line bad)) reader old new unsaved still e stays h = tt

@@ -9,7 +9,7 @@ use Rattle.tpmsim_script.specs.Report.{report_text, script_faults, told}
 use Rattle.tpmsim_script.specs.Checking.{Fault, fault_at, faults_of, first_number, line_check, waited_behind}
 use Rattle.tpmsim_script.specs.Line.{lines_of}
 
--- the faults of the remaining lines; `number` is the number of the first remaining line
+-- the faults of the remaining lines; the first of these lines has the number `number`
 abbrev pub left : (waited number : ℕ) → (text : List ℕ) → List Fault
 left waited number text = faults_of waited number (take (1048577 - number) (lines_of text))
 
@@ -66,9 +66,9 @@ some_lines (byte ∷ text) some = by_break (byte == 10)
 -- ---- the faults so far
 
 -- The report of the lines checked so far, followed by the report of the remaining lines, is the
--- report of the whole script. The first bad line of the script is the first bad line so far or, if
--- there is none, the first bad line of the remaining lines. The lines so far and the remaining
--- lines are all lines of the script.
+-- report of the whole script. The first bad line of the script is the first bad line so far. If no
+-- line so far is bad, it is the first bad line among the remaining lines. Together, the lines so
+-- far and the remaining lines are all lines of the script.
 pub record SoFar (text : List ℕ) (first : Option ℕ) (waited number : ℕ) (rest whole : List ℕ) (whole_first : Option ℕ) (lines : ℕ) : Type 0 where
   pub text_is : text ++ flat_map told (left waited number rest) ≡ whole
   pub first_is : option_or first (first_number (left waited number rest)) ≡ whole_first
@@ -130,7 +130,7 @@ no_more text first waited number rest whole whole_first lines small none sofar =
     let gone = no_lines rest none in
     le-ltb 1048576 lines (omega (arith, small, gone, sofar.count_is)) ∙ sym (ap not (eq-eqb (length rest) 0 none))
 
--- After the largest allowed number of lines, the script exceeds this limit if and only if some text
+-- After the maximum number of lines, the script exceeds this limit if and only if some text
 -- remains.
 more_by : (rest : List ℕ) (lines : ℕ) → length (lines_of rest) + 1048577 ≡ lines + 1 → nat_lt 1048576 lines ≡ not (length rest == 0)
 more_by [] lines count = le-ltb 1048576 lines (omega (arith, count))

@@ -3,7 +3,7 @@ use Rattle.std.proofs.Common.{◌≡◌, ℕ, ◌+◌, ◌≤◌, List, [], ◌+
 use Rattle.std.proofs.lemmas.List.{length-take-le, take-take, take_at}
 use Rattle.std.specs.Io.KnownBytes.{Appends, Keeps, append_known}
 
--- The printed output includes the buffered part. Therefore writing the buffer leaves the printed
+-- The printed output includes the buffered output. Therefore writing the buffer leaves the printed
 -- output unchanged.
 pub written : (old new : Option (List ℕ)) (held : List ℕ) → Appends old new held → Keeps (append_known old held) (append_known new [])
 written None new held h = tt

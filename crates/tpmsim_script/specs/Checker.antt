@@ -2,6 +2,6 @@
 use Rattle.std.specs.Prelude.{ℕ}
 use Rattle.tpmsim_script.specs.declared.checker.Checker.{Checker}
 
--- the milliseconds waited since the last command, up to the checked line
+-- the number of milliseconds waited since the last command, after all lines checked so far
 abbrev pub waited_of : Checker → ℕ
 waited_of checker = checker.script.waited

@@ -47,17 +47,17 @@ PlaysLines {S = S} saves saves_change old (line ∷ lines) text new =
     × PlaysLine saves saves_change old line first mid
     × PlaysLines saves saves_change mid lines more new
 
--- `count` lines were played. If a line is bad, these are all lines before the bad line. If the
--- script has too many lines, they are the largest allowed number of lines.
+-- `count` lines were played. If a line is bad, these are all the lines before it. If the script has
+-- too many lines, `count` is the maximum number of lines.
 abbrev pub Counts : Result (Unit {0}) ScriptFault → ℕ → Type 0
 Counts (Err (fault.Line number)) count = number ≡ count + 1
 Counts (Err fault.TooManyLines) count = count ≡ 1048576
 Counts other count = Unit {0}
 
--- The lines `rest` were not played. If the run succeeded, there are none. If it stopped at a bad
--- line, they begin with the bad line. If the reader failed, they begin with the line that the
--- reader had begun to return; `left` is the text that the reader has not returned. If there were
--- too many lines, there is at least one.
+-- The lines `rest` were not played. If the run succeeded, `rest` is empty. If the run stopped at a
+-- bad line, `rest` begins with the bad line. If the reader failed, `rest` begins with the line that
+-- the reader had begun to return; `left` is the text that the reader has not returned. If the
+-- script has too many lines, `rest` has at least one line.
 abbrev pub Leaves : Result (Unit {0}) ScriptFault → (left : Option (List ℕ)) → Playing
     → List (List ℕ) → Type 0
 Leaves (Ok done) left p rest = rest ≡ []
@@ -76,8 +76,8 @@ abbrev pub Writes : Result (Unit {0}) ScriptFault
 Writes (Err fault.Write) old new text = CutOff (append_known old text) new
 Writes other old new text = Appends old new text
 
--- Lines of a text were played from `start` on, and the state after them satisfies `Last`. Their
--- output was written after the old contents of the writer (`old`).
+-- Lines of a text were played, beginning in the state `start`, and the state after them satisfies
+-- `Last`. Their output was written after the old contents of the writer (`old`).
 pub record Played {S : Type 0} (saves saves_change : S → Record → S → Type 0)
     (text left old new : Option (List ℕ)) (start : Kept S)
     (result : Result (Unit {0}) ScriptFault) (Last : Kept S → Type 0) : Type 0 where
@@ -93,8 +93,8 @@ pub record Played {S : Type 0} (saves saves_change : S → Record → S → Type
 
 -- A run saved its device: it wrote the output of the played lines, and notified the saver as
 -- `Tells` defines. The state after these lines satisfies `Last`. If a save failed at a line, that
--- line does not count as played, and none of its output was written. In that case, `Last` is not
--- claimed. If the writer failed too, or if memory ran out, nothing is claimed.
+-- line does not count as played, none of its output was written, and `Last` need not hold. If the
+-- writer also failed, or if memory ran out, nothing is claimed.
 abbrev pub KeepsDevice : {S : Type 0} → (saves saves_change : S → Record → S → Type 0)
     → (text left old new : Option (List ℕ)) → (writer : Marks) → Kept S
     → Result (Unit {0}) ScriptFault → (Last : Kept S → Type 0) → Type 0

@@ -70,8 +70,8 @@ reading_with word argument =
     else if is_word (codes "power") word then Err (misplaced wanted.End)
     else Err unknown_word
 
--- the meaning of a text; its first word ends at the space with this offset, or is the whole text if
--- there is no space
+-- the meaning of a text, whose first word ends at the space with this offset; if there is no space,
+-- the whole text is its first word
 abbrev pub reading_by : Option ℕ → List ℕ → Result Meaning BadLine
 reading_by None text = reading_alone text
 reading_by (Some space) text = reading_with (take space text) (drop (space + 1) text)

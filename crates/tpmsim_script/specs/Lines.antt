@@ -8,7 +8,7 @@ use Rattle.tpmsim_script.specs.declared.lines.Lines.{Lines}
 use Rattle.tpmsim_script.specs.declared.lines.Next.{Next}
 use Rattle.tpmsim_script.specs.declared.lines.Next.TheVariants.{Line, TooLong, Incomplete, End}
 
--- the line that was found last, or as much of the next line as has been read
+-- the line that was found last, or the part of the next line that has been read
 abbrev pub line_of : Lines → List ℕ
 line_of lines = lines.line.items
 
@@ -20,14 +20,14 @@ rest_of lines = slice_range lines.bytes.items lines.next lines.filled
 abbrev pub IsUnbroken : List ℕ → Type 0
 IsUnbroken bytes = All (λ byte. (byte == 10) ≡ false) bytes
 
--- the result of a search that found no end of a line. If the reader has not ended, more bytes may
--- follow. If it has ended, the line is the last line, or the text is at its end
+-- the result of a search that did not find the end of a line. If the reader has not ended, more
+-- bytes may follow. If it has ended, the line is the last line, or the text is at its end
 abbrev pub next_at : Bool → List ℕ → Next
 next_at false line = Incomplete
 next_at true [] = End
 next_at true (byte ∷ line) = Line
 
--- The reader may return these further bytes; if it has ended, it returns none.
+-- The reader may return these further bytes. A reader that has ended returns no further bytes.
 abbrev pub MayFollow : Lines → List ℕ → Type 0
 MayFollow lines more = lines.ended ≡ true → more ≡ []
 
@@ -49,7 +49,7 @@ Finds old Incomplete new =
     × IsUnbroken (line_of new) × (old.ended ≡ false) × (length (line_of new) ≤ 65536)
 Finds old End new = (line_of old ++ rest_of old ≡ []) × (rest_of new ≡ []) × (old.ended ≡ true)
 
--- The line buffer's flag says that the reader has ended only if the reader has ended.
+-- If the flag of the line buffer says that the reader has ended, then the reader has ended.
 abbrev pub Agrees : Option (List ℕ) → Lines → Type 0
 Agrees remaining lines = lines.ended ≡ true → IsAtEnd remaining
 
@@ -58,7 +58,7 @@ Agrees remaining lines = lines.ended ≡ true → IsAtEnd remaining
 abbrev pub text_left : Option (List ℕ) → Lines → Option (List ℕ)
 text_left remaining lines = prepend_known (rest_of lines) remaining
 
--- The first line of a text was read: it is this line.
+-- This line, the first line of a text, was read.
 abbrev pub LosesFirstLine : Option (List ℕ) → List ℕ → Option (List ℕ) → Type 0
 LosesFirstLine None line new = Unit {0}
 LosesFirstLine (Some text) line None = ⊥

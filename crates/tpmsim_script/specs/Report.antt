@@ -13,7 +13,7 @@ use Rattle.tpmsim_script.specs.declared.bad_line.Wanted.TheVariants as wanted
 use Rattle.tpmsim_script.specs.declared.fault.ScriptFault.{ScriptFault}
 use Rattle.tpmsim_script.specs.declared.fault.ScriptFault.TheVariants as script
 
--- the name of the fault of a line, with the column of the faulty token
+-- the name of a line's fault, with the column of the faulty token
 abbrev pub fault_name : AsmFault → List ℕ
 fault_name fault.BadName = codes "BadName"
 fault_name (fault.BadField column) = codes "BadField " ++ decimal column
@@ -22,8 +22,8 @@ fault_name (fault.Range column) = codes "Range " ++ decimal column
 fault_name fault.TooLong = codes "TooLong"
 fault_name fault.NoMemory = codes "NoMemory"
 
--- the words that say what is expected where a bad line has its fault; a command in words begins
--- after `do` and a space
+-- the words that say what is expected at the position of a bad line's fault. In a line with `do`,
+-- the command begins after `do` and a space
 abbrev pub wanted_text : Wanted → (line : List ℕ) → AsmFault → List ℕ
 wanted_text wanted.Word line fault = codes "do, cmd, loc, wait, entropy or power"
 wanted_text wanted.Command line fault = word_at (drop 3 line) fault
@@ -43,8 +43,8 @@ fault_text number fault wanted =
 abbrev pub told : Fault → List ℕ
 told f = fault_text f.number f.bad.fault (wanted_text f.bad.wanted f.line f.bad.fault) ++ 10 ∷ []
 
--- the faults in the first 1,048,576 lines of a script; a script may not have more lines, and later
--- lines are not checked
+-- the faults in the lines of a script, up to the limit of 1,048,576 lines. A script may not have
+-- more lines, and any further lines are not checked
 abbrev pub script_faults : List ℕ → List Fault
 script_faults text = faults_of 0 1 (take 1048576 (lines_of text))
 

@@ -49,9 +49,9 @@ AreTheirs (Err fault.Write) reader writer unsaved = writer.failed ≡ true
 AreTheirs (Err fault.Save) reader writer unsaved = unsaved ≡ true
 AreTheirs other reader writer unsaved = Unit {0}
 
--- The lines from number `number` to just before number `next` were played, starting in the state
--- `p`. None of them is bad, and their output was written after the old contents of the writer
--- (`old`). `rest` contains the remaining lines.
+-- The lines from number `number` up to, but not including, number `next` were played, beginning in
+-- the state `p`. None of them is bad, and their output was written after the old contents of the
+-- writer (`old`). `rest` contains the remaining lines.
 abbrev pub PlaysUpTo : Option (List ℕ) → Option (List ℕ) → Option (List ℕ)
     → Playing → ℕ → ℕ → List (List ℕ) → Type 0
 PlaysUpTo None old new p number next rest = Unit {0}
@@ -59,8 +59,8 @@ PlaysUpTo (Some text) old new p number next rest =
     (played : List (List ℕ)) × (lines_of text ≡ played ++ rest)
     × (next ≡ number + length played) × IsOutput old new None (play p number played)
 
--- The reader failed before it returned the text `left`. It had returned the lines that were played,
--- none of which is bad, and the start of the next line.
+-- The reader failed before it returned the text `left`. Before the failure, it had returned the
+-- lines that were played, and the start of the next line. None of the played lines is bad.
 abbrev pub PlaysToFailure : Option (List ℕ) → Option (List ℕ)
     → Option (List ℕ) → Option (List ℕ) → Playing → Type 0
 PlaysToFailure None left old new p = Unit {0}
@@ -69,7 +69,7 @@ PlaysToFailure (Some text) (Some left) old new p =
     (start : List ℕ) × (next : ℕ) × IsUnbroken start
     × PlaysUpTo (Some text) old new p 1 next (lines_of (start ++ left))
 
--- The largest allowed number of lines, 1,048,576, was played. None of them is bad, and there is
+-- The maximum number of lines, 1,048,576, was played. None of them is bad, and there is
 -- another line.
 abbrev pub PlaysAllAllowed : Option (List ℕ) → Option (List ℕ) → Option (List ℕ) → Playing → Type 0
 PlaysAllAllowed text old new p =
@@ -94,7 +94,7 @@ UnlessFailed (Err (fault.Line number)) fact = fact
 UnlessFailed (Err fault.Read) fact = fact
 UnlessFailed (Err other) fact = Unit {0}
 
--- the result of a run after the largest allowed number of lines: TooManyLines if there is another
+-- the result of a run after the maximum number of lines: TooManyLines if there is another
 -- line
 abbrev pub end_at_limit : Result Bool ScriptFault → Result (Unit {0}) ScriptFault
 end_at_limit (Ok true) = Err fault.TooManyLines

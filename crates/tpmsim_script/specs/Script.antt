@@ -19,8 +19,8 @@ use Rattle.tpmsim_script.specs.Line.{bytes_of, line_meaning, lines_of}
 use Rattle.tpmsim_script.specs.declared.script.Script.{Script}
 
 -- A script that is being played: whether its events are traced, the locality of its commands, the
--- milliseconds waited since the last command (including waits before a power cycle), the random
--- bytes of each command, and the device.
+-- milliseconds waited since the last command, the random bytes of each command, and the device.
+-- Waits before a power cycle also count.
 pub record Playing : Type 0 where
   pub traced : Bool
   pub locality : ℕ
@@ -75,8 +75,7 @@ printed_response response = encode_lower response ++ 10 ∷ []
 abbrev pub silence : Playing → Effect
 silence p = record { text = []; next = p }
 
--- the trace of an event with this outcome, and the end of its line; nothing if events are not
--- traced
+-- the trace of an event with this outcome, and the end of its line; empty if events are not traced
 unfoldable pub printed_trace : (traced : Bool) → PlainEvent → Stepped → List ℕ
 printed_trace traced event s =
     if traced then trace_text event s.row s.response ++ 10 ∷ [] else []

@@ -36,7 +36,7 @@ impl Answers {
         Ok(Answers { text, used: 0 })
     }
 
-    /// Adds the line of a response. It may stay in memory until [`Answers::flush`].
+    /// Adds a response as a line of hex. The line may stay in memory until [`Answers::flush`].
     pub fn put<W: Write>(&mut self, writer: &mut Tap<W>, response: &[u8]) -> Result<(), Failed>
         requires { length response.now ≤ buffer_limit }
         ensures failed { OnErr result ((marks_of writer.new).failed ≡ true) }

@@ -11,7 +11,7 @@ use tpm_bytes::NoMemory;
 pub enum ScriptFault {
     /// The line with this number, counted from 1, is not allowed in a script.
     Line(u32),
-    /// The reader failed. The whole lines that it had returned were run.
+    /// The reader failed. The complete lines that it had returned were run.
     Read,
     /// The script contains more lines than the limit. The lines up to the limit were run.
     TooManyLines,

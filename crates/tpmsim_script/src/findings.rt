@@ -24,7 +24,7 @@ pub struct Findings {
 }
 
 impl Findings {
-    /// No findings.
+    /// Findings without any bad line.
     pub fn new(alloc: Global) -> Findings
         ensures text { result.text.bytes.items ≡ [] }
         ensures first { result.first ≡ None }

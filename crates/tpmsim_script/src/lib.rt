@@ -15,9 +15,9 @@
 //! traces, `tpm_help` to say what is expected at a fault, and `tpm_hex`. If allocations for the
 //! device never fail, the output is the one that `specs/` defines for the script, up to its end or
 //! its first bad line. Whatever the fault, the lines before it were run, and the saver was notified
-//! after each command and power cycle in them. All memory is allocated at the start, except for the
-//! device's own and for a report's text. A report equals its definition in `specs/`, which lists
-//! the faults of the script's lines.
+//! after each command and power cycle in them. All memory is allocated at the start, except the
+//! device's own memory and the text of a report. A report equals its definition in `specs/`, which
+//! lists the faults of the script's lines.
 
 pub mod answers;
 pub mod bad_line;

@@ -10,10 +10,10 @@ use std::io::Read;
 use tpm_bytes::{Failed, Tap};
 use tpm_text::position_of;
 
-/// The largest size of a line, without the 0a at its end.
+/// The maximum size of a line, without the 0a at its end.
 pub const LINE_LIMIT: usize = 65_536;
 
-/// The largest number of bytes for one read.
+/// The maximum number of bytes for one read.
 const CAPACITY: usize = 65_536;
 
 /// The next line in the bytes that were read, or the reason why there is none.
@@ -37,13 +37,13 @@ struct TooLong;
 /// this type does not depend on the text.
 #[derive(Drop)]
 pub struct Lines {
-    /// The line that was found last, or as much of the next line as has been read.
+    /// The line that was found last, or the part of the next line that has been read.
     line: ArrayVec<u8, 65536>,
     bytes: Vec<u8>,
     /// The bytes from offset `next` to `filled` were read and do not belong to a line yet.
     next: usize,
     filled: usize,
-    /// Whether the last read returned nothing.
+    /// Whether the last read returned no bytes.
     ended: bool,
     ghost capacity: { vec_len bytes ≡ CAPACITY },
     ghost in_order: { next ≤ filled },
@@ -59,7 +59,7 @@ impl Lines {
     ghost use Rattle.tpmsim_script.specs.Lines.{Agrees, Finds, IsUnbroken};
     ghost use Rattle.tpmsim_script.specs.Lines.{line_of, next_at, rest_of};
 
-    /// The lines of a script of which nothing has been read yet.
+    /// The lines of a script that has not been read yet.
     pub fn new(alloc: Global) -> Result<Lines, AllocError>
         ensures { IfOk result (λ lines. (rest_of lines ≡ []) × (lines.ended ≡ false)) }
     {
@@ -90,8 +90,8 @@ impl Lines {
         self.line.clear();
     }
 
-    /// Moves the next bytes to the line, up to the end of the line. If the bytes that were read do
-    /// not contain that end, moves all of them.
+    /// Moves the next bytes to the line, up to the end of the line. If the line does not end in the
+    /// bytes that were read, moves all of them.
     pub fn find(&mut self) -> Next
         requires { IsUnbroken (line_of self.old) }
         ensures found { Finds self.old result self.new }
@@ -126,7 +126,7 @@ impl Lines {
         Ok(())
     }
 
-    /// Adds all remaining bytes that were read to the line.
+    /// Adds to the line all bytes that were read and do not belong to a line yet.
     fn take_rest(&mut self) -> Result<(), TooLong>
         ensures line { OnOk result (line_of self.new ≡ line_of self.old ++ rest_of self.old) }
         ensures rest { OnOk result (rest_of self.new ≡ []) }
@@ -139,7 +139,7 @@ impl Lines {
         self.take(count, count)
     }
 
-    /// The result of [`Lines::find`] if the bytes that were read contain no end of a line.
+    /// The result of [`Lines::find`] if the bytes that were read do not contain the end of a line.
     fn stopped(&self) -> Next
         ensures { result ≡ next_at self.now.ended (line_of self.now) }
     {
@@ -152,8 +152,8 @@ impl Lines {
         }
     }
 
-    /// Reads more bytes, with one read of the reader. All output must have been written before the
-    /// call: the author of a script may need it to write the next line.
+    /// Reads more bytes from the reader, in a single read. All output must have been written before
+    /// the call, because the author of a script may need the output to write the next line.
     pub fn fill<R: Read>(&mut self, reader: &mut Tap<R>, _answers: &Answers) -> Result<(), Failed>
         requires rest { rest_of self.old ≡ [] }
         requires written { backlog _answers.now ≡ [] }

@@ -66,9 +66,9 @@ impl<K: Keep> Player<K> {
         &self.machine
     }
 
-    /// Performs a line. Prints the response if the line is a command, and a trace if requested.
-    /// Decodes the line's hex or words into `room`. If an allocation can fail, the line's effect is
-    /// unspecified.
+    /// Performs a line. If the line is a command, prints the response. If a trace is requested,
+    /// prints the trace. Decodes the line's hex or words into `room`. If an allocation can fail,
+    /// the line's effect is unspecified.
     #[tactic(auto, using(crate::proofs::Doing::unsaid_done))]
     pub fn line<W: Write, S: Saver>(
         &mut self,

@@ -12,7 +12,7 @@ use crate::line::{Unfit, decode};
 use std::alloc::{AllocError, Global};
 use tpm_text::{AsmFault, Draft, assemble_in};
 
-/// The largest number of bytes that the hex of a line can encode.
+/// The maximum number of bytes that the hex of a line can encode.
 const DECODED_LIMIT: usize = 32_768;
 
 /// A buffer for the bytes that a line encodes in hex or in words.

@@ -25,11 +25,11 @@ use tpm_bytes::{NoMemory, Tap};
 use tpm_machine::{Machine, Saver, SavesNothing};
 use tpm_record::Keep;
 
-/// The largest number of lines that a script may have.
+/// The maximum number of lines that a script may have.
 pub const SCRIPT_LINES: u32 = 1_048_576;
 
-/// Runs the script from `reader` on a new device, as [`run_device`] does. The device is
-/// manufactured with the bytes 00 to ff, and is not saved.
+/// Like [`run_device`], but runs the script from `reader` on a new device, which is manufactured
+/// with the bytes 00 to ff and is not saved.
 pub fn run_script<K: Keep, R: Read, W: Write>(
     alloc: Global,
     reader: &mut Tap<R>,
@@ -92,14 +92,14 @@ pub fn run_device<K: Keep, S: Saver, R: Read, W: Write>(
         (W.contents (device_of writer.old)) (W.contents (device_of writer.new))
         (at_first trace (state_of K.record_of machine)) 1) result }
 
-    // If the reader failed, the whole lines that it had returned were played and their output was
-    // written; only the start of the next line was not played.
+    // If the reader failed, the complete lines that it had returned were played and their output
+    // was written; only the start of the next line was not played.
     ensures read { K.can_refuse ≡ false → OnUnread result (PlaysToFailure
         (R.remaining (device_of reader.old)) (R.remaining (device_of reader.new))
         (W.contents (device_of writer.old)) (W.contents (device_of writer.new))
         (at_first trace (state_of K.record_of machine))) }
 
-    // The fault TooManyLines means that the largest allowed number of lines was played, that their
+    // The fault TooManyLines means that the maximum number of lines was played, that their
     // output was written, and that there is another line.
     ensures too_many { K.can_refuse ≡ false → OnTooMany result (PlaysAllAllowed
         (R.remaining (device_of reader.old))
@@ -167,8 +167,8 @@ impl<K: Keep> Run<K> {
         })
     }
 
-    /// Runs the lines, to the end of the script or to a fault. Decodes their hex or words into
-    /// `room`.
+    /// Runs the lines, to the end of the script or to a fault. The hex or the words of a line are
+    /// decoded into `room`.
     fn lines<R: Read, W: Write, S: Saver>(
         &mut self,
         reader: &mut Tap<R>,
@@ -263,7 +263,7 @@ impl<K: Keep> Run<K> {
     }
 }
 
-/// Returns the result of a run after the largest allowed number of lines: TooManyLines if there is
+/// Returns the result of a run after the maximum number of lines: TooManyLines if there is
 /// another line.
 fn end_at_limit(next: Result<bool, ScriptFault>) -> Result<(), ScriptFault>
     ensures { result ≡ end_at_limit next }

@@ -14,7 +14,7 @@ use tpm_types::Locality;
 /// The number of random bytes for each command.
 pub const RANDOM_BYTES: usize = 256;
 
-/// The values that the lines so far have set for the script's next command.
+/// The values that earlier lines of a script have set for its next command.
 #[derive(Drop)]
 pub struct Script {
     locality: Locality,
@@ -44,7 +44,8 @@ impl Script {
         self.locality = locality;
     }
 
-    /// Adds elapsed time, up to 2^32 - 1 milliseconds in total between two commands.
+    /// Adds elapsed time. Fails if more than 2^32 - 1 milliseconds would have elapsed since the
+    /// last command.
     pub fn wait(&mut self, milliseconds: u32) -> Result<(), Unfit>
         ensures fits { IsOk result ↔ (self.old.waited + milliseconds < 2 ^ 32) }
         ensures ok { OnOk result
@@ -55,8 +56,8 @@ impl Script {
         Ok(())
     }
 
-    /// Sets the random bytes of later commands by repeating these bytes to 256. Fails unless there
-    /// are 1 to 256 bytes.
+    /// Sets the random bytes of later commands. The given bytes are repeated until there are 256
+    /// bytes. Fails unless 1 to 256 bytes are given.
     pub fn set_entropy(&mut self, entropy: &[u8]) -> Result<(), Unfit>
         ensures fits { IsOk result
             ↔ ((0 < length entropy.now) × (length entropy.now ≤ RANDOM_BYTES)) }
@@ -70,7 +71,8 @@ impl Script {
         Ok(())
     }
 
-    /// The event of this command, with the values that the script's lines have set so far.
+    /// Returns the event of this command, with the values that earlier lines of the script have
+    /// set. Then sets the elapsed time to 0.
     pub fn command<'a>(&mut self, buffer: &'a [u8]) -> Event<'a>
         ensures event { result
             ≡ Event.Command buffer.entry self.old.locality self.old.waited self.old.random }

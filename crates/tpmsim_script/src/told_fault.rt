@@ -45,7 +45,7 @@ impl fmt::Display for ToldFault {
     }
 }
 
-/// The name of the fault of a line, with the column of the faulty token.
+/// The name of a line's fault, with the column of the faulty token.
 #[derive(Clone, Copy)]
 struct FaultName {
     fault: AsmFault,
@@ -69,7 +69,7 @@ impl fmt::Display for FaultName {
     }
 }
 
-/// Says what is expected where a bad line has its fault.
+/// Says what is expected at the position of a bad line's fault.
 fn wanted_text(bad: BadLine, line: &[u8]) -> &'static str
     ensures { result.now ≡ wanted_text bad.wanted line.now bad.fault }
 {

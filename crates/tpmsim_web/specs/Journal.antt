@@ -45,8 +45,8 @@ abbrev pub BeginsIfRoom : (before : Device) → (now room size : ℕ) → (after
 BeginsIfRoom before now room size after =
     (size ≤ room → BeginsJournal before now after) × (room < size → IsAsBefore before after)
 
--- the clock that a checkpoint stores at the time `now`: the journal's clock, so that no time is
--- lost; or `now` if no journal has been started yet (the checksum is then 0)
+-- the clock that a checkpoint at the time `now` stores. It is the journal's clock, so that no time
+-- is lost. If no journal has been started yet (the checksum is then 0), it is `now`
 abbrev pub checkpoint_clock : Device → (now : ℕ) → ℕ
 checkpoint_clock device now = if device.journal.sum == 0 then now else device.journal.time
 
@@ -56,8 +56,9 @@ checkpoint_head device now =
     head_text State (checkpoint_clock device now)
     (state_text (state_beside device.journal (record_of device)))
 
--- The device's journal restarts with a checkpoint. Starting from this checkpoint gives the same
--- journal and device. The device and its completing layer are unchanged.
+-- The device's journal restarts with a checkpoint. Opening a journal that begins with this
+-- checkpoint yields the same journal and the same device. The device and its completing layer are
+-- unchanged.
 pub record Checkpoints (before : Device) (now : ℕ) (after : Device) : Type 0 where
   pub device : record_of after ≡ record_of before
   pub journal : after.journal
@@ -92,8 +93,8 @@ abbrev pub journal_with : Journal → Completion → Journal
 journal_with journal layer = record journal { layer = layer }
 
 -- A device executed a command, with or without its completing layer. The response is at the start
--- of one buffer, and the entry, `size` bytes long, at the start of another. `executes` states what
--- the device executed, and its history after that.
+-- of one buffer. The entry, of `size` bytes, is at the start of another buffer. `executes` states
+-- what the device executed, and its history after that.
 pub record Records (before : Device) (c : Command) (response : List ℕ) (answered : Answered)
     (size : ℕ) (entry : List ℕ) (after : Device) : Type 0
   where
@@ -105,8 +106,8 @@ pub record Records (before : Device) (c : Command) (response : List ℕ) (answer
     pub journal : after.journal ≡ journal_after before.journal
         (entry_of c (seen_in response answered after)) after.journal.layer
 
--- Opening these bytes as a journal gives this device. The journal's head and entries are `taken`
--- bytes long.
+-- These bytes can be opened as a journal, which results in this device. The journal's head and
+-- entries are `taken` bytes long.
 abbrev pub IsOfJournal : List ℕ → (taken : ℕ) → Device → Type 0
 IsOfJournal text taken device =
     IsJournal text (record { journal = device.journal; taken = taken }) (record_of device)
@@ -115,8 +116,8 @@ IsOfJournal text taken device =
 abbrev pub HasFault : List ℕ → OpenFault → Type 0
 HasFault text fault = (new : Record) × OpensJournal text (Err fault) new
 
--- A device was opened from a journal whose head and entries are `taken` bytes long, or the journal
--- has this error, or an allocation failed. If no device was opened, `taken` has its old value.
+-- Either a device was opened from a journal whose head and entries are `taken` bytes long; or the
+-- journal has this error, or an allocation failed, and then `taken` has its old value.
 abbrev pub OpensDevice : {B : Type 0} → (B → Device) → List ℕ → (old : ℕ)
     → Option (Result B OpenFault) → (taken : ℕ) → Type 0
 OpensDevice device_in text old (Some (Ok opened)) taken = IsOfJournal text taken (device_in opened)

@@ -43,8 +43,8 @@ Says (SetsEntropy digits) waited read bytes =
 Says CyclesPower waited read bytes = read.kind ≡ 6
 Says DoesNothing waited read bytes = read.kind ≡ 0
 
--- If the meaning of a line passes the checks, the line is good, and `next` is the time for the
--- next command. Otherwise the line is bad, and `next` is unchanged.
+-- If the meaning of a line passes the checks, the line is good, and `next` is the number of
+-- milliseconds waited after it. Otherwise the line is bad, and `next` is unchanged.
 abbrev pub ReadsMeaning : Meaning → (waited : ℕ) → Result ReadLine BadLine → (written : List ℕ)
     → (next : ℕ) → Type 0
 ReadsMeaning meaning waited (Ok read) written next =

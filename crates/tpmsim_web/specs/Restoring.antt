@@ -10,19 +10,20 @@ use Rattle.tpm_state_text.specs.declared.layer.Layer.{Layer}
 use Rattle.tpmsim_web.specs.State.{record_of}
 use Rattle.tpmsim_web.specs.declared.device.Device.{Device}
 
--- the journal of a restored device, which is not started yet; its layer is the layer in the state
--- text
+-- the journal of a restored device. The journal is not started yet, and its completing layer comes
+-- from the state text
 abbrev pub journal_restored : Option Layer → Journal
 journal_restored layer = record { sum = 0; time = 0; layer = completion_of layer }
 
--- The device has the state in a state text, and a journal that is not started yet.
+-- The bytes are a state text with the state of this device. The device's journal is not started
+-- yet.
 abbrev pub IsOfState : List ℕ → Device → Type 0
 IsOfState text device =
     (layer : Option Layer) × (state_of_text text ≡ Ok (state_of (record_of device) layer))
     × (device.journal ≡ journal_restored layer)
 
--- The device was restored from the state text, and has its state; or the returned error is the
--- first error in the bytes. No allocation fails.
+-- The device was restored from the state text; or the returned error is the first error in the
+-- bytes. No allocation fails.
 abbrev pub RestoresDevice : Device → List ℕ → Result (Unit {0}) RestoreFault → Type 0
 RestoresDevice restored text (Ok done) = IsOfState text restored
 RestoresDevice restored text (Err (unrestored.Text fault)) = state_of_text text ≡ Err fault

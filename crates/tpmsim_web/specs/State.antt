@@ -8,7 +8,7 @@ use Rattle.tpm_step.specs.step.Step.{Stepped}
 use Rattle.tpmsim_web.specs.declared.device.Answered.{Answered}
 use Rattle.tpmsim_web.specs.declared.device.Device.{Device}
 
--- the record of a device, with the contents of its containers
+-- the record of a device, from the contents of its fixed slots
 abbrev pub record_of : Device → Record
 record_of device = slot_record device.machine.keep
 

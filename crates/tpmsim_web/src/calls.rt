@@ -45,14 +45,14 @@ pub extern "C" fn device_version() -> u32
     0x00_01_00
 }
 
-/// Returns the size of a place, the memory for one device, in bytes.
+/// Returns the size in bytes of a place, which is the memory for one device.
 #[unsafe(no_mangle)]
 pub extern "C" fn device_size() -> usize {
     mem::size_of::<Device>()
 }
 
-/// Creates a new device in the place; these random bytes become its secrets. It replaces any
-/// device of the holder.
+/// Creates a new device in the place. Its secrets are these random bytes. The device replaces any
+/// device that the holder had.
 #[unsafe(no_mangle)]
 pub extern "C" fn device_manufacture(
     alloc: Global,
@@ -68,7 +68,7 @@ pub extern "C" fn device_manufacture(
 }
 
 /// Executes a command, and writes its response and its trace to the start of their buffers. Returns
-/// NO_LOCALITY if the locality is above 4, and NO_DEVICE if the holder is empty. In both cases
+/// NO_LOCALITY if the locality is above 4, and NO_DEVICE if the holder is empty. In both cases,
 /// nothing is written.
 #[unsafe(no_mangle)]
 pub extern "C" fn device_execute(
@@ -135,7 +135,7 @@ pub extern "C" fn device_cycle_power(holder: &mut Holder) -> u8
 }
 
 /// Writes the image of the device to the start of a buffer, if it fits. Returns the size of the
-/// image, whether it was written or not; 0 if the holder is empty.
+/// image, even if it does not fit, or 0 if the holder is empty.
 #[unsafe(no_mangle)]
 pub extern "C" fn device_save(holder: &mut Holder, buffer: &mut [u8]) -> usize
     ensures saved { MatchOption holder.old.device ((result ≡ 0) × (buffer.new ≡ buffer.old))
@@ -151,8 +151,9 @@ pub extern "C" fn device_save(holder: &mut Holder, buffer: &mut [u8]) -> usize
     size
 }
 
-/// Writes what the device keeps without power, except its clock, to the start of a buffer, if it
-/// fits. Returns the size, whether it was written or not; 0 if the holder is empty.
+/// If they fit, writes the data that the device keeps without power, except its clock, to the start
+/// of a buffer. Returns the size of these data, even if they do not fit, or 0 if the holder is
+/// empty.
 #[unsafe(no_mangle)]
 pub extern "C" fn device_kept(holder: &mut Holder, buffer: &mut [u8]) -> usize
     ensures told { MatchOption holder.old.device ((result ≡ 0) × (buffer.new ≡ buffer.old))
@@ -167,8 +168,9 @@ pub extern "C" fn device_kept(holder: &mut Holder, buffer: &mut [u8]) -> usize
     size
 }
 
-/// Replaces the holder's device by the device of an image, after a power cycle. On failure, returns
-/// the number of the first error, or NO_DEVICE, and leaves the holder unchanged.
+/// Replaces the holder's device with the device whose image is passed, and power-cycles that
+/// device. On failure, returns the number of the first error, or NO_DEVICE, and leaves the holder
+/// unchanged.
 #[unsafe(no_mangle)]
 pub extern "C" fn device_open(alloc: Global, holder: &mut Holder, image: &[u8]) -> u8
     ensures opens { MatchOption holder.old.device
@@ -193,7 +195,7 @@ pub extern "C" fn device_open(alloc: Global, holder: &mut Holder, image: &[u8]) 
     }
 }
 
-/// Discards the device, if there is one, and leaves the holder empty.
+/// Discards the holder's device, if any, and leaves the holder empty.
 #[unsafe(no_mangle)]
 pub extern "C" fn device_release(holder: &mut Holder)
     ensures { holder.new.device ≡ None }

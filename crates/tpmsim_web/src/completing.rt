@@ -15,8 +15,8 @@ use crate::told::{DONE, NO_DEVICE, NO_LOCALITY};
 use tpm_step::Event;
 use tpm_types::Locality;
 
-/// Executes a command as device_execute does, with the completing layer above the device. No
-/// trace is written.
+/// Like device_execute, but executes the command with the completing layer above the device, and
+/// writes no trace.
 #[unsafe(no_mangle)]
 pub extern "C" fn device_complete(
     holder: &mut Holder,

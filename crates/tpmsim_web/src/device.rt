@@ -1,4 +1,4 @@
-//! A device of the page.
+//! A device in the page's memory.
 
 ghost use Rattle.std.specs.Prelude.{◌≡◌, ◌∷◌, ◌≤◌, [], IfErr, IfOk, OnErr, OnOk, drop, false, length};
 ghost use Rattle.std.specs.Prelude.{take, true};
@@ -38,8 +38,8 @@ use tpm_snapshot::{RestoreFault, completion_of, layer_of, restore_new, snapshot_
 use tpm_step::{Event, Outcome};
 use tpm_text::{trace_text, traceable_laws};
 
-/// A device, the outcome of its last event (which the next event overwrites), and the state of its
-/// journal, which includes the state of the completing layer.
+/// A device, the outcome of its last event, and the state of its journal. The next event overwrites
+/// the outcome. The state of the journal includes the state of the completing layer.
 #[derive(Drop)]
 pub struct Device {
     pub(crate) machine: Machine<SlotKeep>,
@@ -57,7 +57,7 @@ pub struct Answered {
     pub drawn: usize,
     /// The size of the trace; 0 if no trace is written.
     pub traced: usize,
-    /// The command code; 0 if none was found.
+    /// The command code, or 0 if no command code was found.
     pub code: u32,
     /// The number of the check that refused the command; 0 if the command was accepted.
     pub check: u8,
@@ -151,16 +151,16 @@ impl Device {
         save_into(&self.machine, buffer)
     }
 
-    /// Writes what the device keeps without power, except its clock, to the start of a buffer, if
-    /// it fits. Returns its size.
+    /// If they fit, writes the data that the device keeps without power, except its clock, to the
+    /// start of a buffer. Returns the size of these data.
     pub fn kept_into(&self, buffer: &mut [u8]) -> usize
         ensures { PutsFront (kept_text (record_of self.now)) buffer.old result buffer.new }
     {
         kept_into(&self.machine, buffer)
     }
 
-    /// Turns this device into the device of an image, after a power cycle. On error the device is
-    /// unchanged.
+    /// Replaces this device with the device whose image is passed, and power-cycles that device. On
+    /// error, the device is unchanged.
     pub fn open(&mut self, alloc: Global, image: &[u8]) -> Result<(), ImageFault>
         ensures exact { Opens (λ done. record_of self.new) false image.now result }
         ensures kept { OnErr result (self.new ≡ self.old) }
@@ -176,7 +176,8 @@ impl Device {
         Ok(())
     }
 
-    /// Writes the state text to the start of a buffer, if it fits. Returns its size.
+    /// Writes the state text to the start of a buffer, if it fits. Returns the size of the state
+    /// text.
     pub fn snapshot_into(&self, buffer: &mut [u8]) -> usize
         ensures put { PutsFront (state_text (whole_state self.now)) buffer.old result buffer.new }
         ensures small { result ≤ state_text_size }
@@ -186,7 +187,7 @@ impl Device {
         snapshot_into(&self.machine, Some(&layer), buffer)
     }
 
-    /// Turns this device into the device of a state text. On error the device is unchanged.
+    /// Replaces this device with the device in a state text. On error, the device is unchanged.
     pub fn restore(&mut self, alloc: Global, text: &[u8]) -> Result<(), RestoreFault>
         ensures restores { RestoresDevice self.new text.now result }
         ensures kept { OnErr result (self.new ≡ self.old) }

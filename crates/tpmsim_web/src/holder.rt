@@ -63,7 +63,7 @@ impl Holder {
         }
     }
 
-    /// Returns a holder of this device, which is not moved.
+    /// Returns a holder of this device. The device stays at its address.
     pub fn of(device: Box<Device, Lent>) -> Holder
         ensures { result.device ≡ Some device.value }
     {
@@ -74,7 +74,7 @@ impl Holder {
         }
     }
 
-    /// Returns the device of the holder, if there is one.
+    /// Returns the holder's device, if any.
     pub fn into_box(self) -> Option<Box<Device, Lent>>
         ensures { MatchOption result (self.device ≡ None) (λ b. self.device ≡ Some b.value) }
     {
@@ -85,7 +85,7 @@ impl Holder {
         Some(unsafe { Box::from_raw(alloc, at as *mut Device) })
     }
 
-    /// Takes the device out, if there is one, and leaves the holder empty.
+    /// Takes out the device, if any, and leaves the holder empty.
     pub fn take(&mut self) -> Option<Box<Device, Lent>>
         ensures taken { MatchOption result (self.old.device ≡ None)
             (λ b. self.old.device ≡ Some b.value) }

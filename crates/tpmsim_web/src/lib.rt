@@ -5,9 +5,9 @@
 //!
 //! A [`Holder`](holder::Holder) is one pointer, null if there is no device, so zeroed memory is a
 //! valid holder. [`calls`], [`completing`], [`snapshots`] and [`journal`] contain the exports for a
-//! device; their contracts correspond to those of tpmsim_library, in the same words. [`script`]
-//! parses the lines of scripts, [`report`] reports errors in them, and [`words`] converts commands
-//! and codes to and from words. `web/EXPORTS.md` documents the exports for JavaScript, and what a
+//! device; their contracts correspond, word for word, to those of tpmsim_library. [`script`] parses
+//! the lines of scripts, [`report`] reports errors in them, and [`words`] converts commands and
+//! codes to and from words. `web/EXPORTS.md` documents the exports for JavaScript, and what a
 //! caller must ensure.
 
 mod calls;

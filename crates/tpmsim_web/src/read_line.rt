@@ -12,7 +12,7 @@ use tpm_text::AsmFault;
 pub struct ReadLine {
     /// The size of the line's command or entropy.
     pub size: usize,
-    /// The column of the wrong token, counted from 1; 0 if there is none.
+    /// The column of the wrong token, counted from 1; 0 if no token is wrong.
     pub column: usize,
     /// The size of the message that says what was expected at the error.
     pub wanted: usize,
@@ -21,7 +21,7 @@ pub struct ReadLine {
     pub number: u32,
     /// The kind of the line.
     pub kind: u8,
-    /// The number of the error; 0 if there is none.
+    /// The number of the error; 0 if there is no error.
     pub fault: u8,
 }
 
@@ -92,7 +92,7 @@ fn number_of(fault: AsmFault) -> u8
     }
 }
 
-/// Returns the column of the wrong token; 0 if there is none.
+/// Returns the column of the wrong token; 0 if no token is wrong.
 fn column_of(fault: AsmFault) -> usize
     ensures { result ≡ fault_column fault }
 {

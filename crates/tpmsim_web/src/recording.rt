@@ -30,8 +30,8 @@ impl Device {
             .begin(&mut self.machine, now_ms, &mut self.outcome, buffer)
     }
 
-    /// Returns the clock for a checkpoint at this time: the journal's clock, or `now_ms` if no
-    /// journal has been started yet.
+    /// Returns the clock that a checkpoint stores: the journal's clock, or `now_ms` if no journal
+    /// has been started yet.
     fn checkpoint_clock(&self, now_ms: u64) -> u64
         ensures { result ≡ checkpoint_clock self.now now_ms }
     {
@@ -53,7 +53,7 @@ impl Device {
         self.journal.checkpoint(&self.machine, clock_ms, buffer)
     }
 
-    /// Turns this device into the device of a journal. Returns the size of the journal's head and
+    /// Replaces this device with a journal's device. Returns the size of the journal's head and
     /// entries. On error, the device is unchanged.
     pub fn open_journal(&mut self, alloc: Global, text: &[u8]) -> Result<usize, OpenFault>
         ensures opens { IfOk result (λ taken. IsOfJournal text.now taken self.new) }
@@ -68,7 +68,7 @@ impl Device {
         Ok(opened.taken)
     }
 
-    /// Executes entries that continue the device's journal.
+    /// Executes further entries of the device's journal.
     pub fn follow(&mut self, text: &[u8]) -> Followed
         ensures { Replays false self.old.journal (record_of self.old) text.now result
             self.new.journal (record_of self.new) }
@@ -77,9 +77,9 @@ impl Device {
             .follow(&mut self.machine, text, &mut self.outcome)
     }
 
-    /// Executes a command at the time `now_ms` of the host's clock, with or without the
-    /// completing layer. Writes its response to the start of one buffer, whose remaining bytes
-    /// are unchanged, and its entry to the start of another. Returns the size of the entry.
+    /// Executes a command at the time `now_ms` of the host's clock, with or without the completing
+    /// layer. Writes the response to the start of `response`, whose remaining bytes are unchanged.
+    /// Writes the entry to the start of `entry`, and returns the size of the entry.
     pub fn execute_recorded(
         &mut self,
         buffer: &[u8],

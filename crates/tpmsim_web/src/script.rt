@@ -110,7 +110,8 @@ fn decode(digits: &[u8], wanted: Wanted, written: &mut [u8; 32768]) -> Result<us
     }
 }
 
-/// Assembles a command in words, and writes the result to the start of a buffer. Returns its size.
+/// Assembles a command in words, and writes the result to the start of a buffer. Returns the size
+/// of the result.
 fn assemble(words: &[u8], written: &mut [u8; 32768]) -> Result<usize, BadLine>
     ensures good { IfOk result (λ size. assembled words.now ≡ Ok (take size written.new)) }
     ensures bad { IfErr result (λ bad. (assembled words.now ≡ Err bad.fault)

@@ -21,7 +21,7 @@ use crate::told::{DONE, NO_DEVICE, restore_number};
 use std::alloc::Global;
 
 /// Writes the state text of the device to the start of a buffer, if it fits. Returns the size of
-/// the state text, whether it was written or not; 0 if the holder is empty.
+/// the state text, even if it does not fit, or 0 if the holder is empty.
 #[unsafe(no_mangle)]
 pub extern "C" fn device_snapshot(holder: &mut Holder, buffer: &mut [u8]) -> usize
     ensures written { MatchOption holder.old.device
@@ -39,7 +39,7 @@ pub extern "C" fn device_snapshot(holder: &mut Holder, buffer: &mut [u8]) -> usi
     size
 }
 
-/// Replaces the holder's device by the device of a state text. On failure, returns the number of
+/// Replaces the holder's device with the device in a state text. On failure, returns the number of
 /// the first error, or NO_DEVICE, and leaves the holder unchanged.
 #[unsafe(no_mangle)]
 pub extern "C" fn device_restore(alloc: Global, holder: &mut Holder, text: &[u8]) -> u8
@@ -50,7 +50,7 @@ pub extern "C" fn device_restore(alloc: Global, holder: &mut Holder, text: &[u8]
         → (fault : StateFault) × (result ≡ state_number fault)
         × (state_of_text text.now ≡ Err fault)) }
 
-    // The state text of a device restores exactly that device, including its layer and its
+    // Restoring the state text of a device yields exactly that device, including its layer and its
     // history.
     ensures taken { (state : WholeState) → IsWholeState state → text.now ≡ state_text state
         → IfSome holder.old.device (λ before. result ≡ done) }

@@ -17,7 +17,7 @@ pub const NO_DEVICE: u8 = 1;
 /// The locality is above 4.
 pub const NO_LOCALITY: u8 = 2;
 
-/// An allocation failed, which never happens.
+/// An allocation failed. This never happens.
 const NO_MEMORY: u8 = 3;
 
 /// Returns the error number for an image that cannot be opened.

@@ -51,9 +51,9 @@ pub extern "C" fn line_assemble(
     read.fault
 }
 
-/// Writes a line in words that assembles to this command to the start of a buffer, if it fits.
-/// Returns the size of the line, whether it was written or not; 0 if no line is found. The contract
-/// does not specify when no line is found.
+/// Finds a line in words that assembles to this command, and writes it to the start of a buffer, if
+/// it fits. Returns the size of the line, even if it does not fit, or 0 if no line is found. The
+/// contract does not specify when no line is found.
 #[unsafe(no_mangle)]
 pub extern "C" fn line_spell(command: &[u8], buffer: &mut [u8]) -> usize
     ensures spells { result ≢ 0 → (line : List ℕ) × (assembled line ≡ Ok command.now)
@@ -67,7 +67,7 @@ pub extern "C" fn line_spell(command: &[u8], buffer: &mut [u8]) -> usize
     }
 }
 
-/// Returns the code of the command with this name; 0 if there is none.
+/// Returns the code of the command with this name, or 0 if no command has this name.
 #[unsafe(no_mangle)]
 pub extern "C" fn command_number(name: &[u8]) -> u32
     ensures { result ≡ unwrap_or (option_map code_number (code_called name.now)) 0 }
@@ -79,7 +79,7 @@ pub extern "C" fn command_number(name: &[u8]) -> u32
 }
 
 /// Writes the syntax of the command with this code, in words, to the start of a buffer, if it fits.
-/// Returns its size, whether it was written or not; 0 if there is no such command.
+/// Returns the size of the syntax, even if it does not fit, or 0 if there is no such command.
 #[unsafe(no_mangle)]
 pub extern "C" fn command_form(number: u32, form: &mut [u8; 256]) -> usize
     ensures { MatchOption (code_named number) ((result ≡ 0) × (form.new ≡ form.old))
@@ -91,9 +91,9 @@ pub extern "C" fn command_form(number: u32, form: &mut [u8; 256]) -> usize
     }
 }
 
-/// Writes an example of the words that follow the name of the command with this code to the start
-/// of a buffer, if it fits. Returns its size, whether it was written or not; 0 if there is no
-/// such command.
+/// Writes an example for the command with this code (the words after the command's name) to the
+/// start of a buffer, if it fits. Returns the size of the example, even if it does not fit, or 0 if
+/// there is no such command.
 #[unsafe(no_mangle)]
 pub extern "C" fn command_example(number: u32, example: &mut [u8; 256]) -> usize
     ensures { MatchOption (code_named number)
@@ -106,9 +106,9 @@ pub extern "C" fn command_example(number: u32, example: &mut [u8; 256]) -> usize
     }
 }
 
-/// Writes the name of a response code to the start of a buffer, if it fits, and reports the handle,
-/// parameter or session to which the code refers. Returns the size of the name, whether it was
-/// written or not; 0 if there is no such code, and then nothing is written.
+/// Writes the name of a response code to the start of a buffer, if it fits. Reports the handle,
+/// parameter or session to which the code refers. Returns the size of the name, even if it does not
+/// fit. If there is no such code, returns 0 and writes nothing.
 #[unsafe(no_mangle)]
 pub extern "C" fn code_meaning(code: u32, name: &mut [u8; 64], place: &mut u32) -> usize
     ensures { MatchOption (told_of code)

@@ -1,6 +1,6 @@
-"""Finds how a policy session got the digest of a policy that it does not satisfy: by a hash
-collision (Meaning and BreaksHash of tpm_policy_meaning), or because a wrong TPM2_PolicyOR was
-accepted.
+"""Finds out how a policy session got the digest of a policy that it does not satisfy. Either
+there was a hash collision (Meaning and BreaksHash of tpm_policy_meaning), or a wrong
+TPM2_PolicyOR was accepted.
 """
 
 from typing import Iterator, Sequence
@@ -66,8 +66,8 @@ def branch_lists(algorithm: int, policy: Policy) -> Iterator[tuple[int, list[byt
 
 
 def astride(algorithm: int, policy: Policy, told: Told) -> str | None:
-    """Describes a digest of the session that is not the digest of a branch, but consists of the end
-    of one branch's digest and the beginning of the next one's.
+    """Describes a digest of the session that consists of the end of one branch's digest and the
+    beginning of the next one's. The digest of a branch itself does not count.
     """
     had = [(zeros(algorithm), "the start"), *((it.digest, f"line {it.line}") for it in told)]
     for line, digests in branch_lists(algorithm, policy):

@@ -1,7 +1,7 @@
 """A reviewer's policies in words: which entities have them, and whether each use satisfied its
-entity's policy. A session satisfies a policy if it made the written assertions, in this order and
-along one branch at each PolicyOR, as tpm_policy_meaning defines it (Meaning), and if they hold at
-the use.
+entity's policy. tpm_policy_meaning defines when a session satisfies a policy (Meaning): it made the
+written assertions in this order, along one branch at each PolicyOR. In addition, the assertions
+must hold when the session is used.
 """
 
 from dataclasses import dataclass, replace
@@ -45,7 +45,7 @@ class Step:
 
 @dataclass(frozen=True)
 class Before:
-    """An `either` of the policy, with its line, whose branch was chosen before the log began. The
+    """An `either` of the policy whose branch was chosen before the log began, with its line. The
     log does not show which branch that was.
     """
 

@@ -162,8 +162,9 @@ class Knowledge:
 
     @staticmethod
     def nonces_of_others(prepared: Prepared, place: int, handle: int | None) -> list[bytes]:
-        """For a first entry that authorizes a handle, returns the nonces of the other sessions that
-        decrypt, followed by those of the sessions that encrypt; otherwise none.
+        """Returns the nonces of other sessions that an entry's hmac depends on: those of sessions
+        that decrypt, followed by those of sessions that encrypt. There are none unless the entry is
+        the first one and authorizes a handle.
         """
         if place != 1 or handle is None:
             return []

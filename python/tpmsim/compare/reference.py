@@ -144,8 +144,8 @@ class Reference:
         return Shown()
 
     def plain(self, command: Command) -> bytes:
-        """Returns the parameters of a command. They are decrypted if a session of the command is
-        meant to decrypt them, and can.
+        """Returns the parameters of a command. They are decrypted if an entry has the attribute
+        decrypt, its session exists and has a cipher, and the first parameter is a sized buffer.
         """
         found = command.with_attribute(DECRYPT)
         session = self.model.sessions.get(found[1].handle) if found else None

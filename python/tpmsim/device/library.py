@@ -25,8 +25,8 @@ OWNER_ALONE = 0o600
 
 
 def opened(path: str, flags: int) -> io.FileIO:
-    """Opens a file that is closed together with its object. `map` makes both calls in C, where no
-    signal handler can run between them, so every descriptor has an object.
+    """Opens a file, and returns an object that closes it. `map` makes both calls in C, where no
+    signal handler can run between them. Therefore every descriptor has an object that closes it.
     """
     call = functools.partial(os.open, mode=OWNER_ALONE)
     return next(map(io.FileIO, map(call, [path], [flags]), ["r+"]))
@@ -124,10 +124,10 @@ HELD: weakref.WeakSet[ImageFile] = weakref.WeakSet()
 
 
 def give_up_all() -> None:
-    """Leaves all files and locks to the parent of a forked child, which shares the locks and would
-    hold them even after the parent has ended. Python calls this in the child when it forks itself.
-    After a fork by a library in C, only a different process number identifies the child, and in
-    another namespace the number may be the same.
+    """Leaves all files and locks to the parent of a forked child. The child shares the locks, and
+    would hold them even after the parent has ended. Python calls this in the child when it forks
+    itself. After a fork by a library in C, only a different process number identifies the child,
+    and in another namespace the number may be the same.
     """
     for file in list(HELD):
         file.give_up()
@@ -235,9 +235,9 @@ def written(call: Write, handle: int) -> bytes:
 
 class LibraryDevice(Device):
     """A device in this process, manufactured with 256 bytes, which are random unless they are
-    passed. If it has an image, its state is kept in that file: the file is written before the
-    response to a command that changes the state is returned, and when the device is closed. Raises
-    FileExistsError if another device uses the image.
+    passed. If it has an image, its state is kept in that file. The file is written when the device
+    is closed, and after each command that changes the state, before the response is returned.
+    Raises FileExistsError if another device uses the image.
 
     >>> with LibraryDevice(manufactured=bytes(256)) as device:
     ...     len(device.save())

@@ -80,7 +80,8 @@ class Commands(Held):
             # Sessions of all types, in the order of their slots.
             by_place = sorted((it & PLACE_BITS, it) for it in self.sessions)
             return [handle for at, handle in by_place if at >= wanted & PLACE_BITS]
-        # This is the kind of saved sessions. The device itself never saves a session.
+        # Handles of this kind are those of saved sessions. The device itself never saves a
+        # session.
         if kind == POLICY_SESSION:
             return []
         if kind not in held:

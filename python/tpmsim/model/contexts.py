@@ -95,8 +95,8 @@ class Head:
 
 def key_and_iv(proof: bytes, start: int, head: Head) -> tuple[bytes, bytes]:
     """Returns the key and the IV with which the object is encrypted. They also depend on `start`,
-    although Part 1 does not require this, so that the contexts of each start of the completing
-    layer have different keys.
+    so the contexts of each start of the completing layer have different keys. Part 1 does not
+    require this.
     """
     newer, older = number(head.sequence, 8), number(head.saved_handle, 4) + number(start, 8)
     made = kdfa(SHA256, proof, b"CONTEXT", newer, older, 2 * aes.BLOCK)

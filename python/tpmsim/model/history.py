@@ -167,8 +167,8 @@ def defined_index(it: Accepted) -> int:
     return nv.Public.read(it.given["publicInfo"]).index
 
 
-# Counters: the value of each counter since its definition, all values that any counter ever had,
-# and the largest of these.
+# Counters: the value of each counter that was incremented since its definition; all values that any
+# counter ever had; and the largest of these.
 
 
 @dataclass

@@ -17,8 +17,8 @@ MARK = re.compile(rb"# ([0-9a-f]{52}) ([0-9a-f]{16})")
 STATE = b"2"
 MARK_LINE_BYTES = 72
 
-# The size of the lines of a journal's entry, not counting the entry's mark, and the digits of the
-# random bytes and of the command.
+# The size of the lines of a journal's entry, without the entry's mark, and without the digits of
+# the random bytes and of the command.
 LINES_BYTES = 36
 
 # The sizes of an entry's lines for the time, the locality and the random bytes (without the two

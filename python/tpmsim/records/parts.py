@@ -8,7 +8,8 @@ from typing import Iterator
 from tpmsim.records.marks import HEAD, Mark, MARK
 
 # The head of a log that Python's devices and pytest write. Since a word in a comment may happen to
-# be hex, the digits must begin with a magic, or be as many as in the shortest image or state text.
+# be hex, the digits must begin with a magic. Otherwise there must be at least 84 of them, as in the
+# shortest image or state text.
 REPORTED = re.compile(rb"^# (image|state) (?=54504d|[0-9a-f]{84})", re.MULTILINE)
 
 # The head of a journal, or of a log that Python wrote. If a crash cut off a journal, no newline
@@ -68,8 +69,8 @@ def whole_of(part: Part) -> Part:
 
 
 def is_cut(entry: bytes) -> bool:
-    """Whether these bytes are an incomplete entry: their first line is the mark of an entry, they
-    are shorter than that entry, and their lines end where the entry's lines end.
+    """Whether these bytes are an incomplete entry. Their first line must be the mark of an entry,
+    they must be shorter than that entry, and their lines must end where the entry's lines end.
     """
     mark = Mark.read(entry.partition(b"\n")[0])
     ends = {it.start() for it in LINE_END.finditer(entry)}

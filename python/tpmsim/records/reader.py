@@ -58,8 +58,8 @@ class Power:
 @dataclass(frozen=True)
 class Command:
     """A command and what the log says about its response: traces, codes and responses in comments
-    before or after it, and a journal's mark, which has the checksum of the response. `damage` says
-    what is wrong with its record.
+    before or after it, and a journal's mark with the checksum of the response. `damage` says what
+    is wrong with its record.
     """
 
     line: int

@@ -18,7 +18,8 @@ WORDS = DECRYPTS, ENCRYPTS, ENDS
 # the HMAC.
 GIVEN_PARTS = 5
 
-# What the session's policy demands in the entry after each of these commands.
+# What a policy demands in the entry of its session, after the session has executed one of these
+# commands.
 DEMANDS = {CC.PolicyAuthValue: policy.AUTH_VALUE, CC.PolicyPassword: policy.PASSWORD}
 
 

@@ -57,7 +57,8 @@ module _ (r : Record) (buffer : List ℕ) (locality elapsed : ℕ) (random other
 
 -- ---- zeros after the drawn bytes
 
--- the reported check determines the number of bytes drawn, since a refusal draws none
+-- the number of bytes drawn is the same for check 0 and for the check that the outcome reports,
+-- since a refusal draws no bytes
 drawn_told : (r : Record) (random : List ℕ) (a : Result Accepted RefusedCommand)
     → drawn_by_command random a (stepped_of r random a).row.check ≡ drawn_by_command random a 0
 drawn_told r random (Ok a) = refl

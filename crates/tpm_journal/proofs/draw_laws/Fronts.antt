@@ -18,16 +18,17 @@ take_whole (suc n) [] le = refl
 take_whole (suc n) (x ∷ xs) le = ap (λ l. x ∷ l) (take_whole n xs (omega (arith, le)))
 
 module _ {X : Type 0} (n : ℕ) (xs ys : List X) (same : take n ys ≡ take n xs) where
-  -- shorter prefixes of both lists are also equal
+  -- if two lists have the same prefix, their shorter prefixes are also equal
   pub shorter : (d : ℕ) → d ≤ n → take d ys ≡ take d xs
   shorter d le = sym (take_twice d n ys le) ∙ ap (λ l. take d l) same ∙ take_twice d n xs le
 
-  -- the lists agree on each part of the common prefix
+  -- if two lists have the same prefix, they agree on each part of this prefix
   pub part : (skipped count : ℕ) → skipped + count ≤ n → take count (drop skipped ys) ≡ take count (drop skipped xs)
   part skipped count le =
       sym (drop-take skipped count ys) ∙ ap (λ l. drop skipped l) (shorter (skipped + count) le) ∙ drop-take skipped count xs
 
-  -- two lists of the same length are equal if their common prefix is the whole of one list
+  -- two lists of the same length are equal if they have the same prefix, and this prefix is as long
+  -- as one of them
   whole : length ys ≡ length xs → length xs ≤ n → ys ≡ xs
   whole as_long le = sym (take_whole n ys (omega (arith, as_long, le))) ∙ same ∙ take_whole n xs le
 

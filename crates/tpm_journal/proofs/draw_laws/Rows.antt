@@ -1,5 +1,5 @@
--- Five rows read random bytes. Each reads the first random bytes, and only as many as it reports as
--- drawn. The other rows read none.
+-- Five rows read random bytes. Each of these rows reads only the first random bytes, as many as it
+-- reports as drawn. The other rows read none.
 use Rattle.std.proofs.Common.{◌≡◌, ◌+◌, ℕ, List, None, Some, take, slice_set, Result, Ok, Err, refl, ap, arith}
 use Rattle.std.specs.Prelude.{min}
 use Rattle.std.specs.Int.{w16}
@@ -75,12 +75,13 @@ use Rattle.tpm_actions_device.specs.StartAuthSession.{start_auth_session_row}
 use Rattle.tpm_actions_device.specs.Startup.{startup_row}
 use Rattle.tpm_actions_object.specs.Unseal.{unseal_row}
 
--- a result that does not depend on random bytes is the same with all random bytes
+-- a result that does not depend on random bytes stays the same if the random bytes are replaced
 acts_same : (random other : List ℕ) (acts : Result Success Refused) → ActsAlike random other acts acts
 acts_same random other (Ok s) = λ same. refl
 acts_same random other (Err e) = refl
 
--- results are still alike after a step that reads no random bytes
+-- two results that are alike (`ActsAlike`) remain alike if the same step, which reads no random
+-- bytes, runs before both
 after : {A : Type 0} (random other : List ℕ) (x : Result A Refused) (f g : A → Result Success Refused)
     → ((a : A) → ActsAlike random other (f a) (g a)) → ActsAlike random other (x >>= f) (x >>= g)
 after random other x f g alike = alike_after random other (λ s. s.answer.drawn) (λ s. s) x f g alike

@@ -21,7 +21,7 @@ use Rattle.tpm_journal.proofs.draw_laws.Alike.{Alike, alike_after, alike_before,
 use Rattle.tpm_journal.proofs.draw_laws.Fronts.{Behind, behind}
 use Rattle.tpm_journal.proofs.draw_laws.Rows.{row_alike}
 
--- ---- what is accepted
+-- ---- accepted commands
 
 abbrev row_drawn : Accepted → ℕ
 row_drawn a = a.success.answer.drawn
@@ -51,7 +51,7 @@ accepted_alike r buffer locality random other =
     alike_after random other row_drawn (with_other other) (general r buffer) _ _ (λ c.
     alike_in_command row_drawn (with_other other) random other c.code (acceptance r c locality random) _ (acceptance_alike r c locality random other))
 
--- ---- the nonces of its entries
+-- ---- the nonces of a command's entries
 
 -- new nonces never increase the number of random bytes left
 fewer_left : (r : Record) (es : List Entry) (left : List ℕ) → length (entries_rolled r es left).left ≤ length left
@@ -91,8 +91,8 @@ answer_alike : (c : Whole) (grants : List (Option Grant)) (a : Written) (effect 
 unfolding answer_to
 answer_alike c grants a effect random other same = rw same refl
 
--- Context: an accepted command, and other random bytes that agree with its own on all bytes that
--- its row and its nonces draw.
+-- The lemmas below are about an accepted command, and about other random bytes that agree with the
+-- command's random bytes on all bytes that its row and its nonces draw.
 module _ (a : Accepted) (random other : List ℕ) (as_long : length other ≡ length random) where
   abbrev drawn : ℕ
   drawn = bytes_drawn random a.success.after a.command.entries (row_drawn a)

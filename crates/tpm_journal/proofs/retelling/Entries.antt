@@ -18,7 +18,7 @@ use Rattle.tpm_journal.specs.declared.following.Followed.{Followed}
 use Rattle.tpm_journal.specs.declared.journal.Journal.{Journal}
 use Rattle.tpm_journal.proofs.Repeating.{joined, repeats_more, repeats_none, repeats_otherwise, repeats_so}
 
--- ---- the lines of an entry in its text
+-- ---- the lines of an encoded entry
 
 dropped : (front rest : List ℕ) (n : ℕ) → length front ≡ n → drop n (front ++ rest) ≡ rest
 dropped [] rest n is = rw (← is) refl
@@ -44,7 +44,7 @@ long_enough can before old left size one after Holds p =
       mark_line_many before.sum (mark_of one.entry) (mark_many one.entry),
     )
 
--- ---- what was retold so far, and one more entry
+-- ---- converting one more entry
 
 -- The output for an executed entry was written.
 abbrev pub Tells : Telling → (size : ℕ) (left : List ℕ) → Performance → (at holds : Option (List ℕ)) → Type 0
@@ -90,7 +90,7 @@ pub told_more : (form : Telling) (can : Bool) (before : Journal) (old : Record) 
 told_more form can before old text left taken mid here size one after held at holds is r =
     rw is (told_more_here form can before old text taken mid here size one after held at holds r)
 
--- ---- the end
+-- ---- the end of the conversion
 
 told_otherwise_here : (form : Telling) (can : Bool) (before : Journal) (old : Record) (text : List ℕ) (taken : ℕ) (mid : Journal) (here : Record)
     (size : ℕ) (one : Performance) (after : Journal) (held at holds : Option (List ℕ))

@@ -12,8 +12,9 @@ use Rattle.tpm_types.specs.declared.refused.Refused.{Refused}
 abbrev pub with_random : Request → List ℕ → Request
 with_random q other = record q { random = other }
 
--- A row has the same result with other random bytes. If it succeeds and both lists agree on all
--- bytes that it draws, the success is the same. A refusal draws none and is always the same.
+-- A row's results with two lists of random bytes are alike. If the first result is a success, and
+-- both lists agree on all bytes that it draws, the second result is the same success. If the first
+-- result is a refusal, which draws no bytes, the second is the same refusal.
 abbrev pub ActsAlike : (random other : List ℕ) → (acts acts_other : Result Success Refused) → Type 0
 ActsAlike random other (Ok s) acts_other =
     take s.answer.drawn other ≡ take s.answer.drawn random → acts_other ≡ Ok s

@@ -33,8 +33,8 @@ pub fn put_head<W: Write>(writer: &mut Tap<W>, form: Telling, head: &[u8]) -> Re
     }
 }
 
-/// Writes the lines for an entry that was answered with this outcome. The first `size` bytes of
-/// `text` are the entry itself.
+/// Writes the lines for an entry whose command was answered with this outcome. The first `size`
+/// bytes of `text` are the entry itself.
 pub fn put_entry<W: Write>(
     writer: &mut Tap<W>,
     form: Telling,

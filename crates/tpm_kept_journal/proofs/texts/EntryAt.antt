@@ -39,7 +39,7 @@ is_entry-Decides e =
 
 -- ---- the parts of an entry
 
--- If the bytes begin with the line of a mark, `mark_in` returns this mark.
+-- If the bytes begin with the line for a mark, `mark_in` returns this mark.
 pub mark_is_in : (sum : ℕ) (text mark : List ℕ) → length mark ≡ 26 → AreBytes mark → take 72 text ≡ mark_line sum mark → mark_in text ≡ mark
 unfolding mark_in
 mark_is_in sum text mark many are line =
@@ -71,7 +71,8 @@ fields_same e f a b c d g h =
     ∙ ap (λ (l : List ℕ). entry_made f.elapsed f.locality f.completes f.drawn l e.answered) g
     ∙ ap (entry_made f.elapsed f.locality f.completes f.drawn f.buffer) h
 
--- If a mark and the bytes contain an entry, `entry_by` returns this entry.
+-- `entry_by` returns an entry if its numbers are in the mark, and its other fields are at their
+-- offsets in the bytes.
 stands_told : (e : PlainEntry) (mark text : List ℕ) → Stands e mark text → entry_by mark text ≡ e
 unfolding entry_by
 stands_told e mark text at =

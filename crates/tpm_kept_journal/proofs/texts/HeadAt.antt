@@ -57,7 +57,8 @@ mark_is kind clock content rest text t =
 head_made : HeadKind → (clock : ℕ) → (content : List ℕ) → PlainHead
 head_made kind clock content = record { kind = kind; clock = clock; content = content }
 
--- If a mark and the bytes contain a head, `head_by` returns this head.
+-- `head_by` returns a head if its numbers are in the mark, and its content is at its offset in the
+-- bytes.
 stands_told : (kind : HeadKind) (clock : ℕ) (content mark text : List ℕ) → HeadStands kind clock content mark text
     → head_by kind mark text ≡ record { kind = kind; clock = clock; content = content }
 unfolding head_by head_made

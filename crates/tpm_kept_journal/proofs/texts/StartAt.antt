@@ -1,4 +1,5 @@
--- A journal is started by the head at its beginning.
+-- `start_at` returns the device and the journal that a head determines, or the fault that prevents
+-- this.
 use Rattle.std.proofs.Common.{◌≡◌, ℕ, List, Option, Some, None, Ok, Err, ap, ◌∙◌}
 use Rattle.tpm_journal.specs.Starting.{BeginsWith, HoldsFault, Start, Starts, StartsNot}
 use Rattle.tpm_journal.specs.declared.opening.OpenFault.{OpenFault}

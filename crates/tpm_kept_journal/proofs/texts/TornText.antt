@@ -28,7 +28,8 @@ are_of : (count : ℕ) → are_zeros (replicate count 0) ≡ true
 are_of zero = refl
 are_of (suc count) = are_of count
 
--- A list of zeros without its final zeros is empty. Any other list keeps its first byte.
+-- Removing the final zeros from a list of zeros leaves the empty list. Any other list keeps its
+-- first byte.
 left_of_zeros : (text : List ℕ) → are_zeros text ≡ true → without_zeros text ≡ []
 unfolding without_zeros
 left_of_zeros [] all = refl
@@ -38,7 +39,7 @@ left_of_others : (byte : ℕ) (text : List ℕ) → are_zeros (byte ∷ text) �
 unfolding without_zeros
 left_of_others byte text not = cond-false (are_zeros (byte ∷ text)) [] (byte ∷ without_zeros text) not
 
--- A list consists of the list without its final zeros, and zeros.
+-- A list consists of the list without its final zeros, followed by zeros.
 one_more_left : (byte : ℕ) (text : List ℕ) (b : Bool) → are_zeros (byte ∷ text) ≡ b
     → (count : ℕ) × (text ≡ without_zeros text ++ replicate count 0)
     → (count : ℕ) × (byte ∷ text ≡ without_zeros (byte ∷ text) ++ replicate count 0)
@@ -73,7 +74,7 @@ left_of (byte ∷ front) zeros = one_more_front byte front (front ++ replicate z
 
 -- ---- incomplete entries
 
--- If the line of a mark is 72 bytes long, the mark is 26 bytes long.
+-- If the line for a mark is 72 bytes long, the mark is 26 bytes long.
 mark_has_all : (sum : ℕ) (mark : List ℕ) → length (mark_line sum mark) ≡ 72 → length mark ≡ 26
 mark_has_all sum mark many = omega (arith, many, line_length entry_word mark (sum_from sum mark) (length mark) refl)
 
@@ -125,7 +126,8 @@ lines_end-Decides test place (byte ∷ lines) =
           ))),
     )
 
--- `lines_end` decides whether the lines end only where the lines of the mark's entry end.
+-- `lines_end` decides whether the lines after the mark's line end only where the lines of the
+-- mark's entry end.
 pub lines_end_so : (mark text : List ℕ) → Decides (lines_end (ends_line mark) 0 (drop 72 text)) (LinesEnd mark text)
 lines_end_so mark text =
     let all = lines_end-Decides (ends_line mark) 0 (drop 72 text) in (

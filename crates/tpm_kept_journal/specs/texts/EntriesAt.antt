@@ -9,7 +9,7 @@ abbrev pub with_next : Option PlainEntry → (PlainEntry → List PlainEntry) �
 with_next (Some e) following = e ∷ following e
 with_next None following = []
 
--- the remaining bytes, after the entry at their start
+-- the bytes after the entry at the start of `text`
 abbrev pub after_entry : (sum : ℕ) → PlainEntry → List ℕ → List ℕ
 after_entry sum e text = drop (length (entry_text sum e)) text
 
@@ -20,11 +20,11 @@ entries_up_to (suc most) sum text =
     with_next (entry_at sum text)
     (λ e. entries_up_to most (sum_after sum e) (after_entry sum e text))
 
--- the entries at the start of the bytes; `sum` is the checksum before them. There are at most as
--- many entries as bytes
+-- the entries at the start of the bytes; `sum` is the checksum before them. There are no more
+-- entries than bytes
 unfoldable pub entries_at : (sum : ℕ) → List ℕ → List PlainEntry
 entries_at sum text = entries_up_to (length text) sum text
 
--- the remaining bytes, after these entries at their start
+-- the bytes after these entries at the start of `text`
 abbrev pub after_entries : (sum : ℕ) → List PlainEntry → List ℕ → List ℕ
 after_entries sum entries text = drop (length (entries_text sum entries)) text

@@ -17,7 +17,7 @@ is_entry e =
 unfoldable pub mark_in : List ℕ → List ℕ
 mark_in text = hex_at 2 mark_size text
 
--- the entry whose numbers are in this mark, and whose byte fields are at their offsets
+-- the entry with the numbers in this mark; its drawn bytes and its buffer are read from `text`
 unfoldable pub entry_by : (mark text : List ℕ) → PlainEntry
 entry_by mark text = record {
   elapsed = from_be_bytes w32 (take 4 mark);

@@ -23,7 +23,8 @@ is_head h =
     nat_lt h.clock (2 ^ 64)
     && (nat_le (length h.content) (content_limit h.kind) && are_bytes h.content)
 
--- the kind of head that the first word announces: `State`, or else `Image`
+-- the kind of the head at the start of the bytes: `State` if the bytes begin with the word of this
+-- kind, and `Image` otherwise
 unfoldable pub kind_in : List ℕ → HeadKind
 kind_in text = cond (begins_with text (head_word State)) State Image
 
@@ -31,7 +32,7 @@ kind_in text = cond (begins_with text (head_word State)) State Image
 unfoldable pub head_mark_in : List ℕ → List ℕ
 head_mark_in text = hex_at 19 20 text
 
--- the head of this kind, whose numbers are in this mark, and whose content is at its offset
+-- the head of this kind, with the numbers in this mark; its content is read from `text`
 unfoldable pub head_by : HeadKind → (mark text : List ℕ) → PlainHead
 head_by kind mark text = record {
   kind = kind;

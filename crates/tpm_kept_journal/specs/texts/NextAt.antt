@@ -18,13 +18,14 @@ plain_next (next.Whole entry size sum) = Whole (plain_entry entry)
 plain_next next.Torn = Torn
 plain_next next.Damaged = Damaged
 
--- the entry, if there is one; if not, Torn or Damaged
+-- the entry, if one was found; otherwise, Torn or Damaged
 abbrev pub next_by : Option PlainEntry → (is_torn : Bool) → PlainNext
 next_by (Some e) is_torn = Whole e
 next_by None true = Torn
 next_by None false = Damaged
 
--- the entry at the start of the bytes, or why there is none; `sum` is the checksum before them
+-- the entry at the start of the bytes, or the reason why the bytes do not begin with an entry;
+-- `sum` is the checksum before them
 unfoldable pub next_at : (sum : ℕ) → List ℕ → PlainNext
 next_at sum text = next_by (entry_at sum text) (is_torn_text sum text)
 

@@ -8,12 +8,12 @@ abbrev pub where_so : {A : Type 0} → Bool → A → Option A
 where_so true value = Some value
 where_so false value = None
 
--- the bytes that were read; no bytes if the read failed
+-- the bytes that were read; the empty list if the read failed
 abbrev pub read_or_none : {E : Type 0} → Result (List ℕ) E → List ℕ
 read_or_none (Ok bytes) = bytes
 read_or_none (Err fault) = []
 
--- the bytes that hex digits encode; no bytes if they are not hex
+-- the bytes that hex digits encode; the empty list if they are not hex
 abbrev pub spelled : (digits : List ℕ) → List ℕ
 spelled digits = read_or_none (decode_of digits)
 

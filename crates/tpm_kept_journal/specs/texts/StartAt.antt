@@ -11,6 +11,6 @@ abbrev pub start_of : Option PlainHead → Result Start OpenFault
 start_of (Some h) = start_by h.kind h.clock h.content
 start_of None = Err fault.NoJournal
 
--- the device and the journal that the head at the beginning of the bytes starts
+-- the device and the journal that are started by the head at the beginning of the bytes, or a fault
 unfoldable pub start_at : List ℕ → Result Start OpenFault
 start_at text = start_of (head_at text)

@@ -14,7 +14,8 @@ unfoldable pub without_zeros : List ℕ → List ℕ
 without_zeros [] = []
 without_zeros (byte ∷ text) = cond (are_zeros (byte ∷ text)) [] (byte ∷ without_zeros text)
 
--- whether the bytes begin with the line of their own mark; `sum` is the checksum before them
+-- whether the first line is exactly the line for the mark that it contains; `sum` is the checksum
+-- before the bytes
 abbrev pub begins_with_mark : (sum : ℕ) → List ℕ → Bool
 begins_with_mark sum text = bytes_eq (take mark_line_size text) (mark_line sum (mark_in text))
 

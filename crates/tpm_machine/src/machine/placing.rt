@@ -23,14 +23,14 @@ impl<K: Keep> Machine<K> {
         ensures places { Places K.can_refuse (state_of K.record_of self.old) result
             (state_of K.record_of self.new) }
 
-        // Unless an allocation failed, the call is the execution of an event. It draws no random
-        // bytes.
+        // Unless an allocation failed, the call counts as the execution of an event, which draws no
+        // random bytes.
         ensures executes { IfMemory result (Executes K.can_refuse (state_of K.record_of self.old)
             (Placed object) (placing_seen (state_of K.record_of self.new))) }
         ensures drawn { latest_drawn self.new ≡ 0 }
 
         // If the device followed a history, it now follows that history, extended by the placed
-        // object. Therefore all laws about histories apply to it.
+        // object. Therefore all laws about histories still apply to the device.
         ensures follows { IfMemory result (FollowsOn (state_of K.record_of self.old)
             (Placed object) (placing_seen (state_of K.record_of self.new))) }
     {

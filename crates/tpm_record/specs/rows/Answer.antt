@@ -23,14 +23,15 @@ begins_sized (Plain text) = false
 
 -- the answer of a command
 pub record AnswerParts : Type 0 where
-  -- the handle of the entity that the command created, if there is one
+  -- the handle of the session or object that the command created, if it returns one
   pub handle : Option Handle
   -- the parameters of the response
   pub body : Body
   -- the number of bytes that the command drew from the start of the event's random bytes
   pub drawn : ℕ
 
--- an answer that consists only of parameters: it has no handle, and no random bytes are drawn
+-- an answer that consists only of parameters, of a command that returns no handle and draws no
+-- random bytes
 abbrev pub answer_of : Body → AnswerParts
 answer_of body = record { handle = None; body = body; drawn = 0 }
 

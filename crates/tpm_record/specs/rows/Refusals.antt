@@ -1,4 +1,4 @@
--- The refusals of rows, except the refusals of parameters, which are defined in Rows. TPM 2.0
+-- The refusals that rows use, except those of parameters, which are defined in Rows. TPM 2.0
 -- Library, Part 3: the response codes of each command.
 use Rattle.std.specs.Prelude.{ℕ, Result, Ok, Err}
 use Rattle.tpm_types.specs.declared.action_check.ActionCheck.{ActionCheck}
@@ -12,8 +12,8 @@ use Rattle.tpm_types.specs.declared.rc.ResponseCode.{ResponseCode}
 use Rattle.tpm_types.specs.declared.rc.ResponseCode.TheVariants as code
 use Rattle.tpm_types.specs.declared.refused.Refused.{Refused}
 
--- the refusal if a handle names no entity, although the general checks found an entity. It never
--- occurs (later_handle_laws of tpm_step)
+-- the refusal if a handle names no entity. It never occurs, because the general checks have found
+-- an entity (later_handle_laws of tpm_step)
 abbrev pub handle_refusal : Refused
 handle_refusal = refusal check.Handles (plain code.Failure)
 
@@ -21,7 +21,7 @@ handle_refusal = refusal check.Handles (plain code.Failure)
 abbrev pub action_refusal : ActionCheck → Rc → Refused
 action_refusal action rc = refusal (check.Action action) rc
 
--- the refusal by one of the command's own checks because of one of its parameters
+-- the refusal of a parameter by one of the command's own checks
 abbrev pub parameter_refusal : ActionCheck → (parameter : ℕ) → ResponseCode → Refused
 parameter_refusal action parameter fault = action_refusal action (at (place.Parameter parameter) (plain fault))
 

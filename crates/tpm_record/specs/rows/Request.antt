@@ -25,8 +25,8 @@ request_of call = record {
   random = call.random.now;
 }
 
--- the first handle of a command that has at least one handle; a request has as many handles as its
--- command's shape requires
+-- the first handle of a command that has at least one handle. A request always has as many handles
+-- as its command's shape requires
 abbrev pub first_handle : List Handle → Result Handle Refused
 first_handle [] = Err handle_refusal
 first_handle (handle ∷ handles) = Ok handle

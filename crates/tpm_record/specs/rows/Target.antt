@@ -20,7 +20,7 @@ use Rattle.tpm_record.specs.rows.Refusals.{handle_refusal}
 use Rattle.tpm_record.specs.rows.Request.{Request, first_handle, second_handle}
 use Rattle.tpm_record.specs.declared.rows.target.Target.{Target}
 
--- the NV index with this handle; it exists, because the general checks found it
+-- the NV index with this handle, which exists because the general checks have found it
 abbrev pub index_or_refusal : Record → Handle → Result NvIndex Refused
 index_or_refusal r handle = ok_or (index_at r.nv handle) handle_refusal
 

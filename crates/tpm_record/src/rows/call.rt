@@ -1,4 +1,4 @@
-//! The input of a command's row, after the general checks and the authorization have passed:
+//! The input that a command's row gets once the general checks and the authorization have passed:
 //! handles, locality, parameters and random bytes.
 
 ghost use Rattle.std.specs.Prelude.{◌≡◌};
@@ -6,7 +6,7 @@ ghost use Rattle.std.specs.Prelude.{◌≡◌};
 use crate::rows::refusals::handle_refusal;
 use tpm_types::{Handle, Locality, Refused};
 
-/// The input of a command's row, after the general checks and the authorization have passed.
+/// The input that a command's row gets once the general checks and the authorization have passed.
 #[derive(Clone, Copy)]
 pub struct Call<'a> {
     /// The command's handles, as many as its shape requires.

@@ -1,12 +1,13 @@
-//! The refusals that the rows of commands share: by one of a command's own checks, because of a
-//! handle, or because memory ran out.
+//! The refusals that the rows of all commands use: refusals by one of the command's own checks,
+//! because of a handle, or because memory ran out.
 
 ghost use Rattle.std.specs.Prelude.{◌≡◌};
 ghost use Rattle.tpm_record.specs.rows.Refusals.{action_refusal, fault_refusal, handle_refusal, memory_refusal, parameter_refusal};
 
 use tpm_types::{ActionCheck, ActionFault, Check, Rc, Refused, ResponseCode};
 
-/// The refusal if a handle names no entity, although the general checks found an entity.
+/// The refusal if a handle names no entity. It never occurs, because the general checks have found
+/// an entity.
 pub fn handle_refusal() -> Refused
     ensures { result ≡ handle_refusal }
 {
@@ -20,7 +21,7 @@ pub fn action_refusal(check: ActionCheck, rc: Rc) -> Refused
     Refused::by(Check::Action(check), rc)
 }
 
-/// The refusal by one of the command's own checks, with this response code for this parameter.
+/// The refusal of a parameter by one of the command's own checks, with this response code.
 pub fn parameter_refusal(check: ActionCheck, parameter: u8, code: ResponseCode) -> Refused
     ensures { result ≡ parameter_refusal check parameter code }
 {

@@ -49,8 +49,8 @@ pub fn target_of<K: Keep>(keep: &K, call: &Call) -> Result<Target, Refused>
 }
 
 impl Target {
-    /// Whether authHandle may use the index. The two arguments are the attributes that allow the
-    /// owner and the platform to do so.
+    /// Whether authHandle may use the index. The arguments `owner` and `platform` are the
+    /// attributes that allow the owner and the platform, respectively, to use the index.
     fn may(&self, owner: NvAttribute, platform: NvAttribute) -> bool
         ensures { result ≡ may owner platform self.now }
     {

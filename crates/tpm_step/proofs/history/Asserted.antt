@@ -60,15 +60,15 @@ second_name r (first ∷ second ∷ handles) handle is = view_named r second ∙
 abbrev MakesAs : HashAlg → Assertion → Assertion → Type 0
 MakesAs hash one other = (trial : Bool) (policy : Policy) → policy_with hash trial one policy ≡ policy_with hash trial other policy
 
--- The history determines an assertion for the command on this session. It has the same effect on
--- every policy as the device's assertion.
+-- The history determines an assertion for the command on this session, and this assertion has the
+-- same effect on every policy as the device's assertion.
 pub record Tells (c : AcceptedCommand) (history : History) (code : Code) (s : Session) (a : Assertion) : Type 0 where
   pub told : Assertion
   pub is : assertion_by code c history s.hash s.nonce_tpm ≡ Ok told
   pub makes : MakesAs s.hash a told
 
--- The history determines an assertion for the command on every session. It has the same effect on
--- every policy as the device's assertion.
+-- The history determines an assertion for the command on every session, and this assertion has the
+-- same effect on every policy as the device's assertion.
 abbrev pub IsAsserted : AcceptedCommand → History → Code → (Session → Assertion) → Type 0
 IsAsserted c history code assertion = (s : Session) → Tells c history code s (assertion s)
 
@@ -89,7 +89,7 @@ module _ (r : Record) (c : AcceptedCommand) (history : History) (viewed : c.view
         makes = λ trial policy. ap (λ (parts : PcrParts). policy_with s.hash trial (Pcr parts) policy) (pcr_same p s);
       })
 
-  -- The history determines an assertion that depends only on the command's parameters.
+  -- If an assertion depends only on the command's parameters, the history determines it.
   by_reading : (X : Type 0) (code : Code) (read : Result X Refused) (make : X → Assertion) → ((s : Session) → assertion_by code c history s.hash s.nonce_tpm ≡ (read >>= λ x. Ok (make x))) → IfOk (read >>= λ x. Ok (λ (s : Session). make x)) (IsAsserted c history code)
   by_reading X code read make told =
       ok_bind_is _ read _ (λ x found. λ s. record {
@@ -161,7 +161,7 @@ pub policy_passed : (x : Result Policy ActionFault) (policy : Policy) → or_ref
 policy_passed (Ok made) policy is = ap (λ (p : Policy). Ok p) (ok_is {E = Refused} made policy is)
 policy_passed (Err fault) policy is = absurd cc
 
--- the facts of a session after an assertion
+-- the facts about a session after an assertion
 abbrev asserted_facts : Assertion → SessionFacts → SessionFacts
 asserted_facts a f = record f { policy = policy_with f.start.hash (is_trial f.start.kind) a f.policy }
 

@@ -123,7 +123,7 @@ object_set r objects handle object named found others = record {
 
 -- ---- hierarchies
 
--- the handle of a hierarchy or of lockout; no two of them share a handle
+-- the handle of a hierarchy or of lockout; each has its own handle
 abbrev pub auth_handle : HierarchyAuth → Handle
 auth_handle auth.Owner = owner_handle
 auth_handle auth.Lockout = lockout_handle

@@ -1,5 +1,5 @@
--- The authorization values in the parameters of commands do not end in a zero byte, and the handles
--- in these parameters have the right types.
+-- The authorization values in command parameters do not end in a zero byte, and the handles in
+-- command parameters have the right types.
 use Rattle.std.proofs.Common.{rules, ◌≡◌, true, List, ℕ, length, ◌==◌, not, Result, Ok, Err, IfOk}
 use Rattle.tpm_bytes.specs.Reading.{◌>>=◌, refused_if}
 use Rattle.tpm_types.proofs.Trimming.{trimmed_twice}

@@ -1,4 +1,4 @@
--- The passing of time, failed tries and power cycles satisfy the inequality of `Pays`. After each
+-- Failed tries, power cycles and the passing of time satisfy the inequality of `Pays`. After each
 -- of them, no decrement of failedTries is overdue (`IsForgiving`).
 use Rattle.std.proofs.Common.{arith, ◌≡◌, ◌≢◌, ◌⊎◌, ℕ, ◌+◌, ◌*◌, ◌/◌, ◌%◌, ◌-◌, ◌<◌, ◌≤◌, Bool, true, false, cond, refl, sym, ap, ◌∙◌, inl, inr}
 use Rattle.std.specs.Prelude.{not, ◌&&◌, ◌==◌, nat_le}
@@ -16,8 +16,8 @@ use Rattle.tpm_step.specs.history.Tries.{is_try}
 
 -- ---- changes that leave the failed tries unchanged
 
--- Two lockout states have the same recoveryTime, maxTries and failedTries, and the same time that
--- counts towards the next decrement of failedTries.
+-- Two lockout states have the same recoveryTime, maxTries and failedTries, and the same amount of
+-- time counts towards the next decrement of failedTries.
 abbrev pub SameTries : LockoutState → LockoutState → Type 0
 SameTries old new =
     (new.fields.recovery_time ≡ old.fields.recovery_time) × (new.fields.max_tries ≡ old.fields.max_tries)
@@ -52,7 +52,7 @@ same_pays old new same = record {
   within = inl refl;
 }
 
--- Forgiving one try for every n milliseconds satisfies the inequality of `Pays`.
+-- Forgiving one failed try every n milliseconds satisfies the inequality of `Pays`.
 forgiven : (n tries passed elapsed : ℕ) → n * tries + cond ((tries - (passed + elapsed) / n) == 0) 0 (cond ((tries - (passed + elapsed) / n) == 0) 0 ((passed + elapsed) % n)) ≤ n * (tries - (passed + elapsed) / n) + cond (tries == 0) 0 passed + elapsed
 forgiven n tries passed elapsed = by (cases_eq tries 0) (cases_lt (time / n) tries)
   where
@@ -134,14 +134,16 @@ refusal_pays s counted.Lockout counts unlocked = same_pays s (closed_by_failure 
 
 -- ---- a sequence of events
 
--- Either no try has failed since this state, or no more tries have failed than maxTries and the
--- elapsed milliseconds allow.
+-- Either no try has failed since this state, or this inequality holds, with recoveryTime in
+-- milliseconds: recoveryTime * (failedTries + `failed`) ≤ recoveryTime * maxTries + the
+-- milliseconds credited in this state + `elapsed`.
 abbrev pub IsPaid : LockoutState → (failed elapsed : ℕ) → Type 0
 IsPaid s failed elapsed =
     (failed ≡ 0)
     ⊎ (period s * s.fields.failed_tries + period s * failed ≤ period s * s.fields.max_tries + credit s + elapsed)
 
--- putting a step that satisfies `Pays` before other steps preserves their bound on failed tries
+-- if the first step satisfies `Pays`, and the later steps satisfy the bound on failed tries, then
+-- all steps together satisfy the bound
 pub pays_more : (a b : LockoutState) (one failed all first elapsed whole : ℕ) → one + failed ≡ all → first + elapsed ≡ whole → Pays a b one first → IsPaid b failed elapsed → IsPaid a all whole
 pays_more a b one failed all first elapsed whole counted passed pays rest = by pays.within (rw (pays.recovery_time, pays.max_tries) at rest)
   where

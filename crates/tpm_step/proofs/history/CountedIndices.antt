@@ -41,7 +41,8 @@ use Rattle.tpm_step.proofs.history.HandleMap.{at_other, at_same}
 use Rattle.tpm_step.proofs.history.IndexChanges.{CountsUp, incremented_counts}
 use Rattle.tpm_step.proofs.history.Indices.{OthersStay, changed_each, cleared_each, defined_each, removed_each, started_each}
 
--- If the index is a counter, `at` gives its value, and no startup clears it.
+-- If the index at this handle is a counter, its value is the value that `at` has for the handle,
+-- and no startup clears the index.
 abbrev Counts : (Handle → Option ℕ) → Handle → NvIndex → Type 0
 Counts at handle index = IsCounter index → IsCounted index (at handle)
 
@@ -170,7 +171,7 @@ clear_counted contents c up are = record { most = are.most; each = cleared_each 
 
 -- ---- the effect of a startup
 
--- Two sets of attributes have the same WRITTEN, CLEAR_STCLEAR and index type.
+-- Two sets of attributes agree on WRITTEN, CLEAR_STCLEAR and the index type.
 abbrev Alike : NvAttributes → NvAttributes → Type 0
 Alike a b = (index_type b ≡ index_type a) × (has b attribute.Written ≡ has a attribute.Written) × (has b attribute.ClearStClear ≡ has a attribute.ClearStClear)
 
@@ -222,7 +223,7 @@ starts_counted old new c (inr starts) are = same_counted (started old) new c sta
 
 -- ---- the rows of all commands
 
--- whether a command that changes only this part of the state changes no counter
+-- whether a command that changes only this part of the state leaves all counters unchanged
 abbrev keeps_counters : Part → Bool
 keeps_counters NvCounter = false
 keeps_counters NvDefined = false

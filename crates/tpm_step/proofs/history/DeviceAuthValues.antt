@@ -94,8 +94,8 @@ no_session : (t : ℕ) → (t == 0x01 || t == 0x80 || t == 0x81) ≡ true → (t
 no_session t kept = grind (arith, nat_tests)
 
 module _ (r : Record) (h : Handle) where
-  -- A handle with the type of an object or an index names an object or an index, if its entity
-  -- exists.
+  -- If a handle has the type of an object or an index, and its entity exists, the handle names an
+  -- object or an index.
   pub kept_there : is_present r h ≡ true → names_kept h ≡ true → is_kept (entity_at r h) ≡ true
   unfolding is_present
   kept_there present kept =
@@ -150,14 +150,14 @@ handles_auth_values r history [] (h ∷ handles) has fits = absurd fits
 handles_auth_values r history (rule ∷ rules) (h ∷ handles) has fits =
     ap₂ (λ (value : List ℕ) (values : List (List ℕ)). value ∷ values) (present_auth_value r history h has fits.0.1) (handles_auth_values r history rules handles has fits.1)
 
--- the entities of an accepted command's handles exist
+-- each handle of an accepted command names an existing entity
 pub handles_present : (r : Record) (rules : List HandleRule) (handles : List Handle) → HandlesFit r rules handles → (place : ℕ) (handle : Handle) → slice_get handles place ≡ Some handle → is_present r handle ≡ true
 handles_present r rules [] fits place handle at = absurd cc
 handles_present r [] (h ∷ handles) fits place handle at = absurd fits
 handles_present r (rule ∷ rules) (h ∷ handles) fits zero handle at = let same : h ≡ handle = cc in subst (λ (x : Handle). is_present r x ≡ true) same fits.0.1
 handles_present r (rule ∷ rules) (h ∷ handles) fits (suc place) handle at = handles_present r rules handles fits.1 place handle at
 
--- ---- entities that are neither a hierarchy, lockout, an index nor an object
+-- ---- entities other than hierarchies, lockout, indices and objects
 
 pub others_have_none : (r : Record) (history : History) (h : Handle) → HasAuthValues r history → names_kept h ≡ false → hierarchy_auth_of h ≡ None → auth_of history h ≡ []
 others_have_none r history h has other none =

@@ -1,5 +1,5 @@
 -- A device has the counters that its history determines. Therefore no counter goes down until an
--- index is defined again with its handle.
+-- index is defined again with the counter's handle.
 use Rattle.std.proofs.Common.{◌≡◌, ℕ, List, [], ◌∷◌, ◌++◌, append_assoc, refl, sym, ap, subst, ◌∙◌}
 use Rattle.tpm_containers.specs.SortedMap.{Ascends}
 use Rattle.tpm_types.specs.declared.handle.Handle.{Handle}

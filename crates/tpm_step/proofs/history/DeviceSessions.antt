@@ -106,7 +106,8 @@ module _ (r : Record) (a : Accepted) (locality : ℕ) (random : List ℕ) (histo
     asleep = λ asleep. absurd (false≢true (sym asleep ∙ is_started r a locality random is));
   }
 
-  -- If the device leaves at least 64 random bytes after its new nonces, so does the history.
+  -- If at least 64 random bytes are left after the device drew its new nonces, then at least 64 are
+  -- also left after the history's new nonces.
   pub left_enough : 64 ≤ length (device.entries_rolled a.success.after a.command.entries (drop a.success.answer.drawn random)).left → 64 ≤ length (rolled_by (command_of r a) history (sessions_of history)).left
   left_enough some = by drew (subst (λ (bytes : List ℕ). 64 ≤ length bytes) (entries_roll a.success.after a.command.entries (drop a.success.answer.drawn random) effect after_row).1 some)
     where

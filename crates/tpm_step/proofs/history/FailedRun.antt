@@ -1,4 +1,4 @@
--- Computes the example of a run with failed tries, step by step.
+-- Proves the example of a run with failed tries by computing each step.
 use Rattle.std.proofs.Common.{arith, ◌≡◌, ◌≢◌, ◌<◌, ◌^◌, ℕ, false, [], ◌∷◌, length, refl, sym, ap, subst}
 use Rattle.std.proofs.lemmas.Bool.{false≢true}
 use Rattle.tpm_lockout.specs.Recovery.{opened_after}

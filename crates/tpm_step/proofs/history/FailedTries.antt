@@ -1,6 +1,7 @@
--- An entry touches the entity whose authorization value is used to check it. An event is a failed
--- try if and only if its authorization is refused with AUTH_FAIL for an entry that touches a
--- protected entity other than lockout. The response reports this refusal.
+-- Proves which events are failed tries. An entry touches the entity whose authorization value is
+-- used to check the entry. An event is a failed try if and only if an entry of its command is
+-- refused with AUTH_FAIL and touches a protected entity other than lockout. The response reports
+-- this refusal.
 use Rattle.std.proofs.Common.{arith, rules, ◌≡◌, ℕ, ◌+◌, Bool, true, false, List, [], ◌∷◌, ◌++◌, append_assoc, length, length-append, slice_get, Option, Some, None, option_map, Result, Ok, Err, IfErr, refl, sym, ap, subst, ◌∙◌}
 use Rattle.std.specs.Prelude.{not, nat_lt, ◌&&◌, ◌||◌, is_none}
 use Rattle.std.specs.List.{list_any}
@@ -89,18 +90,19 @@ err_other Q check (Err rc) other h = h rc other
 
 -- ---- checking the password or the HMAC of an entry
 
--- whether a refusal increments failedTries or is AUTH_FAIL
+-- whether a refusal increments failedTries, or has the response code AUTH_FAIL
 abbrev is_failure : Refused → Bool
 is_failure e = is_try e.counted || is_auth_fail e.rc.code
 
--- The command is refused because entry n has a wrong password or HMAC. The entry has to authorize
--- the handle `used`, if it is not None. The entity whose authorization value is used to check the
+-- The command is refused because entry n has a wrong password or HMAC. `used` is the handle that
+-- the entry has to authorize, or None. The entity whose authorization value is used to check the
 -- entry is not locked out.
 record FailsAt (r : Record) (c : Whole) (locality n : ℕ) (used : Option Handle) (entry : Entry) (e : Refused) : Type 0 where
   unlocked : is_locked_out r.fixed.lockout (touched r c locality n used entry) ≡ false
   is : e ≡ failure (check_for used) n (touched r c locality n used entry)
 
--- If the refusal increments failedTries or is AUTH_FAIL, entry n has failed as `FailsAt` says.
+-- If the refusal increments failedTries or has the response code AUTH_FAIL, entry n failed
+-- (`FailsAt`).
 abbrev IfFailsAt : Record → Whole → (locality n : ℕ) → Option Handle → Entry → Refused → Type 0
 IfFailsAt r c locality n used entry e = is_failure e ≡ true → FailsAt r c locality n used entry e
 
@@ -311,7 +313,7 @@ fails_where r (Placed object) f = absurd f
 pub try_tells : (old : Record) (event : PlainEvent) → (fails_try old event ≡ true → IsRefusedTry old event) × (IsRefusedTry old event → fails_try old event ≡ true)
 try_tells old event = (fails_if old event, fails_where old event)
 
--- The response to a refusal does not depend on whether allocations fail.
+-- The response to a refused command does not depend on whether allocations fail.
 answer_refused : (refused : Bool) (r : Record) (random : List ℕ) (x : Result Accepted RefusedCommand) (e : RefusedCommand) → x ≡ Err e → answer_where refused r random x ≡ refusal_step r e
 answer_refused false r random x e is = ap (λ y. stepped_of r random y) is
 answer_refused true r random x e is = ap (λ y. answer_without_memory r random y) is

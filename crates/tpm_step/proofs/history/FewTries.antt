@@ -121,7 +121,7 @@ fails_few can old executions new is leads quiet counts = omega (arith, fails_wit
 pub one_more : (old : Record) (executions : List Execution) → tries_at_most old executions ≡ tries_within old executions + 1
 one_more old executions = omega arith
 
--- ---- commands that are not a reset
+-- ---- commands other than resets
 
 code_resets : (code : CommandCode) → resets_tries code ≡ true → (code ≡ command.DictionaryAttackLockReset) ⊎ (code ≡ command.DictionaryAttackParameters) ⊎ (code ≡ command.Clear)
 code_resets command.DictionaryAttackLockReset is = inl refl

@@ -26,7 +26,7 @@ abbrev pub EachIndex : (Handle → NvIndex → Type 0) → NvContents → Type 0
 EachIndex Is contents = (handle : Handle) (index : NvIndex) → index_at contents handle ≡ Some index → Is handle index
 
 module _ (Was Is : Handle → NvIndex → Type 0) where
-  -- Each index with another handle that had the property `Was` has the property `Is`.
+  -- Each index at any other handle has the property `Is` if it had the property `Was`.
   abbrev pub OthersStay : Handle → Type 0
   OthersStay handle = (other : Handle) (index : NvIndex) → other.number ≢ handle.number → Was other index → Is other index
 

@@ -12,7 +12,7 @@ use Rattle.tpm_step.specs.declared.refused_command.RefusedCommand.{RefusedComman
 use Rattle.tpm_step.specs.history.Executions.{Execution, Leads, history_after, with_execution}
 use Rattle.tpm_step.specs.history.History.{History, recorded, with_command, with_placed}
 
--- ---- the part of a history since an earlier one
+-- ---- the part of a history that was added to an earlier history
 
 command_apart : (r : Record) (x : Result Accepted RefusedCommand) (check : ℕ) (history : History) → with_command r x check history ≡ with_command r x check [] ++ history
 command_apart r (Ok a) zero history = refl

@@ -27,12 +27,12 @@ use Rattle.tpm_step.proofs.history.HandleMap.{at_other, at_same}
 
 -- ---- a device's session and the history's session
 
--- The device and the history have a session with the same facts, or both have none.
+-- The device and the history both have a session, with the same facts, or neither has a session.
 abbrev Matches : Option Session → Option LiveSession → Type 0
 Matches found told = option_map session_facts found ≡ option_map facts_of told
 
--- proves a relation between the device's session and the history's session in two cases: both exist
--- and have the same facts, or neither exists
+-- A property of the device's session and the history's session holds if it holds in two cases: both
+-- sessions exist and have the same facts; or neither session exists.
 pub of_both : (P : Option Session → Option LiveSession → Type 0) → ((s : Session) (l : LiveSession) → session_facts s ≡ facts_of l → P (Some s) (Some l)) → P None None → (found : Option Session) (told : Option LiveSession) → option_map session_facts found ≡ option_map facts_of told → P found told
 of_both P some none (Some s) (Some l) same = some s l (same_Some (session_facts s) (facts_of l) same)
 of_both P some none None None same = none
@@ -95,8 +95,8 @@ none_ended_live places handle live not are =
 
 -- ---- changing a session
 
--- The change has the same effect on the device's session as on the history's session with the same
--- facts.
+-- If the device's session and the history's session have the same facts, they still have the same
+-- facts after both are changed.
 abbrev pub ChangesAs : (Session → Session) → (LiveSession → LiveSession) → Session → Type 0
 ChangesAs change retell s = (l : LiveSession) → session_facts s ≡ facts_of l → session_facts (change s) ≡ facts_of (retell l)
 

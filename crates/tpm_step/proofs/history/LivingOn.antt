@@ -33,8 +33,8 @@ use Rattle.tpm_step.proofs.history.HandleMap.{at_other, at_same, same_handle}
 abbrev pub all_nonces : LiveSession → List (List ℕ)
 all_nonces s = s.nonce_tpm ∷ s.earlier_nonces
 
--- This is the same session at two times: it has the same type, hash and size of nonces, and every
--- nonce that it had before.
+-- Both values are the same session, at an earlier and a later time. The type, the hash and the size
+-- of the session's nonces are the same. The session still has every nonce that it had before.
 pub record Continues (old new : LiveSession) : Type 0 where
   pub kind : new.kind ≡ old.kind
   pub hash : new.hash ≡ old.hash
@@ -58,8 +58,8 @@ continues_then a b c first then = record {
     by (inl same) = subst (λ (nonce : List ℕ). IsAmong nonce (all_nonces c)) (sym same) then.latest
     by (inr among) = inr (then.earlier a.nonce_tpm among)
 
--- This is the same session at two times. At the later time, it has the same assertions as before,
--- or none.
+-- Both values are the same session, at an earlier and a later time. At the later time, the session
+-- has the same assertions as before, or none.
 pub record Keeps (old new : LiveSession) : Type 0 where
   pub continues : Continues old new
   pub asserted : (new.assertions ≡ old.assertions) ⊎ (new.assertions ≡ [])

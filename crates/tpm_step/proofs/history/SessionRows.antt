@@ -63,7 +63,8 @@ unfolding start_key session_key
 start_told p None nonce = refl
 start_told p (Some binding) nonce = refl
 
--- If the success has the command's answer, it leaves the sessions that the history determines.
+-- If the history recorded the answer of this success, then the sessions after the success are those
+-- that the history determines.
 abbrev pub IsTold : AcceptedCommand → History → LiveSessions → CommandCode → Success → Type 0
 IsTold c history live code s = c.answer ≡ s.answer → AreLive s.after.sessions (sessions_by code c history live)
 

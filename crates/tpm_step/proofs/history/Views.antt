@@ -1,5 +1,5 @@
--- A view shows what the record contains. An accepted command is recorded with the views before the
--- command.
+-- A view shows what the record contains. The history records an accepted command with the views of
+-- its handles before the command.
 use Rattle.std.proofs.Common.{◌≡◌, ℕ, List, ◌∷◌, map, refl}
 use Rattle.tpm_types.specs.declared.handle.Handle.{Handle}
 use Rattle.tpm_types.specs.declared.nv_use.NvUse.{NvUse}

@@ -1,4 +1,5 @@
--- If a command may have sessions, the session of each entry still exists after its success.
+-- If a command may have sessions, the session of each entry still exists after the command
+-- succeeds.
 use Rattle.std.proofs.Common.{◌≡◌, ℕ, false, List, [], Result, Ok, Err, ap, subst}
 use Rattle.tpm_bytes.proofs.Fields.{bind_ok, ok_is}
 use Rattle.tpm_types_command.specs.Command.{Whole}

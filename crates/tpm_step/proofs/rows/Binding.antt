@@ -11,7 +11,7 @@ use Rattle.tpm_types.specs.declared.check.Check.{Check}
 use Rattle.tpm_types.specs.declared.rc.Rc.{Rc}
 use Rattle.tpm_types.specs.declared.refused.Refused.{Refused}
 
--- if `checked` succeeds, the step itself had the same result
+-- if `checked` succeeds with a value, the unchecked result is the same value
 pub checked_ok : {X : Type 0} (check : Check) (x : Result X Rc) (y : X) → checked check x ≡ Ok y → x ≡ Ok y
 checked_ok {X} check (Ok x) y e = ap (λ (z : X). let r : Result X Rc = Ok z in r) (ok_is {E = Refused} x y e)
 checked_ok check (Err rc) y e = absurd cc
@@ -21,12 +21,12 @@ pub ok_bind : {A B E : Type 0} (Q : B → Type 0) (x : Result A E) (f : A → Re
 ok_bind Q (Ok a) f h = h a
 ok_bind Q (Err e) f h = tt
 
--- as `ok_bind`, but `f` is called only with the success of `x`
+-- like `ok_bind`, but the property of `f` is needed only for the value that `x` returns
 pub ok_bind_is : {A B E : Type 0} (Q : B → Type 0) (x : Result A E) (f : A → Result B E) → ((a : A) → x ≡ Ok a → IfOk (f a) Q) → IfOk (x >>= f) Q
 ok_bind_is Q (Ok a) f h = h a refl
 ok_bind_is Q (Err e) f h = tt
 
--- as `ok_bind`, but the success of `x` has a property that `f` may rely on
+-- like `ok_bind`, but `f` may rely on a property that every success of `x` has
 pub ok_then : {A B E : Type 0} (P : A → Type 0) (Q : B → Type 0) (x : Result A E) (f : A → Result B E) → IfOk x P → ((a : A) → P a → IfOk (f a) Q) → IfOk (x >>= f) Q
 ok_then P Q (Ok a) f k h = h a k
 ok_then P Q (Err e) f k h = tt
@@ -36,7 +36,7 @@ pub ok_weaker : {A E : Type 0} (P Q : A → Type 0) (x : Result A E) → IfOk x 
 ok_weaker P Q (Ok a) k h = h a k
 ok_weaker P Q (Err e) k h = tt
 
--- applies a property of every success to one success
+-- if a property holds for every success, it holds for this success
 pub ok_at : {A E : Type 0} (P : A → Type 0) (x : Result A E) (a : A) → IfOk x P → x ≡ Ok a → P a
 ok_at P (Ok b) a holds is = subst P (ok_is b a is) holds
 ok_at P (Err e) a holds is = absurd cc
@@ -46,7 +46,7 @@ pub err_bind : {A B E : Type 0} (Q : E → Type 0) (x : Result A E) (f : A → R
 err_bind Q (Ok a) f k h = h a
 err_bind Q (Err e) f k h = k
 
--- as `err_bind`, but `f` is called only with the success of `x`
+-- like `err_bind`, but the property of `f` is needed only for the value that `x` returns
 pub err_bind_is : {A B E : Type 0} (Q : E → Type 0) (x : Result A E) (f : A → Result B E) → IfErr x Q → ((a : A) → x ≡ Ok a → IfErr (f a) Q) → IfErr (x >>= f) Q
 err_bind_is Q (Ok a) f k h = h a refl
 err_bind_is Q (Err e) f k h = k

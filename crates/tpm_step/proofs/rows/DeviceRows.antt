@@ -1,5 +1,5 @@
--- The rows of the device itself, of PCRs, of hierarchies and of sessions satisfy the laws about
--- rows.
+-- The rows of the commands for the device itself, PCRs, hierarchies and sessions satisfy the laws
+-- about rows.
 use Rattle.std.specs.Option.{option_map_or}
 use Rattle.std.specs.Prelude.{min, not}
 use Rattle.std.proofs.Common.{◌+◌, ◌≡◌, ◌≤◌, Bool, List, None, Ok, Option, Some, arith, false, inl}

@@ -79,8 +79,8 @@ grants_refuse r c locality is = walk_refuses r c locality [] c.entries (entries_
 
 -- ---- the grant of an entry
 
--- On success, the entry is granted the handle that it has to authorize, or no handle if there is
--- none.
+-- On success, the entry is granted the handle that it has to authorize. If it does not have to
+-- authorize a handle, it is granted none.
 abbrev Grants : Option Handle → Result (Option Grant) Refused → Type 0
 Grants used result = IfOk result (λ granted. handle_in granted ≡ used)
 

@@ -31,8 +31,8 @@ use Rattle.tpm_step.proofs.rows.Table.{row_passes}
 
 -- ---- handles that pass the general checks
 
--- A handle that its rule allows has the rule's kind. If its entity exists too, the handle fits the
--- rule.
+-- A handle that its rule allows has the rule's kind. If the handle's entity also exists, the handle
+-- fits the rule.
 allowed_fits : (n : ℕ) (rule : HandleRule) (text : List ℕ) → IfOk (allowed_handle_at n rule text) (λ x. is_of_kind rule.kind x.0 ≡ true)
 unfolding allowed_handle_at
 allowed_fits n rule text =
@@ -69,7 +69,7 @@ general_fits r buffer =
 
 -- ---- refusals after the general checks
 
--- authorization never refuses with the check of handles (G6)
+-- authorization never refuses a command with the check of handles (G6)
 authorize_passes : (r : Record) (c : Whole) (locality : ℕ) → Passes check.Handles (authorize r c locality)
 unfolding authorize
 authorize_passes r c locality =

@@ -1,4 +1,4 @@
--- The rows of NV indices satisfy the laws about rows.
+-- The rows of the commands for NV indices satisfy the laws about rows.
 use Rattle.std.specs.Prelude.{◌==◌, is_some, nat_lt, not, ok_or}
 use Rattle.std.proofs.Common.{◌∙◌, ◌∷◌, ◌≡◌, Bool, Err, IfOk, List, None, Ok, Option, Result, Some}
 use Rattle.std.proofs.Common.{[], ap, arith, false, length, refl, rules, subst, sym, true, ℕ}
@@ -86,8 +86,8 @@ late_if : {F : Type 0} (Fit : Type 0) (refusal : F → Refused) (b : Bool) (faul
 late_if Fit refusal true fault late = late
 late_if Fit refusal false fault late = tt
 
--- Looking up an index refuses late (`Late`), if the index exists whenever the handles fit, and the
--- later steps refuse late.
+-- A row that looks up an index, and then takes further steps, refuses late (`Late`) if the further
+-- steps refuse late, and the index exists whenever the handles fit.
 late_index : {X F : Type 0} (Fit : Type 0) (refusal : F → Refused) (nv : NvContents) (h : Handle)
     (absence : F) (f : NvIndex → Result X F) → refusal absence ≡ handle_refusal
     → (Fit → is_some (index_at nv h) ≡ true) → ((i : NvIndex) → Late Fit (or_refusal refusal (f i)))
@@ -136,8 +136,8 @@ late_read_locked : (Fit : Type 0) (nv : NvContents) (h : Handle)
 unfolding read_locked
 late_read_locked Fit nv h there = search changes
 
--- Setting an index's authorization value refuses late (`Late`), if its handle fits a rule for NV
--- indices whenever all handles fit.
+-- The step that sets an index's authorization value refuses late (`Late`) if the handle fits a rule
+-- for NV indices whenever all handles fit their rules.
 late_auth_value : (Fit : Type 0) (r : Record) (role : Option Role) (h : Handle) (value : List ℕ)
     → (Fit → FitsRule r (record { kind = handle_kind.NvIndex; role = role }) h)
     → Late Fit (or_refusal (λ absence. handle_refusal) (with_auth_value r.nv h value))

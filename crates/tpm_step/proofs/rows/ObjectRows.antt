@@ -1,4 +1,4 @@
--- The rows of objects satisfy the laws about rows.
+-- The rows of the commands for objects satisfy the laws about rows.
 use Rattle.std.specs.Option.{option_map_or}
 use Rattle.std.specs.Prelude.{◌==◌, ◌||◌, if◌then◌else◌, is_some}
 use Rattle.std.proofs.Common.{◌+◌, ◌≡◌, ◌≤◌, Bool, IfOk, List, None, Ok, Option, Result, Some}
@@ -77,7 +77,7 @@ use Rattle.tpm_row_secrecy.proofs.ObjectRows as object_secrets
 
 -- ---- how the rows of objects refuse
 
--- A handle with the type of an object names an object, if its entity exists.
+-- If a handle has the type of an object, and its entity exists, then the handle names an object.
 object_there : (type : ℕ) (session : Bool) (index : Entity) (o : Option Object)
     → (type == 0x80 || type == 0x81) ≡ true
     → IsThere type session (if type == 0x01 then index else option_map_or AnObject o Permanent)
@@ -118,8 +118,8 @@ late_creation Fit before x = grind arith
 late_scheme : (Fit : Type 0) (p : PublicParameters) → Late Fit (scheme_of p)
 late_scheme Fit p = grind arith
 
--- The step of TPM2_EvictControl that removes a persistent object, or copies a transient object,
--- refuses late (`Late`).
+-- A step of TPM2_EvictControl refuses late (`Late`): the step that removes a persistent object, or
+-- copies a transient object.
 late_evicted : (Fit : Type 0) (objects : Entries Object) (h : Handle) (o : Object) (wanted : Handle)
     → Late Fit (evicted objects h o wanted)
 late_evicted Fit objects h o wanted = by (is_persistent h)

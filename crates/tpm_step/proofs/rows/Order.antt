@@ -41,8 +41,8 @@ use Rattle.tpm_step.proofs.rows.Readings.{read_one, trimmed_read}
 
 -- ---- consequences of the order
 
--- a row that satisfies `InOrder` accepts parameters of its kinds and refuses all other parameters
--- with their first fault, unless it refuses a handle
+-- a row that satisfies `InOrder` does not refuse parameters of the expected kinds; it refuses all
+-- other parameters with their first fault, unless it refuses a handle
 pub in_order_reads : {X : Type 0} (Fit : Type 0) (s : Result (Unit {0}) Refused)
     (row : Result X Refused) → InOrder Fit s row → ReadsParameters s row
 in_order_reads Fit (Ok u) (Ok x) order = tt
@@ -83,7 +83,7 @@ parameter_fault : {X : Type 0} (n : ℕ) (x : Result X Rc)
 parameter_fault n (Ok x) = tt
 parameter_fault n (Err rc) = refl
 
--- the check of parameters refuses parameters that are not of their kinds
+-- if parameters are not of the expected kinds, they are refused by the check of parameters
 pub spelled_faults : (n : ℕ) (kinds : List ParameterKind) (text : List ℕ)
     → IfErr (spelled n kinds text) (λ e. e.check ≡ check.Parameters)
 spelled_faults n [] text = err_if (λ e. e.check ≡ check.Parameters) _ _ refl
@@ -99,7 +99,8 @@ target_at r handles = do
   attributes ← attributes_of r handle
   Ok (record { auth_handle = auth_handle; handle = handle; attributes = attributes })
 
--- a first step that reads the first handle preserves `Orders`
+-- `Orders` holds for a row that begins by reading the first handle, if it holds for the rest of the
+-- row
 pub behind_first : {X : Type 0} (r : Record) (rule : HandleRule) (rules : List HandleRule)
     (handles : List Handle) (kinds : List ParameterKind) (text : List ℕ)
     (f : Handle → Result X Refused)
@@ -109,7 +110,8 @@ pub behind_first : {X : Type 0} (r : Record) (rule : HandleRule) (rules : List H
 behind_first r rule rules [] kinds text f more = record { order = inl (refl, λ fit. fit) }
 behind_first r rule rules (h ∷ hs) kinds text f more = more h (λ fit. fit.0)
 
--- a first step that reads the second handle preserves `Orders`
+-- `Orders` holds for a row that begins by reading the second handle, if it holds for the rest of
+-- the row
 pub behind_second : {X : Type 0} (r : Record) (first rule : HandleRule) (rules : List HandleRule)
     (handles : List Handle) (kinds : List ParameterKind) (text : List ℕ)
     (f : Handle → Result X Refused)
@@ -120,7 +122,8 @@ behind_second r first rule rules [] kinds text f more = record { order = inl (re
 behind_second r first rule rules (h ∷ []) kinds text f more = record { order = inl (refl, λ fit. fit.1) }
 behind_second r first rule rules (h ∷ k ∷ hs) kinds text f more = more k (λ fit. fit.1.0)
 
--- a first step that reads the third handle preserves `Orders`
+-- `Orders` holds for a row that begins by reading the third handle, if it holds for the rest of the
+-- row
 pub behind_third : {X : Type 0} (r : Record) (first second rule : HandleRule)
     (rules : List HandleRule) (handles : List Handle) (kinds : List ParameterKind) (text : List ℕ)
     (f : Handle → Result X Refused)
@@ -132,8 +135,8 @@ behind_third r first second rule rules (h ∷ []) kinds text f more = record { o
 behind_third r first second rule rules (h ∷ k ∷ []) kinds text f more = record { order = inl (refl, λ fit. fit.1.1) }
 behind_third r first second rule rules (h ∷ k ∷ l ∷ hs) kinds text f more = more l (λ fit. fit.1.1.0)
 
--- a first step that makes an assertion from the first handle, as in TPM2_PolicySecret, preserves
--- `Orders`
+-- `Orders` holds for a row that begins by making an assertion from the first handle, as in
+-- TPM2_PolicySecret, if it holds for the row after the handle is read
 pub behind_entity : {A X : Type 0} (r : Record) (rule : HandleRule) (rules : List HandleRule)
     (handles : List Handle) (kinds : List ParameterKind) (text : List ℕ)
     (g : Handle → Result A Refused) (f : A → Result X Refused)
@@ -142,8 +145,8 @@ pub behind_entity : {A X : Type 0} (r : Record) (rule : HandleRule) (rules : Lis
 behind_entity r rule rules [] kinds text g f more = record { order = inl (refl, λ fit. fit) }
 behind_entity r rule rules (h ∷ hs) kinds text g f more = more h
 
--- a first step that looks up an entity preserves `Orders`, if the entity exists whenever the
--- handles fit
+-- `Orders` holds for a row that begins by looking up an entity, if it holds for the rest of the
+-- row, and the entity exists whenever the handles fit
 pub behind_found : {A X : Type 0} (r : Record) (rules : List HandleRule) (handles : List Handle)
     (o : Option A) (kinds : List ParameterKind) (text : List ℕ) (f : A → Result X Refused)
     → (HandlesFit r rules handles → is_some o ≡ true)
@@ -162,14 +165,15 @@ pub either : (a b : Bool) → (a || b) ≡ true → (a ≡ true) ⊎ (b ≡ true
 either true b is = inl refl
 either false b is = inr is
 
--- The session or entity of a handle of this type exists. `session` says whether a session exists;
--- `entity` is the entity of a handle that has another type.
+-- The session or the entity that a handle names exists. `type` is the type of the handle. If it is
+-- the type of a session, `session` says whether the session exists; otherwise, `entity` is the
+-- entity.
 abbrev pub IsThere : ℕ → Bool → Entity → Type 0
 IsThere type session entity =
     (if (type == 0x02 || type == 0x03) then session
     else (is_kept entity || not (type == 0x01 || type == 0x80 || type == 0x81))) ≡ true
 
--- A handle with the type of an NV index names an index, if its entity exists.
+-- If a handle has the type of an NV index, and its entity exists, then the handle names an index.
 index_present : (type : ℕ) (session : Bool) (o : Option NvIndex) (object : Entity)
     → (type == 0x01) ≡ true
     → IsThere type session (if type == 0x01 then option_map_or AnIndex (option_map head_of o) Permanent else object)
@@ -194,7 +198,8 @@ pub behind_index : {X : Type 0} (r : Record) (rules : List HandleRule) (handles 
     → Orders r rules handles kinds text (index_or_refusal r h >>= f)
 behind_index r rules handles role h kinds text f fits more = behind_found r rules handles (index_at r.nv h) kinds text f (λ fit. index_there r role h (fits fit)) more
 
--- a first step that reads authHandle, nvIndex and the index's attributes preserves `Orders`
+-- `Orders` holds for a row that begins by reading authHandle, nvIndex and the index's attributes,
+-- if it holds for the rest of the row
 pub behind_target : {X : Type 0} (r : Record) (first : HandleRule) (others : List HandleRule)
     (handles : List Handle) (kinds : List ParameterKind) (text : List ℕ)
     (f : Target → Result X Refused)
@@ -221,8 +226,8 @@ behind_target r first others (h ∷ k ∷ hs) kinds text f more =
     found (Some i) there next = next i.public.attributes there
     found None there next = record { order = inl (refl, λ fit. false≢true (there fit)) }
 
--- a first step that makes an assertion from authHandle, nvIndex and the index's attributes
--- preserves `Orders`
+-- `Orders` holds for a row that begins by making an assertion from authHandle, nvIndex and the
+-- index's attributes, if it holds for the row after these are read
 pub behind_target_asserted : {A X : Type 0} (r : Record) (first : HandleRule)
     (others : List HandleRule) (handles : List Handle) (kinds : List ParameterKind) (text : List ℕ)
     (g : Target → Result A Refused) (f : A → Result X Refused)
@@ -268,13 +273,13 @@ pub late_own_fault : {X : Type 0} (Fit : Type 0) (x : Result X ActionFault)
 late_own_fault Fit (Ok u) = tt
 late_own_fault Fit (Err fault) = tt
 
--- the rules for the steps of rows that read handles
+-- the rules for a row's steps that read handles
 pub ruleset handle_steps = (behind_first, behind_second, behind_third, behind_entity, behind_index, behind_target, behind_target_asserted)
 
--- the rules for the steps of rows that read parameters
+-- the rules for a row's steps that read parameters
 pub ruleset reading_steps = (behind_reading, behind_handed, all_read_outcome, only_read, read_one, read_all, trimmed_read)
 
--- the rules for the steps of rows that refuse late (`Late`)
+-- the rules for a row's steps that refuse late (`Late`)
 pub ruleset late_steps = (rules, err_bind, err_if, err_or, err_fault, late_own_fault)
 
 -- the rules with which `Orders` is proved for a row

@@ -1,5 +1,5 @@
--- The part of the state that a command changes determines how many further slots its success fills,
--- and what it does to sessions.
+-- The part of the state that a command changes determines how many more slots a success of this
+-- command fills, and how the success changes the sessions.
 use Rattle.std.specs.Prelude.{is_some}
 use Rattle.std.proofs.Common.{◌∙◌, ◌≡◌, ◌≤◌, Bool, List, Option, ap, arith, false, inl, inr, length}
 use Rattle.std.proofs.Common.{true}
@@ -48,8 +48,8 @@ pub same_sessions : (r : Record) (sessions : List (Option Session))
     → Grows false r (record r { sessions = sessions })
 same_sessions r sessions same = omega (arith, same)
 
--- whether a command that changes only this part of the state never needs another slot for a
--- session, an object (transient or persistent) or an NV index
+-- whether a command that changes only this part of the state never needs another slot. Sessions,
+-- transient and persistent objects, and NV indices need slots
 abbrev pub keeps_places : Part → Bool
 keeps_places Nothing = true
 keeps_places AuthValues = true

@@ -1,4 +1,4 @@
--- The rows of policies satisfy the laws about rows.
+-- The rows of the commands for policies satisfy the laws about rows.
 use Rattle.std.specs.Prelude.{◌==◌, ◌||◌, if◌then◌else◌, is_some}
 use Rattle.std.proofs.Common.{◌≡◌, Bool, Err, IfOk, List, Ok, Option, Result, Some, arith, length}
 use Rattle.std.proofs.Common.{refl, rules, subst, sym, true, ℕ}
@@ -53,7 +53,8 @@ use Rattle.tpm_row_secrecy.proofs.PolicyRows as policy_secrets
 
 -- ---- how the rows of policies refuse
 
--- A handle with the type of a policy session names a session, if its entity exists.
+-- If a handle has the type of a policy session, and its entity exists, then the handle names a
+-- session.
 session_there : (type : ℕ) (session other : Bool) → (type == 0x03) ≡ true
     → (if (type == 0x02 || type == 0x03) then session else other) ≡ true → session ≡ true
 session_there type session other kind present = grind (arith, nat_tests)
@@ -79,8 +80,8 @@ checked_assertion hash trial assertion policy = by (asserted hash trial assertio
     by (Ok new) is = is
     by (Err fault) is = tt
 
--- There are as many sessions as before, each session that existed still exists, and the fields of
--- all sessions keep the right sizes.
+-- The number of sessions is unchanged, and each session still exists. If the fields of all sessions
+-- had the right sizes, they still do.
 record KeepsSessions (r : Record) (sessions : List (Option Session)) : Type 0 where
   count : taken_count sessions ≡ taken_count r.sessions
   stay : SessionsStay r (record r { sessions = sessions })

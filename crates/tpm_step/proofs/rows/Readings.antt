@@ -11,7 +11,7 @@ use Rattle.tpm_step.specs.rows.Shapes.{behind, behind_kind, spelled}
 
 -- ---- the outcome of reading parameters
 
--- success if the parameters could be parsed, and otherwise their fault
+-- success if the parameters could be parsed, and otherwise the fault of the parameters
 abbrev pub outcome : {P : Type 0} → Result P Refused → Result (Unit {0}) Refused
 outcome (Ok p) = Ok tt
 outcome (Err e) = Err e

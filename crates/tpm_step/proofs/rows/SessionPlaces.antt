@@ -1,5 +1,6 @@
--- After a session starts or changes its policy, the sessions that existed still exist. The fields
--- of all sessions keep the right sizes, also after a session is flushed.
+-- After a session is started, or its policy changes, all earlier sessions still exist, and the
+-- fields of all sessions still have the right sizes. The fields also keep the right sizes when a
+-- session is flushed.
 use Rattle.std.specs.Prelude.{IfSome, is_some, option_and_then}
 use Rattle.std.proofs.Common.{◌∙◌, ◌≡◌, List, None, Option, Some, ap, inl, inr, length, refl}
 use Rattle.std.proofs.Common.{slice_set, subst, sym, true, ℕ}

@@ -1,4 +1,4 @@
--- The session of each entry exists if the entry passes its checks, and still exists after every row
+-- If an entry passes its own checks, its session exists. The session still exists after every row
 -- that ends no session.
 use Rattle.std.specs.Prelude.{◌||◌, is_some, nat_lt}
 use Rattle.std.proofs.Common.{◌++◌, ◌+◌, ◌∷◌, ◌≡◌, List, None, Ok, Option, Some, [], false, is_none}

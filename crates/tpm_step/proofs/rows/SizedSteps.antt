@@ -128,8 +128,8 @@ answer_sized c grants a effect random enough sized =
 
 -- ---- steps
 
--- An accepted command leaves a record in which the fields of all sessions have the right sizes, and
--- it leaves enough of the 256 random bytes for new nonces.
+-- After an accepted command, the fields of all sessions have the right sizes. Enough of the 256
+-- random bytes are left for the new nonces.
 abbrev Fits : Accepted → Type 0
 Fits a = AreSized a.success.after × (a.success.answer.drawn + 32 * length a.command.entries ≤ 256)
 

@@ -1,5 +1,5 @@
--- After every accepted command the device is started. Only TPM2_Startup is accepted before that,
--- and it starts the device.
+-- A device that is not started accepts only TPM2_Startup, which starts it. Therefore the device is
+-- started after every accepted command.
 use Rattle.std.proofs.Common.{◌≡◌, ℕ, Bool, true, false, List, IfOk, refl, ap, ◌∙◌}
 use Rattle.tpm_types.specs.StartupType.{startup_type_at}
 use Rattle.tpm_commands.specs.declared.command_code.CommandCode.{CommandCode}

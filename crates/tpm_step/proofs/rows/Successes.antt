@@ -1,4 +1,5 @@
--- A success satisfies the laws about rows, given the part of the state that it changes.
+-- A success satisfies the laws about rows. The proofs depend on which part of the state the command
+-- changes.
 use Rattle.std.proofs.Common.{◌≡◌, ◌≤◌, Ok, Result, ap, arith, false, rules, subst, sym, true, ℕ}
 use Rattle.tpm_types.specs.declared.refused.Refused.{Refused}
 use Rattle.tpm_commands.specs.declared.command_code.CommandCode.{CommandCode}
@@ -17,15 +18,16 @@ use Rattle.tpm_step.proofs.rows.Binding.{ok_bind}
 use Rattle.tpm_step.proofs.rows.Parts.{keeps_places, leaves_sessions, sessions_same}
 use Rattle.tpm_step.proofs.rows.Parts.{touched_grows, touched_same}
 
--- If a success of the command fills no further slot, it fits the command's shape.
+-- If a success of this command fills no further slot, its use of slots agrees with the command's
+-- shape.
 abbrev pub GrowsNothing : CommandCode → Type 0
 GrowsNothing c = (old new : Record) → Grows false old new → GrowsAsShaped c old new
 
 abbrev pub GrowsByOne : CommandCode → Type 0
 GrowsByOne c = (old new : Record) → Grows true old new → GrowsAsShaped c old new
 
--- A success that leaves the sessions unchanged satisfies the laws about rows, if its changes, its
--- answer and its draws are as defined for its command.
+-- A success that leaves the sessions unchanged satisfies the laws about rows if its changes, its
+-- answer, and the random bytes that it draws are as defined for its command.
 pub beside_sessions : (c : CommandCode) (r : Record) (q : Request) (s : Success)
     → leaves_sessions (part_of c) ≡ true → Touches (part_of c) r s.after → GrowsAsShaped c r s.after
     → ChangesIndices (part_of c) q r.nv s.after.nv → AnswersItsShape c s → DrawsAsSaid c q s → SuccessLaws c r q s
@@ -42,8 +44,8 @@ beside_sessions c r q s leaves touches grows changes answers draws = record {
     same : s.after.sessions ≡ r.sessions
     same = touched_same (part_of c) r s.after leaves touches
 
--- A success that fills no further slot satisfies the laws about rows, if its changes, its answer
--- and its draws are as defined for its command.
+-- A success that fills no further slot satisfies the laws about rows if its changes, its answer,
+-- and the random bytes that it draws are as defined for its command.
 pub in_place : (c : CommandCode) (r : Record) (q : Request) (s : Success)
     → leaves_sessions (part_of c) ≡ true → keeps_places (part_of c) ≡ true → GrowsNothing c
     → Touches (part_of c) r s.after → ChangesIndices (part_of c) q r.nv s.after.nv
@@ -51,7 +53,7 @@ pub in_place : (c : CommandCode) (r : Record) (q : Request) (s : Success)
 in_place c r q s leaves keeps nothing touches changes answers draws =
     beside_sessions c r q s leaves touches (nothing r s.after (touched_grows (part_of c) r s.after keeps touches)) changes answers draws
 
--- drawing no random bytes stays within the limit of 96 bytes
+-- a success that draws no random bytes stays within the limit of 96 bytes
 pub none_drawn : 0 ≤ 96
 none_drawn = omega arith
 

@@ -1,5 +1,5 @@
--- Each assertion that the history records met its condition on the policy session when it was
--- accepted.
+-- Each assertion that the history records met its condition on the policy session when the
+-- assertion was accepted.
 use Rattle.std.proofs.Common.{◌≡◌, ◌<◌, ◌^◌, ◌+◌, ℕ, arith, Bool, true, false, cond, List, [], ◌∷◌, length, Option, Some, None, Result, Ok, Err, IfOk, IfSome, refl, ap, sym, subst, ◌∙◌}
 use Rattle.std.specs.Prelude.{not, nat_lt, is_some, ◌==◌, ◌&&◌}
 use Rattle.std.specs.Int.{w8, w32}
@@ -184,8 +184,9 @@ module _ (r : Record) (c : AcceptedCommand) (history : History) (are : AreIndice
 
   -- ---- the assertion of an accepted command
 
-  -- On a policy session that is not a trial session, the assertion that the history determines for
-  -- an accepted command meets its condition on the session's policy.
+  -- Suppose that an accepted command makes an assertion on a policy session that is not a trial
+  -- session. Then the assertion that the history determines meets its condition on the session's
+  -- policy, and its values have the right sizes.
   abbrev pub FindsItsOwn : Code → Type 0
   FindsItsOwn code =
       (handle : Handle) (s : Session) (told : Assertion) → session_handle code q.handles ≡ Ok handle

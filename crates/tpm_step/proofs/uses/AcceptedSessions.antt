@@ -32,7 +32,7 @@ module _ (r : Record) (a : Accepted) (locality : ℕ) (random : List ℕ) (histo
   abbrev c : AcceptedCommand
   c = command_of r a
 
-  -- Each assertion of a policy session that survives a command met its condition.
+  -- If a policy session survives a command, each of its assertions met its condition.
   stayed_find : (handle : Handle) (old mid : LiveSession) → sessions_of history handle ≡ Some old → mid.kind ≡ type.Policy → Keeps old mid → AllFind mid.hash mid.assertions
   stayed_find handle old mid lived policy keeps = by keeps.asserted
     where

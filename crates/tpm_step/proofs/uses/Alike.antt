@@ -1,5 +1,5 @@
 -- If two devices follow the same history, show the same view of each handle, and have the same
--- lockout state, then they authorize each command in the same way.
+-- lockout state, they authorize each command in the same way.
 use Rattle.std.proofs.Common.{◌≡◌, Bool, true, false, [], Option, Some, None, option_map, refl, ap, sym, subst, ◌∙◌}
 use Rattle.std.specs.Option.{option_map_or}
 use Rattle.tpm_session.specs.Sessions.{session_at}
@@ -25,7 +25,7 @@ use Rattle.tpm_step.proofs.history.Views.{views_tell}
 use Rattle.tpm_step.specs.uses.Alike.{AuthorizeAlike}
 use Rattle.tpm_step.proofs.uses.AuthorizeAlike.{authorize_same}
 
--- A device's binding, from the binding in the facts of a session.
+-- Converts the binding in a history's session to the binding of a device's session.
 unbound : Bound → Binding
 unbound b = record { name = b.name; auth_value = b.auth_value; protection = b.protection }
 

@@ -1,5 +1,5 @@
--- An accepted command made each assertion of a session, and the session has kept the assertion
--- since then.
+-- Each assertion of a session was made by an accepted command, and the session has had the
+-- assertion ever since.
 use Rattle.std.proofs.Common.{◌≡◌, ◌⊎◌, ◌≤◌, ℕ, arith, List, [], ◌∷◌, append_assoc, length, take, Some, Result, Ok, Err, slice_get, refl, ap, sym, subst, ◌∙◌, inl, inr}
 use Rattle.tpm_policy.specs.Assertion.{Assertion}
 use Rattle.tpm_policy_meaning.specs.Asserted.{IsAmong}
@@ -70,8 +70,8 @@ later_origin event history handle one stands origin =
       asks = origin.asks;
     }
 
--- Accepted commands made all assertions of this session. Each handle that the commands used was
--- authorized.
+-- All assertions of this session were made by accepted commands, and each handle that these
+-- commands used was authorized.
 abbrev pub HaveOrigins : History → Handle → LiveSession → Type 0
 HaveOrigins history handle s = (one : Assertion) → IsAmong one s.assertions → HasOrigin history handle one
 
@@ -82,7 +82,7 @@ module _ (c : AcceptedCommand) (history : History) (handle : Handle) (new : Live
   later : (one : Assertion) → IsAmong one new.assertions → HasOrigin history handle one → Origin one
   later one among origin = later_origin (Done c) history handle one (new, lives, among) origin
 
-  -- The origin of an assertion that the command itself makes is this command.
+  -- If the command itself makes an assertion, the command is the assertion's origin.
   itself : (old : LiveSession) (one : Assertion) → sessions_of history handle ≡ Some old → session_handle c.command.code c.request.handles ≡ Ok handle → assertion_by c.command.code c history old.hash old.nonce_tpm ≡ Ok one → IsAmong one new.assertions → Origin one
   itself old one lived names asserts among = record {
     asserted = record {

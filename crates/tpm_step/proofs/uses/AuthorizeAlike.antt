@@ -1,5 +1,5 @@
--- How a device authorizes a command depends only on the device's sessions, its lockout state, its
--- number of PCR updates, and the facts about the entity of each handle.
+-- How a device authorizes a command depends on only four parts of the device: its sessions, its
+-- lockout state, its number of PCR updates, and the facts about the entity that each handle names.
 use Rattle.std.proofs.Common.{◌≡◌, ℕ, ◌+◌, ◌-◌, Bool, false, cond, List, [], ◌∷◌, ◌++◌, length, map, Option, Some, None, option_map, slice_get, Result, Ok, Err, refl, ap, ◌∙◌}
 use Rattle.std.specs.Prelude.{◌&&◌, not, is_none}
 use Rattle.std.specs.List.{find}
@@ -41,7 +41,7 @@ use Rattle.tpm_auth.specs.SessionGrant.{comparison, comparison_holds, demand_by,
 use Rattle.tpm_auth.specs.declared.session_grant.Grant.{Grant}
 
 -- Two devices have the same sessions, lockout state and number of PCR updates, and the same facts
--- about the entity of each handle.
+-- about the entity that each handle names.
 pub record HaveSame (r t : Record) : Type 0 where
   pub sessions : (handle : Handle) → session_at r.sessions handle ≡ session_at t.sessions handle
   pub updates : r.fixed.banks.update_count ≡ t.fixed.banks.update_count

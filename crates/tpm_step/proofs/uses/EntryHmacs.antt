@@ -152,7 +152,7 @@ module _ (r : Record) (c : AcceptedCommand) (history : History) (viewed : c.view
         ap (λ (v : List ℕ). s.key ++ v) is
         ∙ ap (λ (f : SessionFacts). f.key ++ value_in_key history c place l (used_in c.command place)) same
 
-    -- the HMAC of an entry, computed from the facts of its session
+    -- the HMAC of an entry, computed from the facts about its session
     abbrev hmac_by : SessionFacts → Entry → (cp_hash key decrypt encrypt : List ℕ) → List ℕ
     hmac_by f e cp_hash key decrypt encrypt = hmac_of f.start.hash key (entry_text cp_hash e.nonce f.nonce_tpm decrypt encrypt e.attributes)
 

@@ -54,10 +54,10 @@ use Rattle.tpm_step.proofs.uses.QuietValues.{all_hold_on}
 use Rattle.tpm_step.proofs.uses.UseGrounds.{recorded_is}
 use Rattle.tpm_step.proofs.history.LivingOn.{Asserted, Begun, Came, Keeps, Stayed, entries_kept, row_came}
 
--- ---- a TPM2_PolicyPCR after an earlier one
+-- ---- a TPM2_PolicyPCR after an earlier TPM2_PolicyPCR
 
--- The session at the first handle recorded the device's update counter or no counter, unless it is
--- a trial session.
+-- If the session at the first handle is not a trial session, it has recorded the device's update
+-- counter, or no counter.
 abbrev Agrees : Record → Request → Type 0
 Agrees r q =
     (handle : Handle) (s : Session) → first_handle q.handles ≡ Ok handle → session_at r.sessions handle ≡ Some s
@@ -129,8 +129,9 @@ count_stays hash trial (Locality localities) p is = refl
 count_stays hash trial (Secret secret) p is = refl
 count_stays hash trial (Nv nv) p is = refl
 
--- Two sessions recorded the same counter, both or neither have assertions about PCRs, and their
--- assertions about PCRs hold after the same histories.
+-- Two sessions have recorded the same update counter. Both have assertions about PCRs, or neither
+-- has. After each history, the new session's assertions about PCRs hold if those of the old session
+-- hold.
 record SameUpdates (old new : LiveSession) : Type 0 where
   count : (policy_in new).update_count ≡ (policy_in old).update_count
   asserts : asserts_pcrs new ≡ asserts_pcrs old
@@ -258,7 +259,7 @@ module _ (r : Record) (a : Accepted) (locality : ℕ) (random : List ℕ) (histo
           recorded_is (Some count) r.fixed.banks.update_count same_count ∙ pcrs.updates
   agrees_told _ named one handle old count first lived kind recorded = absurd cc
 
-  -- a session after a TPM2_PolicyPCR on it
+  -- a session after TPM2_PolicyPCR was executed on it
   abbrev with_pcrs : PcrParameters → LiveSession → LiveSession
   with_pcrs p s = record s { assertions = Pcr (pcr_parts_in history s.hash p) ∷ s.assertions }
 
@@ -304,8 +305,8 @@ module _ (r : Record) (a : Accepted) (locality : ℕ) (random : List ℕ) (histo
 
   -- ---- every command
 
-  -- a session that has assertions about PCRs after the row recorded an update counter that
-  -- satisfies `RecordsUpdates`
+  -- if a session has assertions about PCRs after the row, the session has recorded an update
+  -- counter that satisfies `RecordsUpdates`
   module _ (handle : Handle) (mid : LiveSession) (kind : mid.kind ≡ type.Policy) (asserts_some : asserts_pcrs mid ≡ true) (now : has_pcrs (Done c ∷ history) handle ≡ true) where
     nothing_asserted : mid.assertions ≡ [] → ⊥
     nothing_asserted none = false≢true (sym (ap (λ (l : List Assertion). list_any is_pcr l) none) ∙ asserts_some)

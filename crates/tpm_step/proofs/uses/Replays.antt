@@ -1,4 +1,4 @@
--- A replay repeats a nonce, or two different messages have the same HMAC.
+-- In a replay, the session has the same nonce twice, or two different messages have the same HMAC.
 use Rattle.std.proofs.Common.{◌≡◌, ◌≢◌, ◌⊎◌, ℕ, ◌+◌, ◌≤◌, arith, Bool, true, false, List, [], ◌∷◌, ◌++◌, append_assoc, length, length-append, take, drop, Option, Some, None, slice_get, refl, ap, sym, subst, ◌∙◌, inl, inr}
 use Rattle.std.specs.Str.{bytes_eq}
 use Rattle.std.proofs.lemmas.Bool.{false≢true}
@@ -40,8 +40,8 @@ done_continues c history handle new shows unstarted lives =
     let (old, lived, continues) = came_continues c history handle mid unstarted (row_came c history (sessions_of history) handle mid c.command.code was) in
     (old, lived, continues_then old mid new continues keeps.continues)
 
--- a command whose entry names a session renews the session's nonce; the old nonce is then among the
--- session's earlier nonces
+-- if an entry of a command names a session, the command gives this session a new nonce, and the old
+-- nonce becomes one of the session's earlier nonces
 done_renews : (c : AcceptedCommand) (history : History) (place : ℕ) (e : Entry) (old new : LiveSession) → ShowsHmacs history c → starts (Done c) e.session ≡ false → slice_get c.command.entries place ≡ Some e → sessions_of history e.session ≡ Some old → sessions_of (Done c ∷ history) e.session ≡ Some new → Continues old new × IsAmong old.nonce_tpm new.earlier_nonces
 done_renews c history place e old new shows unstarted entry before after =
     let (mid, was, keeps, among) = entries_renewed c history (some_left history c shows) e.session new after place e entry refl in

@@ -1,5 +1,5 @@
--- If two accepted events of a run are a replay (`IsRunReplay`), their commands are a replay in the
--- run's history. Therefore a nonce or an HMAC repeats.
+-- If two accepted events of a run form a replay (`IsRunReplay`), their commands form a replay in
+-- the run's history. Therefore a nonce repeats, or an HMAC repeats.
 use Rattle.std.proofs.Common.{◌≡◌, ℕ, Bool, List, [], ◌∷◌, ◌++◌, Some, Result, Ok, Err, IfOk, slice_get, refl, ap, sym, subst, ◌∙◌}
 use Rattle.tpm_bytes.proofs.Fields.{ok_is}
 use Rattle.tpm_types.specs.declared.rc.Rc.{Rc}
@@ -51,8 +51,8 @@ accepted_spells r buffer locality random =
 
 -- ---- accepted events
 
--- The event was this accepted command: the buffer encodes it, and every history records the event
--- as this command.
+-- The event was this accepted command. The buffer encodes the command, and every history records
+-- the event as this command.
 record IsAcceptedAt (buffer : List ℕ) (one : Execution) (c : AcceptedCommand) : Type 0 where
   spelled : command_at buffer ≡ Ok (c.command, [])
   is : (before : History) → with_execution one before ≡ Done c ∷ before

@@ -65,7 +65,7 @@ use_passed policy u =
       demanded = refl;
     }))))))))
 
--- ---- consequences of the checks of a use
+-- ---- consequences of passing the checks of a use
 
 pub recorded_is : (recorded : Option ℕ) (number : ℕ) → is_other recorded number ≡ false → IfSome recorded (λ n. n ≡ number)
 recorded_is None number is = tt

@@ -61,7 +61,7 @@ loaded_value area made = do
   Ok (handle, trimmed sensitive.auth_value)
 
 -- TPM2_EvictControl copies the authorization value of objectHandle to persistentHandle. If it
--- removes a persistent object, both are the same handle, and nothing changes.
+-- removes a persistent object, both handles are the same, and nothing changes.
 abbrev pub copied_value : Request → AuthValues → Result (Handle × List ℕ) Refused
 copied_value q values = do
   handle ← second_handle q.handles

@@ -12,8 +12,8 @@ use Rattle.tpm_nvactions.specs.NvDefineSpace.{parameters_in}
 use Rattle.tpm_step.specs.history.HandleMap.{by_handle, with_at}
 use Rattle.tpm_step.specs.history.History.{AcceptedCommand, Done, History, ObjectPlaced, PastEvent, PowerCycled}
 
--- the counters: the value at each handle, if the counter was incremented since its definition; and
--- all values that any counter ever had, the latest first
+-- the counters: the value at each handle, if the counter has been incremented since its definition;
+-- and all values that any counter ever had, the latest first
 pub record Counters : Type 0 where
   pub at : Handle → Option ℕ
   pub all : List ℕ
@@ -52,7 +52,7 @@ defined_handle text = do
 
 -- the counters after an accepted command. A command that removes an index, such as
 -- TPM2_NV_UndefineSpace or TPM2_Clear, changes nothing here. The handle then names no counter until
--- an index is defined with it again, and this index begins without a value
+-- an index is defined with this handle again, and the new index begins without a value
 abbrev pub counters_by : CommandCode → Request → Counters → Counters
 counters_by command.NvIncrement q c = by_handle (second_handle q.handles) counted_at c
 counters_by command.NvDefineSpace q c = by_handle (defined_handle q.parameters) begun_at c
@@ -75,7 +75,7 @@ count_at history handle = (counters_of history).at handle
 
 -- ---- definitions of indices in a history
 
--- whether a parsed handle is this handle; false if it could not be parsed
+-- whether the parsed handle is this handle; false if no handle could be parsed
 abbrev pub is_named : Result Handle Refused → Handle → Bool
 is_named (Ok named) handle = named.number == handle.number
 is_named (Err e) handle = false

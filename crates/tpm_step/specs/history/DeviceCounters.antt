@@ -15,8 +15,8 @@ pub record IsCounted (index : NvIndex) (count : Option ℕ) : Type 0 where
   pub stays : index_has index attribute.ClearStClear ≡ false
   pub value : stored_count index ≡ count
 
--- A device's counters agree with the counters of a history. Both have the same largest value that
--- any counter ever had. Each counter of the device has the value that the history has for its
+-- A device's counters agree with the counters of a history. The largest value that any counter ever
+-- had is the same in both. Each counter of the device has the value that the history has for its
 -- handle.
 pub record AreCounted (contents : NvContents) (c : Counters) : Type 0 where
   pub most : contents.max_count ≡ largest c.all
@@ -42,8 +42,8 @@ KeepsCounter old new meanwhile handle before after =
     → stored_count before ≡ Some n
     → (m : ℕ) × (stored_count after ≡ Some m) × (n ≤ m)
 
--- If a counter had no value before a sequence of events and has one after it, this value exceeds
--- all values that any counter had before these events.
+-- If a counter had no value before a sequence of events, and has a value after it, this value
+-- exceeds all values that any counter had before these events.
 abbrev pub BeginsAbove : (old new : Record) → (history : History) → Handle
     → NvIndex → NvIndex → Type 0
 BeginsAbove old new history handle before after =
@@ -56,8 +56,8 @@ BeginsAbove old new history handle before after =
     → stored_count after ≡ Some n
     → AllBelow n (counts_of history)
 
--- The value of a counter that was defined in a sequence of events exceeds all values that any
--- counter had before this definition, during or before the sequence.
+-- Suppose that a counter was defined in a sequence of events. Then its value exceeds all values
+-- that any counter had before this definition, in the sequence or before it.
 abbrev pub ExceedsEarlier : (new : Record) → (history meanwhile : History) → Handle → NvIndex
     → Type 0
 ExceedsEarlier new history meanwhile handle after =

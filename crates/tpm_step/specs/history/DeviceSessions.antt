@@ -9,7 +9,7 @@ use Rattle.tpm_record.specs.Record.{Record}
 use Rattle.tpm_step.specs.history.History.{History}
 use Rattle.tpm_step.specs.history.Sessions.{Bound, LiveSession, LiveSessions, Start, key_of, nonce_of, policy_in, policy_of, sessions_of, start_in, start_of}
 
--- the facts of a session that the history determines: how it was started, its key, its latest
+-- the facts about a session that the history determines: how it was started, its key, its latest
 -- nonceTPM, and its policy
 pub record SessionFacts : Type 0 where
   pub start : Start

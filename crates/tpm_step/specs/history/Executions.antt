@@ -1,4 +1,4 @@
--- Executions of events one after another, and the history after them.
+-- Successive executions of events, and the history after them.
 use Rattle.std.specs.Prelude.{◌≡◌, Bool, List, [], ◌∷◌}
 use Rattle.tpm_record.specs.Record.{Record}
 use Rattle.tpm_object.specs.declared.object.Object.{Object}

@@ -1,4 +1,4 @@
--- An example of a run with the largest possible number of failed tries. TPM 2.0 Library, Part 1,
+-- An example of a run with the maximum possible number of failed tries. TPM 2.0 Library, Part 1,
 -- section 19.8 (dictionary attacks).
 use Rattle.std.specs.Prelude.{◌≡◌, ◌≢◌, ℕ, true, false, List, [], ◌∷◌, replicate}
 use Rattle.tpm_lockout.specs.Lockout.{LockoutState, new_lockout}
@@ -63,8 +63,8 @@ wrong_after elapsed = Given wrong_read 0 elapsed zeros
 abbrev pub stepped_at : Record → PlainEvent → Execution
 stepped_at r event = record { before = r; event = event; seen = step r event }
 
--- three wrong passwords at once; a fourth 999,999 milliseconds later, while the device is in
--- lockout; and a fifth one millisecond later, when failedTries goes down by one
+-- three wrong passwords without a pause; a fourth, 999,999 milliseconds later, while the device is
+-- in lockout; and a fifth, 1 millisecond after the fourth, when failedTries goes down by one
 abbrev pub failed_run : List Execution
 failed_run =
     stepped_at (tried 0 0 0) (wrong_after 0)
@@ -75,7 +75,7 @@ failed_run =
     ∷ []
 
 -- The failed run is a sequence of events without a reset of failedTries, and the device's
--- recoveryTime is not 0. Four tries fail in it, which is the largest number that may fail.
+-- recoveryTime is not 0. Four tries fail in this run, and no more than four may fail.
 pub record IsFailedRun : Type 0 where
   pub leads : Leads false (tried 0 0 0) failed_run (tried 3 0 1000000)
   pub quiet : HasNoReset (history_after [] failed_run)

@@ -40,8 +40,8 @@ pub record Shape (sessions : List (Option Session)) (objects : List (Option Obje
   pub indices_ascend : Ascends indices
 
 -- A device follows a history: its counters, PCRs, authorization values and sessions are those that
--- the history determines. In the history, each entry of an HMAC session had the right HMAC. A
--- replay was accepted only if its nonceTPM or an HMAC repeated. The PCR update counters that
+-- the history determines. In the history, each entry that named an HMAC session had the right HMAC.
+-- A replay was accepted only if its nonceTPM or an HMAC repeated. The PCR update counters that
 -- policies recorded are consistent with the history. Each use of a handle was authorized. Each
 -- recorded request has the handles of its command. The assertions of policy sessions met their
 -- conditions. Therefore, unless the hash is broken, each use by a policy session met every policy
@@ -95,9 +95,9 @@ pub record FollowsOn (old : Record) (event : PlainEvent) (x : Stepped) : Type 0 
 -- The executions led from a device that follows a history to a device that follows the history
 -- after the executions. No NV counter went down unless an index was defined again with its handle.
 -- If a counter had no value before the executions, its value after them exceeds all values that any
--- counter had before them. If a counter was defined in the executions, its value exceeds all values
--- that any counter had before this definition. The number of failed tries is within its bounds.
--- Every replay repeats a nonce or an HMAC.
+-- counter had before them. If a counter was defined during the executions, its value exceeds all
+-- values that any counter had before this definition. The number of failed tries is within its
+-- bounds. Every replay repeats a nonce or an HMAC.
 pub record StretchFollows (can : Bool) (old : Record) (executions : List Execution) (new : Record)
     (history : History) : Type 0
   where
@@ -115,8 +115,8 @@ pub record StretchFollows (can : Bool) (old : Record) (executions : List Executi
 
 -- ---- a run on a device that follows a history
 
--- A closure was called once with the outcome of each execution, in order. Its state was p before
--- and q after.
+-- A closure was called once with the outcome of each execution, in order. The closure's state was p
+-- before the calls and q after them.
 abbrev pub Tells : {F : Type 0} → Mut F (Bor Outcome × Unit {0}) (Unit {0}) → F → List Execution
     → F → Type 0
 Tells g p [] q = q ≡ p

@@ -75,11 +75,11 @@ pub data PastEvent : Type 0 where
   PowerCycled : PastEvent
   ObjectPlaced : (handle : Handle) → (object : Object) → PastEvent
 
--- what a device accepted since it was manufactured, the latest event first
+-- what a device has accepted since it was manufactured, the latest event first
 abbrev pub History : Type 0
 History = List PastEvent
 
--- the history with one more command if it was accepted, that is, if its row reports check 0. The
+-- the history, with this command added if it was accepted, that is, if its row reports check 0. The
 -- history records neither a refused command, nor a command that returned MEMORY instead of
 -- succeeding
 abbrev pub with_command : Record → Result Accepted RefusedCommand → (check : ℕ)
@@ -94,7 +94,8 @@ abbrev pub with_placed : Option Handle → Object → History → History
 with_placed (Some handle) object history = ObjectPlaced handle object ∷ history
 with_placed None object history = history
 
--- the history with one more event, executed on this record, whose row reported this check
+-- the history with one more event, which was executed on this record; the event's row reported this
+-- check
 abbrev pub recorded : Record → PlainEvent → (check : ℕ) → History → History
 recorded r (Given buffer locality elapsed random) check history =
     let t = ticked r elapsed in

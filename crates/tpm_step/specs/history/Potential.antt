@@ -17,8 +17,8 @@ abbrev pub IsForgiving : LockoutState → Type 0
 IsForgiving s = s.fields.recovery_time ≢ 0 → s.forgiving_time < period s
 
 -- Between the old and the new state, this many tries failed, this many milliseconds passed, and the
--- parameters did not change. Each try that was counted in the old state, or failed since, is still
--- counted or was forgiven. Each forgiven try consumed one recoveryTime of the available
+-- parameters did not change. Each try that was counted in the old state, or has failed since, is
+-- still counted or has been forgiven. Each forgiven try consumed one recoveryTime of the available
 -- milliseconds: the elapsed milliseconds, and the milliseconds credited in the old state. If a try
 -- failed, failedTries is at most maxTries now.
 pub record Pays (old new : LockoutState) (failed elapsed : ℕ) : Type 0 where

@@ -46,8 +46,8 @@ pub record Bound : Type 0 where
 
 -- a live session. Its type, hash, symmetric algorithm, binding and key do not change after its
 -- start. It contains the latest nonceTPM, and the earlier nonceTPMs, the latest first. Its
--- assertions, the latest first, were made since its start, its latest TPM2_PolicyRestart, or its
--- latest use for authorization, whichever came last
+-- assertions, the latest first, are those made since its start, its latest TPM2_PolicyRestart, or
+-- its latest use for authorization, whichever came last
 pub record LiveSession : Type 0 where
   pub kind : SessionType
   pub hash : HashAlg
@@ -63,11 +63,11 @@ pub record LiveSession : Type 0 where
 abbrev pub policy_in : LiveSession → Policy
 policy_in s = evaluated s.hash (is_trial s.kind) s.assertions
 
--- the live session at each handle, if there is one
+-- for each handle, the live session at this handle, if any
 abbrev pub LiveSessions : Type 0
 LiveSessions = Handle → Option LiveSession
 
--- the live sessions after a change to the session at this handle, if there is one
+-- the live sessions after the session at this handle, if any, is changed
 abbrev pub changed_session : (LiveSession → LiveSession) → Handle → LiveSessions → LiveSessions
 changed_session change handle live = changed_at handle (option_map change) live
 
@@ -88,7 +88,7 @@ bound_in (key ∷ bind ∷ handles) (key_view ∷ view ∷ views) (key_value ∷
     })
 bound_in handles views values = None
 
--- the session key: KDFa(authHash, bind.authValue, "ATH", nonceTPM, nonceCaller, size of a digest in
+-- the session key: KDFa(authHash, bind.authValue, "ATH", nonceTPM, nonceCaller, digest size in
 -- bits); empty for a session without a binding
 unfoldable pub start_key : HashAlg → Option Bound → (nonce_tpm nonce_caller : List ℕ) → List ℕ
 start_key hash None nonce_tpm nonce_caller = []
@@ -125,7 +125,7 @@ unfoldable pub started : AcceptedCommand → (auth_values : List (List ℕ)) →
 started c auth_values = started_by (parameters_in c.request.parameters)
     (bound_in c.request.handles c.views auth_values) c.request.random
 
--- ---- what a command does to sessions, apart from its entries
+-- ---- what a command does to sessions, apart from the effects of its entries
 
 -- the live sessions after TPM2_StartAuthSession, with a new session at the handle that the command
 -- returns

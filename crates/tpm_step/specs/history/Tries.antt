@@ -74,7 +74,7 @@ touched_where r s handle (Ok demand) =
 touched_where r s handle (Err e) = protection.None
 
 -- the protection of the entity whose authorization value is used to check entry n, if the entry
--- names this session. The entry has to authorize this handle, or none if the handle is None
+-- names this session. The handle is the one that the entry has to authorize, or None
 abbrev pub touched_of_session : Record → Whole → (locality n : ℕ) → Option Handle → Session
     → Protection
 touched_of_session r c locality n (Some handle) s =

@@ -81,8 +81,8 @@ abbrev pub is_there : View → Bool
 is_there (OfHandle handle) = not (names_kept handle)
 is_there _ = true
 
--- The view and the record agree about the entity of this handle: about its Name, its policy, its
--- protection, whether WRITTEN is set, and what can authorize the entity.
+-- The view and the record agree about the entity that this handle names: its Name, its policy, its
+-- protection, whether WRITTEN is set, and what can authorize it.
 pub record TellsOf (view : View) (r : Record) (handle : Handle) : Type 0 where
   pub name : view_name view ≡ name_of r handle
   pub policy : view_policy view ≡ policy_of r handle

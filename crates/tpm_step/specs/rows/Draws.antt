@@ -1,7 +1,7 @@
--- The number of an event's random bytes that a command itself draws, which its code and its
--- parameters determine. The nonces for the command's entries are drawn after these bytes. TPM 2.0
--- Library, Part 3, sections 11.1 (TPM2_StartAuthSession), 12.1 (TPM2_Create), 16.1 (TPM2_GetRandom)
--- and 24.6 (TPM2_Clear).
+-- The number of an event's random bytes that a command itself draws. The command's code and
+-- parameters determine this number. The nonces for the command's entries are drawn after these
+-- bytes. TPM 2.0 Library, Part 3, sections 11.1 (TPM2_StartAuthSession), 12.1 (TPM2_Create), 16.1
+-- (TPM2_GetRandom) and 24.6 (TPM2_Clear).
 use Rattle.std.specs.Prelude.{ℕ, ◌≡◌, ◌≤◌, ◌+◌, ◌*◌, min, length, false, List, Result, Ok, Err}
 use Rattle.std.specs.Int.{w16}
 use Rattle.tpm_bytes.specs.Reading.{number_at, or_fault}
@@ -29,9 +29,9 @@ bytes_requested parameters =
     only (or_fault (number_at w16 parameters) (plain code.Insufficient))
 
 -- the number of random bytes that a command draws. TPM2_GetRandom draws the bytes that it returns,
--- at most 32. TPM2_StartAuthSession draws a nonceTPM of the size of nonceCaller. TPM2_Create draws
--- a key and a seedValue, and the 16 bytes of an initial vector. TPM2_Clear draws a seed and two
--- proofs of 32 bytes. TPM2_Startup may draw a seed and a proof, but counts as 0 here: it has no
+-- at most 32. TPM2_StartAuthSession draws a nonceTPM that has the size of nonceCaller. TPM2_Create
+-- draws a key and a seedValue, and the 16 bytes of an initial vector. TPM2_Clear draws a seed and
+-- two proofs of 32 bytes. TPM2_Startup may draw a seed and a proof, but counts as 0 here: it has no
 -- entries, and therefore no nonces are drawn after them
 abbrev pub draws_of : CommandCode → Request → ℕ
 draws_of command.GetRandom q =

@@ -22,7 +22,7 @@ use Rattle.tpm_commands.specs.Part.{Cleared}
 abbrev pub IsCounter : NvIndex → Type 0
 IsCounter index = index_type index.public.attributes ≡ Some type.Counter
 
--- the value of a counter, if it was incremented since its definition
+-- the value of a counter, if it has been incremented since its definition
 abbrev pub stored_count : NvIndex → Option ℕ
 stored_count index =
     if index_has index attribute.Written then Some (from_be_bytes w64 index.bytes) else None

@@ -18,10 +18,10 @@ use Rattle.tpm_step.specs.rows.Shapes.{AnswersItsShape, GrowsAsShaped}
 use Rattle.tpm_step.specs.rows.Sizes.{AreSized}
 
 -- A success changes only its command's part of the state, and changes the NV indices as that part
--- allows. It fills slots and returns values as the command's shape says. Unless the command is
--- TPM2_Startup, it draws as many random bytes as `draws_of` says. If the command may have sessions,
--- all sessions still exist after it. The fields of sessions keep the right sizes, if there are
--- enough random bytes for a nonce.
+-- allows. It fills slots and returns values as the command's shape says. It draws at most 96 random
+-- bytes; unless the command is TPM2_Startup, the number is `draws_of`. If the command may have
+-- sessions, all sessions still exist after it. The fields of sessions keep the right sizes, if
+-- there are enough random bytes for a nonce.
 pub record SuccessLaws (c : CommandCode) (r : Record) (q : Request) (s : Success) : Type 0 where
   pub touches : Touches (part_of c) r s.after
   pub changes : ChangesIndices (part_of c) q r.nv s.after.nv

@@ -1,5 +1,5 @@
--- What a command's shape determines: the answer of a success, whether it fills another slot, and
--- the kinds of the parameters.
+-- What a command's shape determines: the answer of a success, whether the success fills another
+-- slot, and the kinds of the command's parameters.
 use Rattle.std.specs.Prelude.{◌≡◌, ◌≤◌, ◌⊎◌, ℕ, ◌+◌, Bool, true, false, List, [], ◌∷◌, length, is_some, Result, Ok, Err}
 use Rattle.std.specs.Int.{w8, w16, w32, w64}
 use Rattle.tpm_bytes.specs.Reading.{◌>>=◌, number_at, or_fault}
@@ -87,7 +87,7 @@ behind_kind kind.YesNo text = behind (yes_no_at text)
 behind_kind kind.PersistentHandle text = behind (persistent_handle_at text)
 
 -- parses parameters of these kinds up to the end of the bytes; the first parameter has number n.
--- The result is the first fault, if there is one
+-- The result is the first fault, if any
 abbrev pub spelled : ℕ → List ParameterKind → List ℕ → Result (Unit {0}) Refused
 spelled n [] text = all_read text
 spelled n (kind ∷ kinds) text = do

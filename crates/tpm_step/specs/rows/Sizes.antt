@@ -1,5 +1,5 @@
--- The sizes of a session's fields, which follow from how sessions are made. In the code, the type
--- of a session guarantees them (`IsSession`).
+-- The sizes of a session's fields, which follow from how sessions are created. In the code, the
+-- type of a session guarantees them (`IsSession`).
 use Rattle.std.specs.Prelude.{◌≡◌, ◌⊎◌, true, [], length}
 use Rattle.tpm_mac.specs.Digest.{digest_size}
 use Rattle.tpm_containers.specs.Slots.{AreAll}
@@ -14,6 +14,6 @@ pub record IsSized (session : Session) : Type 0 where
   pub key : (session.key ≡ []) ⊎ (length session.key ≡ digest_size session.hash)
   pub nonce_tpm : is_nonce_size session.hash (length session.nonce_tpm) ≡ true
 
--- In every session of the record, the fields have these sizes.
+-- The fields of every session of the record have the right sizes (`IsSized`).
 abbrev pub AreSized : Record → Type 0
 AreSized r = AreAll IsSized r.sessions

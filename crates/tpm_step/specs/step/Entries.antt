@@ -1,6 +1,6 @@
 -- What a successful command does to the sessions in its authorization area, and its response to
--- each entry there. TPM 2.0 Library, Part 1, section 19.6 (session nonces and HMACs), and Part 2,
--- section 10.13.3 (TPMS_AUTH_RESPONSE).
+-- each entry in that area. TPM 2.0 Library, Part 1, section 19.6 (session nonces and HMACs), and
+-- Part 2, section 10.13.3 (TPMS_AUTH_RESPONSE).
 use Rattle.std.specs.Prelude.{ℕ, ◌+◌, ◌≤◌, ◌==◌, ◌||◌, not, List, [], ◌∷◌, ◌++◌, length, take, drop, if◌then◌else◌, Option, is_some}
 use Rattle.std.specs.List.{flat_map, fold}
 use Rattle.std.specs.Option.{option_map_or}

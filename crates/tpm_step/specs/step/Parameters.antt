@@ -1,5 +1,5 @@
--- Encryption of parameters by sessions: the first parameter of a command, and the first of its
--- answer. TPM 2.0 Library, Part 1, section 21.
+-- Encryption of parameters by sessions: a command's first parameter, and the first parameter of the
+-- command's answer. TPM 2.0 Library, Part 1, section 21.
 use Rattle.std.specs.Prelude.{Bool, List, ℕ, Option}
 use Rattle.std.specs.List.{find}
 use Rattle.std.specs.Option.{option_map_or}
@@ -22,14 +22,14 @@ asks_for direction.Encrypt e = encrypts e
 
 -- decrypts or encrypts bytes with a session. Decryption uses nonceCaller and nonceTPM; encryption
 -- uses the new nonceTPM and nonceCaller. The key contains the authorization value of the handle
--- that the session authorizes, even if the session is bound to that entity (unlike the key of an
--- HMAC)
+-- that the session authorizes. Unlike the key of an HMAC, it contains this value even if the
+-- session is bound to that entity
 abbrev pub session_bytes : Direction → Session → (value : List ℕ) → Entry → List ℕ → List ℕ
 session_bytes direction.Decrypt s value e = plain_parameter s value e.nonce s.nonce_tpm
 session_bytes direction.Encrypt s value e = encrypted_parameter s value s.nonce_tpm e.nonce
 
--- the parameters, with the first parameter decrypted or encrypted by the session of this entry, if
--- there is one
+-- the parameters, with the first parameter decrypted or encrypted by the session of this entry;
+-- unchanged if the entry has no session
 unfoldable pub entry_parameters : Direction → Record → Option Grant → Entry → List ℕ → List ℕ
 entry_parameters d r grant e text =
     option_map_or (λ (s : Session).

@@ -30,9 +30,9 @@ IsHarmless r event x = x.row.check ≢ 0
     × (x.row.check ≡ check_number refused.check)
     × (x.after ≡ counted_in refused.counted (only_ticked r event))
 
--- A success stays within the limits. Its row draws at most 96 of the event's 256 random bytes.
--- Together with the new nonces after them, at most three of 32 bytes, it draws at most 192. The
--- parameters of its answer are no longer than the limit.
+-- A success stays within the limits. Its row draws at most 96 of the event's 256 random bytes. At
+-- most three new nonces, of at most 32 bytes each, are drawn after these bytes, so that at most 192
+-- bytes are drawn in all. The parameters of its answer are no longer than the limit.
 abbrev pub IsModest : List ℕ → Accepted → Type 0
 IsModest random a =
     (a.success.answer.drawn ≤ draw_limit) × (length (answer_body_text a.success.answer.body) ≤ answer_limit)

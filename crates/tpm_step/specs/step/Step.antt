@@ -96,8 +96,8 @@ accepted r buffer locality random = do
   command ← general r buffer
   in_command command.code (acceptance r command locality random)
 
--- the lockout state after a refusal: unchanged; after a failed try on a protected entity; or after
--- a failed try on lockoutAuth, which disables lockoutAuth
+-- the lockout state after a refusal: unchanged, or changed by a failed try, either on a protected
+-- entity or on lockoutAuth. A failed try on lockoutAuth disables lockoutAuth
 abbrev pub lockout_counted : Counted → LockoutState → LockoutState
 lockout_counted counted.None s = s
 lockout_counted counted.Try s = after_failure s
@@ -137,13 +137,14 @@ stepped_of r random (Err e) = refusal_step r e
 abbrev pub outcome_step : Record → Outcome → Stepped
 outcome_step r o = record { response = o.response.items; row = o.row; after = r }
 
--- the step of a command if an allocation fails: MEMORY, check M, and the record unchanged
+-- the step of a command whose allocation fails: the response is MEMORY, the check is M, and the
+-- record is unchanged
 abbrev pub refusal_without_memory : Record → Whole → Stepped
 refusal_without_memory r c =
     refusal_step r (record { code = code_number c.code; refused = memory_refusal })
 
--- the step of an accepted command when allocations fail: MEMORY if the command may allocate, and
--- otherwise its success
+-- the step of an accepted command when allocations fail: it returns MEMORY if it may allocate, and
+-- otherwise it succeeds
 abbrev pub success_without_memory : Record → List ℕ → Accepted → Stepped
 success_without_memory r random a =
     if (shape_of a.command.code).grows then refusal_without_memory r a.command
@@ -174,12 +175,12 @@ step_where refused r (Placed object) =
 abbrev pub step : Record → PlainEvent → Stepped
 step r event = step_where false r event
 
--- x is the step of the command when all allocations succeed or, if `can` is true, when they fail.
+-- x is the step of the command. Either all its allocations succeed, or `can` is true and they fail.
 abbrev pub Answers : Bool → Record → List ℕ → Result Accepted RefusedCommand → Stepped → Type 0
 Answers can r random a x =
     (refused : Bool) × (refused ≡ true → can ≡ true) × (x ≡ answer_where refused r random a)
 
--- x is the step of the event when all allocations succeed or, if `can` is true, when they fail.
+-- x is the step of the event. Either all its allocations succeed, or `can` is true and they fail.
 abbrev pub Steps : Bool → Record → PlainEvent → Stepped → Type 0
 Steps can r event x =
     (refused : Bool) × (refused ≡ true → can ≡ true) × (x ≡ step_where refused r event)

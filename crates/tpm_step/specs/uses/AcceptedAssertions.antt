@@ -35,8 +35,8 @@ AllFind hash [] = Unit {0}
 AllFind hash (latest ∷ earlier) =
     (Finds latest (evaluated hash false earlier) × HasWidths hash latest) × AllFind hash earlier
 
--- Each assertion of a policy session that exists after a history met its condition when it was
--- accepted.
+-- Each assertion of a policy session that exists after a history met its condition when the
+-- assertion was accepted.
 abbrev pub SessionsFind : History → Type 0
 SessionsFind history =
     (handle : Handle) (s : LiveSession) → sessions_of history handle ≡ Some s

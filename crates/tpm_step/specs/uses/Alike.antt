@@ -1,5 +1,5 @@
--- Two devices that follow the same history, and also show the same public data and have the same
--- lockout state, authorize each command alike. TPM 2.0 Library, Part 1, section 19
+-- Two devices authorize each command in the same way if they follow the same history, show the same
+-- public data, and have the same lockout state. TPM 2.0 Library, Part 1, section 19
 -- (authorizations), and Part 3, section 5.6 (authorization checks).
 use Rattle.std.specs.Prelude.{◌≡◌, ℕ}
 use Rattle.tpm_types.specs.declared.handle.Handle.{Handle}
@@ -19,8 +19,8 @@ pub record AreAlike (one other : Record) (history : History) : Type 0 where
   pub views : (handle : Handle) → view_of one handle ≡ view_of other handle
   pub lockout : one.fixed.lockout ≡ other.fixed.lockout
 
--- If two devices are alike (`AreAlike`), they authorize each command from each locality with the
--- same grants, or refuse it with the same refusal.
+-- If two devices satisfy `AreAlike`, they authorize each command from each locality with the same
+-- grants, or refuse it with the same refusal.
 abbrev pub AuthorizeAlike : Type 0
 AuthorizeAlike =
     (one other : Record) (history : History) → AreAlike one other history

@@ -69,9 +69,9 @@ pub record ShowsSecret (history : History) (handle : Handle) (name reference : L
     pub for_reference : parts.reference ≡ reference
 
 -- TPM2_PolicyNV was accepted for the NV index with this Name, with this operand, offset and
--- operation. The command is refused unless the operation holds between the index's bytes from the
--- offset and the operand. The entity of authHandle authorized the read of the index. The session at
--- this handle has had the assertion since then.
+-- operation. The command is refused unless the index's bytes, from the offset on, compare with the
+-- operand as the operation requires. The entity that authHandle names authorized the read. The
+-- session at this handle has had the assertion since then.
 pub record ComparesIndex (history : History) (handle : Handle) (name operand : List ℕ) (offset : ℕ)
     (operation : Operation) : Type 0
   where

@@ -25,15 +25,15 @@ use Rattle.tpm_step.specs.history.History.{AcceptedCommand, Done, History, Objec
 use Rattle.tpm_step.specs.history.Sessions.{Bound, LiveSession, policy_in, rolled_by, sessions_of}
 use Rattle.tpm_step.specs.history.View.{name_in, view_name}
 
--- the handle that the entry at this position has to authorize, if there is one; positions count
--- from 0
+-- the handle, if any, that the entry at this position has to authorize; positions count from 0
 abbrev pub used_in : Whole → ℕ → Option Handle
 used_in c place = slice_get (authorized c) place
 
 -- ---- a password
 
--- The hmac field of an entry contains the authValue of the handle that the entry has to authorize.
--- Trailing zeros in the field are ignored; the authorization values of a history have none.
+-- The hmac field of an entry contains the authorization value for the handle that the entry has to
+-- authorize. Trailing zeros in the field are ignored; the authorization values of a history have no
+-- trailing zeros.
 abbrev pub HasPassword : History → AcceptedCommand → ℕ → Entry → Type 0
 HasPassword history c place e =
     trimmed e.hmac ≡ option_map_or (auth_of history) (used_in c.command place) []

@@ -29,7 +29,7 @@ use Rattle.tpm_step.specs.history.Views.{is_there, view_policy, view_takes, view
 abbrev pub allows : Means → NvUse → View → Bool
 allows means nv_use view = is_there view && view_takes means nv_use view
 
--- whether the entity of the handle at this position exists, and accepts this means of
+-- whether the entity that the handle at this position names exists, and accepts this means of
 -- authorization. Positions count from 0; no supported command has a second handle that needs
 -- authorization
 abbrev pub allows_in : Means → AcceptedCommand → ℕ → Bool
@@ -38,7 +38,8 @@ allows_in means c place =
 
 -- ---- the policy of an entity that a command uses
 
--- the nameAlg and the authPolicy of the entity whose handle is at this position, if it has a policy
+-- the nameAlg and the authPolicy of the entity whose handle is at this position, if this entity has
+-- a policy
 abbrev pub policy_at : AcceptedCommand → ℕ → Option EntityParts
 policy_at c place = option_and_then view_policy (slice_get c.views place)
 
@@ -59,12 +60,13 @@ abbrev pub NamesCommand : Role → Option ℕ → Type 0
 NamesCommand role.User number = Unit {0}
 NamesCommand role.Admin number = is_some number ≡ true
 
--- A policy session may authorize the use of the entity at this position of a command's handles. The
--- entity accepts policies, and the session meets its authPolicy. Since the first TPM2_PolicyPCR no
--- PCR was written and no TPM2_Clear was accepted; therefore every assertion about PCRs still holds.
--- If the policy recorded a command code, it is this command's code; the role ADMIN requires a
--- recorded code. A recorded cpHash is the cpHash of this command, and a recorded written state is
--- the written state of this NV index. The command's locality is allowed.
+-- A policy session may authorize the use of the entity that the command's handle at this position
+-- names. The entity accepts policies, and the session meets its authPolicy. Since the first
+-- TPM2_PolicyPCR, no PCR has been written and no TPM2_Clear has been accepted; therefore every
+-- assertion about PCRs still holds. If the policy recorded a command code, it is this command's
+-- code; the role ADMIN requires a recorded code. A recorded cpHash is the cpHash of this command,
+-- and a recorded written state is the written state of this NV index. The command's locality is
+-- allowed.
 pub record MeetsPolicy (history : History) (c : AcceptedCommand) (place : ℕ) (e : Entry)
     (s : LiveSession) : Type 0 where
   pub allowed : allows_in means.Policy c place ≡ true

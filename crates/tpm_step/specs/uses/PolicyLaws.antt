@@ -22,8 +22,8 @@ abbrev pub HasPolicyOf : HashAlg → List Assertion → Option EntityParts → T
 HasPolicyOf hash assertions (Some entity) = entity.digest ≡ (evaluated hash false assertions).digest
 HasPolicyOf hash assertions None = ⊥
 
--- the assertion that the selected PCRs have their values after this history. The pcrDigest argument
--- and the update counter are empty, because a policy's digest contains neither
+-- the assertion that the selected PCRs have the values that they have after this history. The
+-- pcrDigest argument and the update counter are empty, because a policy's digest contains neither
 abbrev pub pcrs_as_in : History → HashAlg → List BankSelection → PcrParts
 pcrs_as_in history hash selection = record {
   given = [];
@@ -51,9 +51,9 @@ UsesItsCommand =
     → s.assertions ≡ CommandCode number ∷ []
     → HasPolicyOf s.hash (CommandCode (code_number c.command.code) ∷ []) (policy_at c place)
 
--- If a session whose only assertion is TPM2_PolicyNvWritten authorizes the use of an entity, the
--- entity is an NV index, and its WRITTEN attribute is as its policy requires. Therefore, if the
--- policy requires that WRITTEN is clear, it is clear.
+-- Suppose that a session whose only assertion is TPM2_PolicyNvWritten authorizes the use of an
+-- entity. Then the entity is an NV index, and its WRITTEN attribute is as its policy requires.
+-- Therefore, if the policy requires that WRITTEN is clear, it is clear.
 abbrev pub UsesAsWritten : Type 0
 UsesAsWritten =
     (history : History) (c : AcceptedCommand) (place : ℕ) (e : Entry) (s : LiveSession)

@@ -1,4 +1,4 @@
--- What common kinds of authPolicy require when their entity is used. TPM 2.0 Library, Part 1,
+-- What an authPolicy of a common kind requires when its entity is used. TPM 2.0 Library, Part 1,
 -- section 19.7 (enhanced authorization), and Part 3, sections 23.4 (TPM2_PolicySecret), 23.6
 -- (TPM2_PolicyOR), 23.7 (TPM2_PolicyPCR), 23.9 (TPM2_PolicyNV), 23.17 (TPM2_PolicyAuthValue) and
 -- 23.20 (TPM2_PolicyNvWritten).
@@ -36,8 +36,8 @@ use Rattle.tpm_step.specs.history.View.{OfIndex, OfObject}
 
 -- ---- the commands that a device accepted
 
--- The property holds for each command that a device accepted since it was manufactured, given the
--- history before the command.
+-- The property holds for each command that a device has accepted since it was manufactured, given
+-- the history before the command.
 abbrev pub OfEachAccepted : (History → AcceptedCommand → Type 0) → Type 0
 OfEachAccepted Holds =
     (can : Bool) (random : List ℕ) (executions : List Execution) (new : Record)
@@ -45,8 +45,8 @@ OfEachAccepted Holds =
     → (after : History) (c : AcceptedCommand) (before : History)
     → history_after [] executions ≡ after ++ Done c ∷ before → Holds before c
 
--- A command uses the object at this position of its handles. The object has no userWithAuth, and
--- its authPolicy is the digest of this policy.
+-- A command uses the object that its handle at this position names. The object has no userWithAuth,
+-- and its authPolicy is the digest of this policy.
 pub record UsesObject (c : AcceptedCommand) (place : ℕ) (public : Public)
     (policy : PolicyExpression) : Type 0
   where
@@ -56,8 +56,8 @@ pub record UsesObject (c : AcceptedCommand) (place : ℕ) (public : Public)
     pub no_user_with_auth : has public.attributes attribute.UserWithAuth ≡ false
     pub auth_policy : public.auth_policy ≡ policy_digest public.name_alg policy
 
--- A command writes the NV index at this position of its handles. The index has no AUTHWRITE, and
--- its authPolicy is the digest of this policy.
+-- A command writes the NV index that its handle at this position names. The index has no AUTHWRITE,
+-- and its authPolicy is the digest of this policy.
 pub record WritesIndex (c : AcceptedCommand) (place : ℕ) (public : NvPublic)
     (policy : PolicyExpression) : Type 0
   where
@@ -100,7 +100,7 @@ NeedsItsPolicy history c =
     → IsPolicyExpression public.name_alg policy
     → IsUsedBySession history c place public.name_alg policy (λ u. IsMet (IsMetBy u) policy)
 
--- ---- policies of PCRs
+-- ---- policies about PCRs
 
 -- the policy expression that requires these concatenated values of the selected PCRs
 abbrev pub by_pcrs : HashAlg → List BankSelection → (values : List ℕ) → PolicyExpression
@@ -135,7 +135,7 @@ NeedsPcrsAndPin history c =
     → IsUsedBySession history c place public.name_alg policy
     (λ u. HavePcrValues history public.name_alg selection values × ShowsAuthValue u)
 
--- ---- policies of a PIN or a recovery secret
+-- ---- policies that require a PIN or a recovery secret
 
 -- the policy expression that requires either the authorization value of the used entity, or the
 -- authorization value of the entity with this Name
@@ -167,7 +167,7 @@ IsWrittenOnce history c =
     → IsUsedBySession history c place public.name_alg policy
     (λ u. index_has public.attributes mark.Written ≡ false)
 
--- ---- the policy that a counter has reached a number
+-- ---- policies that require a counter to have reached a number
 
 -- Suppose that an object has no userWithAuth, and its policy requires that a counter (the NV index
 -- with this Name) has reached a number. Then, unless the hash is broken, the object is used only

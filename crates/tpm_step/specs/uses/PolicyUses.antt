@@ -36,7 +36,7 @@ pub record PolicyUse : Type 0 where
 
 -- ---- the conditions that a use meets
 
--- The selected PCRs have this digest now, and no PCR was written since the session's first
+-- The selected PCRs have this digest now, and no PCR has been written since the session's first
 -- TPM2_PolicyPCR (Part 3, section 23.7).
 pub record HasPcrsNow (u : PolicyUse) (selection : List BankSelection) (digest : List ℕ) : Type 0
   where
@@ -72,8 +72,8 @@ IsMetBy u (PolicyNv name operand offset operation) =
 
 -- ---- the policies that each use meets
 
--- The entity at this position of a command's handles has this policy: its nameAlg is the hash, and
--- its authPolicy is the policy's digest.
+-- The entity that a command's handle at this position names has this policy: its nameAlg is the
+-- hash, and its authPolicy is the policy's digest.
 pub record HasAuthPolicy (c : AcceptedCommand) (place : ℕ) (hash : HashAlg)
     (policy : PolicyExpression) : Type 0
   where
@@ -102,7 +102,7 @@ MeetsPolicies history c place handle e (ByPolicy s lives kind meets has) =
 
 -- For each handle that needs authorization, the entry at the same position authorizes it by a
 -- password, an HMAC or a policy. If a policy session authorizes it, the use meets every policy of
--- the handle's entity (`MeetsPolicies`).
+-- the entity that the handle names (`MeetsPolicies`).
 abbrev pub UsesMeetPolicies : History → AcceptedCommand → Type 0
 UsesMeetPolicies history c =
     (place : ℕ) (handle : Handle) → used_in c.command place ≡ Some handle

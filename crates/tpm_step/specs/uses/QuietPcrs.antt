@@ -59,15 +59,16 @@ pub record AreQuietSince (handle : Handle) (history : History) : Type 0 where
   pub quiet : AllByRecursion IsQuiet since
 
 -- After a history, the selected PCRs have the digest that this TPM2_PolicyPCR asserted, computed
--- with the session's hash. Other assertions do not concern PCRs.
+-- with the session's hash. Assertions of other commands do not concern PCRs, and always satisfy
+-- this.
 abbrev pub HoldsOf : History → HashAlg → Assertion → Type 0
 HoldsOf history hash (Pcr parts) =
     (selection : List BankSelection) × (parts.selection ≡ selection_text selection)
     × (parts.digest ≡ digest_in history hash selection)
 HoldsOf history hash _ = Unit {0}
 
--- No PCR was updated since the first TPM2_PolicyPCR of the session at this handle. Therefore all
--- assertions of the session about PCRs hold.
+-- No PCR has been updated since the first TPM2_PolicyPCR of the session at this handle. Therefore
+-- all of the session's assertions about PCRs hold.
 pub record HoldsPcrs (handle : Handle) (history : History) (s : LiveSession) : Type 0 where
   pub quiet : AreQuietSince handle history
   pub hold : AllByRecursion (HoldsOf history s.hash) s.assertions
@@ -75,7 +76,7 @@ pub record HoldsPcrs (handle : Handle) (history : History) (s : LiveSession) : T
 -- ---- the update counter that a policy records
 
 -- The update counter that the session recorded does not exceed the history's counter. If the two
--- counters are equal, the assertions of the session about PCRs hold.
+-- counters are equal, the session's assertions about PCRs hold.
 pub record RecordsUpdates (handle : Handle) (history : History) (s : LiveSession) : Type 0 where
   pub count : ℕ
   pub recorded : (policy_in s).update_count ≡ Some count

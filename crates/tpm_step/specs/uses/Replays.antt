@@ -25,7 +25,7 @@ starts (Done c) handle = starts_under c.command.code c.answer.handle handle
 starts PowerCycled handle = false
 starts (ObjectPlaced at object) handle = false
 
--- The session at this handle survives these events, the latest first, after this history. No event
+-- After this history, the session at this handle survives these events, the latest first. No event
 -- starts a session with this handle, and the session exists after each event.
 abbrev pub LivesThrough : Handle → (events before : History) → Type 0
 LivesThrough handle [] before = Unit {0}
@@ -51,21 +51,22 @@ pub record IsReplay (buffer : List ℕ) (before : History) (first : AcceptedComm
     pub is_hmac : s.kind ≡ type.Hmac
     pub lives_on : LivesThrough e.session (between ++ Done first ∷ []) before
 
--- The session has the nonceTPM of the earlier time again, which is also among its earlier nonces.
+-- The session has the same nonceTPM as at the earlier time. This nonceTPM is also among the
+-- session's earlier nonces.
 abbrev pub HasNonceAgain : (earlier now : LiveSession) → Type 0
 HasNonceAgain earlier now =
     (now.nonce_tpm ≡ earlier.nonce_tpm) × IsAmong now.nonce_tpm now.earlier_nonces
 
--- The entry has the same HMAC at both events, although the messages differ. Each HMAC is computed
--- with the key at its event.
+-- The entry has the same HMAC at both events, although the messages differ. The HMAC at each event
+-- is computed with the key that the session's entry has at that event.
 abbrev pub HaveOneHmac : (before : History) (first : AcceptedCommand) (after : History)
     (second : AcceptedCommand) (place : ℕ) (e : Entry) (s t : LiveSession) → Type 0
 HaveOneHmac before first after second place e s t =
     (text_in before first place e s ≢ text_in after second place e t)
     × (e.hmac ≡ hmac_in before first place e s) × (e.hmac ≡ hmac_in after second place e t)
 
--- At the second event of a replay, the session has the same hash as at the first event. It also has
--- the nonceTPM of the first event again, or two different messages have the same HMAC.
+-- At the second event of a replay, the session has the same hash as at the first event. Either it
+-- also has the same nonceTPM again, or two different messages have the same HMAC.
 pub record Repeats (before : History) (first : AcceptedCommand) (between : History)
     (second : AcceptedCommand) (place : ℕ) (e : Entry) (s : LiveSession) : Type 0 where
   pub now : LiveSession

@@ -13,7 +13,7 @@ use Rattle.tpm_state_text.specs.declared.fault.StateFault.TheVariants as state
 use Rattle.tpmsim_folder.specs.declared.fault.Said.{Said}
 use Rattle.tpmsim_folder.specs.declared.fault.Said.TheVariants as said
 
--- the report of why a journal's entries could not all be executed again
+-- how the program reports why a journal's entries could not all be executed again
 abbrev pub said_of_following : FollowFault → Said
 said_of_following following.Damaged = said.Keeper keeper.Damaged
 said_of_following following.Otherwise = said.WasAnsweredOtherwise
@@ -32,8 +32,8 @@ said_of_opening (opening.Follow fault) = said_of_following fault
 abbrev pub HasFault : List ℕ → OpenFault → Type 0
 HasFault text fault = (new : Record) × OpensJournal text (Err fault) new
 
--- The report says why these bytes are not a journal, or that an earlier attempt found the journal
--- damaged, or that an allocation failed.
+-- Either the report says why these bytes cannot be opened as a journal, or it says that an earlier
+-- attempt found the journal damaged or that an allocation failed.
 abbrev pub IsSaidOf : List ℕ → Said → Type 0
 IsSaidOf text words =
     ((fault : OpenFault) × (words ≡ said_of_opening fault) × HasFault text fault)

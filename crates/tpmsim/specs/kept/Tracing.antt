@@ -1,4 +1,4 @@
--- The row of a kept device's answer, for its trace.
+-- The row of a kept device's answer, which the trace of the answer needs.
 use Rattle.std.specs.Prelude.{◌≡◌, ◌≤◌, ◌⊎◌, ℕ, length}
 use Rattle.tpm_commands.specs.CommandCode.{code_number}
 use Rattle.tpm_commands.specs.declared.command_code.CommandCode.{CommandCode}

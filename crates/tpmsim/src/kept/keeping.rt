@@ -29,7 +29,8 @@ pub struct Kept<'a> {
     keeper: Keeper<KeptDevice>,
     /// The contents of the journal when it was last opened.
     journal: Vec<u8>,
-    /// The part of the old journal that the device did not execute, when a new journal replaces it.
+    /// The part of the old journal that the device did not execute, set when a new journal replaces
+    /// the old one.
     tail: Tail,
     /// Whether the latest call began a new journal.
     has_begun: bool,
@@ -55,7 +56,7 @@ impl<'a> Kept<'a> {
         })
     }
 
-    /// Whether a device is in the folder.
+    /// Whether the folder contains a device.
     pub fn is_there(&self) -> Result<bool, KeptFault> {
         self.host.is_there()
     }
@@ -72,7 +73,7 @@ impl<'a> Kept<'a> {
         self.perform(Job::Show, &[])
     }
 
-    /// Executes a TPM command at the present time of the host's clock, with or without the
+    /// Executes a TPM command at the current time of the host's clock, with or without the
     /// completing layer.
     pub fn execute_now(
         &mut self,
@@ -138,8 +139,8 @@ impl<'a> Kept<'a> {
         }
     }
 
-    /// Replaces the device by the device of a state text, for all processes that use it, or creates
-    /// the device if there is none. First removes the damage in the journal, if there is any.
+    /// Replaces the device with the device in a state text, for all processes that use it. Creates
+    /// the device if the folder contains none. If the journal is damaged, removes the damage first.
     pub fn restore(&mut self, state: &[u8]) -> Result<(), KeptFault> {
         let alloc = self.rt.alloc();
         let now_ms = clock_of(self.rt)?;
@@ -203,8 +204,8 @@ impl<'a> Kept<'a> {
         }
     }
 
-    /// Performs one request of the keeper, and passes the result to the keeper. An error is
-    /// returned to the caller instead.
+    /// Performs one of the keeper's requests, and passes the result to the keeper. If the request
+    /// fails, returns the error to the caller instead.
     fn perform_one(&mut self, job: Job, ask: Ask) -> Result<(), KeptFault> {
         let got = match ask {
             Ask::Read(from) => return self.read(from),
@@ -219,8 +220,8 @@ impl<'a> Kept<'a> {
         Ok(())
     }
 
-    /// Passes the journal, from an offset on, to the keeper. Stores the bytes if they are the whole
-    /// journal.
+    /// Passes the contents of the journal from this offset on to the keeper. If the offset is 0,
+    /// also stores these contents.
     fn read(&mut self, from: u64) -> Result<(), KeptFault> {
         let bytes = self.host.read(from)?;
         let _ = self.keeper.next(Got::Bytes(&bytes));
@@ -230,7 +231,7 @@ impl<'a> Kept<'a> {
         Ok(())
     }
 
-    /// Gives the new journal its name, and reports which part of the old journal was dropped.
+    /// Renames the new journal to `journal`, and reports which part of the old journal was dropped.
     fn name(&mut self) -> Result<Got<'static>, KeptFault> {
         let file = self.host.name()?;
         self.has_begun = true;
@@ -241,7 +242,7 @@ impl<'a> Kept<'a> {
         })
     }
 
-    /// Performs a request of the keeper that has no result.
+    /// Performs one of the keeper's requests that have no result.
     fn write(&mut self, job: Job, ask: Ask) -> Result<(), KeptFault> {
         match ask {
             Ask::Lock => self.host.lock(),
@@ -278,7 +279,8 @@ impl<'a> Kept<'a> {
         put
     }
 
-    /// Writes a new journal. Of the old journal, the device executed the first `whole` bytes.
+    /// Writes a new journal. The device executed the entries in the first `whole` bytes of the old
+    /// journal.
     fn make(&mut self, job: Job, whole: u64) -> Result<(), KeptFault> {
         self.tail = match whole {
             0 => Tail::none(),

@@ -9,7 +9,7 @@ use tpm_wire::connection::Connection;
 use tpm_wire::reading::fill;
 use tpmsim_folder::KeptFault;
 
-/// The largest number of nonempty reads for one connection.
+/// The maximum number of nonempty reads for one connection.
 const READS: u32 = 1_048_576;
 
 /// Why a connection was not served to its end.
@@ -39,7 +39,7 @@ pub trait RandomBytes {
 }
 
 /// Serves a connection: executes each command buffer that the client sends, and writes the
-/// response. Each command is executed at the present time of the host's clock, with these settings
+/// response. Each command is executed at the current time of the host's clock, with these settings
 /// and with fresh random bytes.
 pub fn serve<R: Read, W: Write, B: RandomBytes>(
     kept: &mut Kept<'_>,

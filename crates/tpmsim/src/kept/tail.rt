@@ -1,23 +1,23 @@
-//! The part of a journal's file after its last complete record.
+//! The part of a journal file after its last complete entry.
 
-/// The part at the end of a journal's file that the device did not execute: the remains of a record
-/// after a crash, or damage.
+/// The bytes at the end of a journal file that the device did not execute: either an incomplete
+/// entry left by a crash, or damaged data.
 #[derive(Clone, Copy, PartialEq, Eq)]
 pub struct Tail {
-    /// The offset of this part in the file.
+    /// The offset of these bytes in the file.
     pub place: u64,
-    /// The size of this part in bytes.
+    /// The number of these bytes.
     pub size: u64,
     pub is_damaged: bool,
 }
 
 impl Tail {
-    /// An empty part: the device executed the whole file.
+    /// No bytes: the device executed the whole file.
     pub fn none() -> Tail {
         Tail::torn(0, 0)
     }
 
-    /// The remains of a record after a crash.
+    /// An incomplete entry left by a crash.
     pub fn torn(place: u64, size: u64) -> Tail {
         Tail {
             place,
@@ -26,7 +26,7 @@ impl Tail {
         }
     }
 
-    /// Reports on standard error that this part was dropped, unless it is empty.
+    /// Reports on standard error that these bytes were dropped, if there are any.
     pub fn tell(self, rt: &HostRuntime) {
         let Tail {
             place,

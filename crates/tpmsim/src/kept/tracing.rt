@@ -1,4 +1,4 @@
-//! The row of a kept device's answer, for its trace.
+//! The row of a kept device's answer, which the trace of the answer needs.
 
 ghost use Rattle.std.specs.Prelude.{◌≡◌, IfSome, is_some, true};
 ghost use Rattle.tpm_types.specs.Check.{check_number};
@@ -11,7 +11,7 @@ use tpm_step::Row;
 use tpm_types::{ActionCheck, Check};
 
 /// Returns the row of an answer: the command, and the check that refused it. None if the answer
-/// cannot be traced, which never happens with an answer of a device.
+/// cannot be traced, which never happens with a device's answer.
 pub fn traced_row(answer: Answer<'_>) -> Option<Row>
     ensures found { IfSome result (λ row. IsTraceable answer.entry × (row ≡ row_of answer.entry)) }
     ensures all { IsTraceable answer.entry → is_some result ≡ true }
@@ -51,7 +51,7 @@ fn is_check(number: u8) -> bool
     }
 }
 
-/// The check with this number, if there is one.
+/// The check with this number, if any.
 fn check_named(number: u8) -> Option<Check>
     ensures found { IfSome result (λ check. number ≡ check_number check) }
     ensures all { (check : Check) → number ≡ check_number check → is_some result ≡ true }

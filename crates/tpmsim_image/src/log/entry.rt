@@ -10,8 +10,8 @@ use tpm_journal_text::{ENTRY_LIMIT, Entry, sum_of};
 use tpm_step::Event;
 use tpm_types::Locality;
 
-/// Returns the entry of an event that had this response and drew `drawn` random bytes. A power
-/// cycle has no entry. A command has none if its buffer is larger than an entry allows.
+/// Returns the entry of an event that had this response, and drew `drawn` random bytes. A power
+/// cycle has no entry. A command has no entry if its buffer is larger than an entry allows.
 pub(crate) fn entry_of<'a>(event: &'a Event, drawn: usize, response: &[u8]) -> Option<Entry<'a>>
     ensures is { IfSome result (λ entry. IsEntry (plain_entry entry)) }
     ensures value { IfSome result (λ entry.

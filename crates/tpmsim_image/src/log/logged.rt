@@ -1,4 +1,4 @@
-//! A witness that keeps a log, if there is one, and then notifies another witness.
+//! A witness that keeps an optional log, and then notifies another witness.
 
 ghost use Rattle.std.specs.Prelude.{◌≡◌, OnErr, OnOk, true};
 ghost use Rattle.tpm_machine.specs.Executions.{Execution};
@@ -13,7 +13,7 @@ use tpm_machine::{Machine, Unsaved, Witness};
 use tpm_record::Keep;
 use tpm_step::{Event, Outcome};
 
-/// A log, if there is one, and another witness, which is notified of each command after the log.
+/// An optional log, and another witness, which is notified of each command after the log.
 #[derive(Drop)]
 pub struct Logged<W, S> {
     pub log: Option<Log<W>>,
@@ -41,7 +41,7 @@ impl<W: Write, S: Witness> Witness for Logged<W, S> {
     }
 }
 
-/// Adds an event to the log, if there is one.
+/// Adds an event to the log, if there is a log.
 fn note_where_kept<W: Write, K: Keep>(
     log: &mut Option<Log<W>>,
     machine: &Machine<K>,

@@ -61,7 +61,7 @@ types_of T = bounded (a_type ∷ a_type ∷ []) (T, (Heap, tt))
 abbrev pub BoxRow : RattleType → RattleType
 BoxRow T = box.the_row (param 0 T) global.the_row ghosts
 
--- the memory that is owned through a pointer to a box
+-- the memory that a pointer to a box owns
 abbrev pub boxed_at : (T : RattleType) → Global → Ptr → T.Denot → Fml
 boxed_at T alloc at value = held (param 0 T) alloc at (Some value)
 
@@ -96,7 +96,7 @@ module _ (T : RattleType) (drop_of : Dict) {M : Type 1} {𝓤 : Ura M} (𝓛 : L
           nothing ! $ use0 𝓛 (raw (fact 𝓤 ([] ⊑ Heap.lives))) (heap_outlives 𝓛) $ join ! $ move ! (2 ∷ 0 ∷ []) $ join ! $
           move ! (1 ∷ 0 ∷ []) $ join ! $ done !
 
-      -- what the box owned, now owned through a pointer
+      -- the memory that the box owned, which its pointer owns now
       abbrev Apart_at : Val → Ptr → SProp 𝓤
       Apart_at u at = guard 𝓤 (u ≡ word at boxed.alloc) (sep 𝓤 (A.lft κ q) (sem 𝓛 (boxed_at T boxed.alloc at boxed.value)))
 

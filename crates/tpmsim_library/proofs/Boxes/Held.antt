@@ -1,5 +1,5 @@
--- A holder owns the box of its device, or nothing if it is null. These lemmas take holders apart
--- and build them.
+-- Lemmas that take holders apart and build them. A holder owns the box of its device. A null holder
+-- owns nothing.
 use mathlib.Core.List.{List, [], ◌∷◌}
 use mathlib.Core.Path.{◌≡◌, refl}
 use Prim.Native.Nat.{ℕ}
@@ -27,12 +27,12 @@ use Rattle.tpmsim_library.specs.contracts.owner.Owner as owner
 abbrev pub OwnerRow : RattleType → RattleType
 OwnerRow T = owner.the_row T
 
--- what a holder owns
+-- the memory that a holder owns
 abbrev pub owns_at : (T : RattleType) → Global → Ptr → Option T.Denot → Fml
 owns_at T alloc at found = held T alloc at found
 
 module _ (T : RattleType) {M : Type 1} {𝓤 : Ura M} (𝓛 : Logic 𝓤) where
-  -- A holder owns what its pointer owns, because its fields themselves own nothing.
+  -- A holder owns the same memory as its pointer, because the fields themselves own no memory.
   pub owner_opened : (h : (OwnerRow T).Denot) (words : List Val) → ent 𝓤 (sem 𝓛 ((OwnerRow T).own_val h words)) (sem 𝓛 (owns_at T h.alloc h.at h.value))
   owner_opened h words = qed 𝓛 (‵ ((OwnerRow T).own_val h words) ∷ []) ∵ fsplit ! $ drop ! $ done !
 

@@ -1,5 +1,5 @@
--- A struct of a pointer and an allocator. A box, a holder and a pair consist of these two fields,
--- so each is one machine word. Neither field owns anything.
+-- A struct of a pointer and an allocator. A box, a holder and a pair each consist of these two
+-- fields, and are one machine word. Neither field owns anything.
 use mathlib.Core.List.{List, [], ◌∷◌}
 use mathlib.Core.Path.{◌≡◌, refl}
 use lib.Dec.{T, lit<}
@@ -36,7 +36,7 @@ heap_word alloc = global_laws.lowered alloc
 abbrev pub word : Ptr → Global → Val
 word at alloc = vstruct (vcons (ptr_val at) (vcons (heap_word alloc) vnil))
 
--- exactly this machine word represents an allocator, which owns nothing
+-- this machine word represents an allocator; an allocator owns no memory
 pub heap_is : (alloc : Global) → Is Heap alloc (heap_word alloc ∷ [])
 heap_is alloc = ((vstruct (vcons vunit vnil) ∷ [], tt), (refl, (((vunit ∷ [], tt), (refl, (refl, tt))), tt)))
 

@@ -1,5 +1,5 @@
--- A holder owns the box of its device, or nothing if it is null. These lemmas take holders apart
--- and build them.
+-- Lemmas that take holders apart and build them. A holder owns the box of its device. A null holder
+-- owns nothing.
 use mathlib.Core.List.{List, [], ◌∷◌}
 use mathlib.Core.Path.{◌≡◌, refl}
 use Prim.Native.Nat.{ℕ}
@@ -30,7 +30,7 @@ abbrev pub HolderRow : RattleType
 HolderRow = holder.the_row
 
 module _ {M : Type 1} {𝓤 : Ura M} (𝓛 : Logic 𝓤) where
-  -- A holder owns what its pointer owns, because its fields themselves own nothing.
+  -- A holder owns the same memory as its pointer, because the fields themselves own no memory.
   pub holder_opened : (h : Holder) (words : List Val) → ent 𝓤 (sem 𝓛 (HolderRow.own_val h words)) (sem 𝓛 (held device.the_row h.alloc h.at h.device))
   holder_opened h words = qed 𝓛 (‵ (HolderRow.own_val h words) ∷ []) ∵ fsplit ! $ drop ! $ done !
 

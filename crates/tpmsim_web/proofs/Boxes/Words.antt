@@ -1,5 +1,5 @@
--- A struct of a pointer and an allocator. A box, a holder and a pair consist of these two fields,
--- so each is one machine word. Neither field owns anything.
+-- A struct of a pointer and an allocator. A box, a holder and a pair each consist of these two
+-- fields, and are one machine word. Neither field owns anything.
 use mathlib.Core.List.{List, [], ◌∷◌}
 use mathlib.Core.Path.{◌≡◌, refl}
 use lib.Dec.{T, lit<}
@@ -45,7 +45,7 @@ source_word alloc = lent_laws.lowered alloc
 abbrev pub word : Ptr → Lent → Val
 word at alloc = vstruct (vcons (ptr_val at) (vcons (source_word alloc) vnil))
 
--- exactly this machine word represents an allocator, which owns nothing
+-- this machine word represents an allocator; an allocator owns no memory
 pub source_is : (alloc : Lent) → Is Source alloc (source_word alloc ∷ [])
 source_is alloc = (tt, (refl, tt))
 

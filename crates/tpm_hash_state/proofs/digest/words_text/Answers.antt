@@ -9,7 +9,8 @@ on_ok : {T E Q : Type 0} (r : Result T E) → IsOk r → OnOk r Q → Q
 on_ok (Ok v) is fact = fact
 on_ok (Err e) is fact = cc
 
--- appending the bytes of one more word
+-- If the items are the bytes of the first i words, appending the bytes of word i makes them the
+-- bytes of the first i + 1 words.
 bytes_more : (words items bytes new : List ℕ) (i : ℕ) → items ≡ digest_bytes words i → length items ≡ 4 * i
     → bytes ≡ to_be_bytes w32 (slice_index words i) → new ≡ items ++ bytes
     → (new ≡ digest_bytes words (i + 1)) × (length new ≡ 4 * (i + 1))

@@ -15,8 +15,8 @@ returns-in-Err-clause-opens c = (
   (c.fault_number.ensures, refl),
 )
 
--- if a device with a history has this image, the opened device has the same history and a power
--- cycle after it
+-- if a device with a history has this image, the opened device has the same history, followed by a
+-- power cycle
 pub returns-in-Ok-clause-history : goal.returns-in-Ok-clause-history
 returns-in-Ok-clause-history c =
     λ done version r history is follows image. (c.in-Ok.device.value, c.put.ensures, c.in-Ok.ensures.history version r history is follows image)

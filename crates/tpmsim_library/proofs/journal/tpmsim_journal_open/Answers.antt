@@ -5,7 +5,7 @@ use Rattle.tpmsim_library.specs.Journal.{OpensDevice}
 use Rattle.tpmsim_library.proofs.Boxes.{boxes}
 use Rattle.tpmsim_library.proofs.journal.tpmsim_journal_open.Goals as goal
 
--- the device of the journal is put into the holder
+-- the device in the journal is put into the holder
 pub returns-in-Some-Ok-clause-opens : goal.returns-in-Some-Ok-clause-opens
 returns-in-Some-Ok-clause-opens c =
     let opens = subst

@@ -4,7 +4,7 @@ use Rattle.tpmsim_library.proofs.Boxes.{boxes}
 use Rattle.tpmsim_library.proofs.Restoring.{fault_told, only_memory, same_history, same_layer, same_record}
 use Rattle.tpmsim_library.proofs.snapshots.tpmsim_restore.Goals as goal
 
--- the device of the state text is put into the holder
+-- the device in the state text is put into the holder
 pub returns-in-Ok-clause-restores : goal.returns-in-Ok-clause-restores
 returns-in-Ok-clause-restores c = λ done. (c.in-Ok.device.value, c.put.ensures, c.in-Ok.ensures)
 

@@ -4,7 +4,7 @@ use Rattle.tpmsim_web.specs.State.{whole_state}
 use Rattle.tpmsim_web.proofs.Restoring.{fault_told, never_faulty, same_history, same_layer, same_record}
 use Rattle.tpmsim_web.proofs.snapshots.device_restore.Goals as goal
 
--- The device that is put back into the holder is the device of the state text.
+-- The device that is put back into the holder is the device in the state text.
 pub returns-in-Ok-clause-restores : goal.returns-in-Ok-clause-restores
 returns-in-Ok-clause-restores c = λ done. (c.restore-restored.new.self, c.put.ensures, c.in-Ok.ensures.restores)
 

@@ -17,7 +17,7 @@ read_so text c field read is =
     let done : KeptCommand → Result KeptCommand Malformed = λ (c : KeptCommand). Ok c in
     read ∙ ap done is
 
--- The state and the response after a command are as the journal defines them for the encoded
+-- The state and the response after a command are those that the journal defines for the encoded
 -- command.
 led : (old : Parts) (text : List ℕ) (c : KeptCommand) (new : DeviceState) → IsDeviceState (state_of old) → command_of text ≡ Ok c
     → new ≡ moved (state_of old) c → bytes_of new ≡ device_journal.after (spot_in old).state text

@@ -10,8 +10,8 @@ use Rattle.tpm_kept_device.specs.View.{plain_command, plain_moment}
 use Rattle.tpm_kept_device.specs.declared.command.Command.{Command}
 use Rattle.tpm_kept_device.proofs.parts.Parts.perform.Goals as goal
 
--- If a command's random bytes are replaced by a copy of them, the encoding still decodes to this
--- command.
+-- If the bytes decode to a command with certain random bytes, they also decode to the command with
+-- a copy of these random bytes.
 copied : (text : List ℕ) (at : Moment) (locality : ℕ) (completes : Bool) (random copy buffer : List ℕ) (field : Command)
     → command_of text ≡ Ok (plain_command field) → plain_command field ≡ kept.Executes at locality completes random buffer → copy ≡ random
     → command_of text ≡ Ok (kept.Executes at locality completes copy buffer)

@@ -19,7 +19,7 @@ use Rattle.tpmsim_library.specs.contracts.device.Device as device
 use Rattle.tpmsim_library.proofs.device.Device.TheSendSync.{the_send as device_sends}
 use Rattle.tpmsim_library.specs.contracts.holder.Holder.{the_row, the_type}
 
--- nothing of a holder remains in the thread that it leaves
+-- after a holder is moved to another thread, no part of the holder remains in the first thread
 quiet : {D X : Type 0} (to : D → X) (e : Exit X) → Quiet e → Quiet (hidden (under to e))
 quiet to unchanged q = λ x w. tt
 quiet to (leaves L l S s r₀) q = λ d. q (to d)

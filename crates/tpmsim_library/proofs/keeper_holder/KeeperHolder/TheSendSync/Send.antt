@@ -19,7 +19,7 @@ use Rattle.tpmsim_library.specs.contracts.keeper.DeviceKeeper as keeper
 use Rattle.tpmsim_library.proofs.keeper.DeviceKeeper.TheSendSync.{the_send as keeper_sends}
 use Rattle.tpmsim_library.specs.contracts.keeper_holder.KeeperHolder.{the_row, the_type}
 
--- nothing of a holder remains in the thread that it leaves
+-- after a holder is moved to another thread, no part of the holder remains in the first thread
 quiet : {D X : Type 0} (to : D → X) (e : Exit X) → Quiet e → Quiet (hidden (under to e))
 quiet to unchanged q = λ x w. tt
 quiet to (leaves L l S s r₀) q = λ d. q (to d)

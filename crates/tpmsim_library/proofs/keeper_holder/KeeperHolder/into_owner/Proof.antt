@@ -1,5 +1,5 @@
--- `into_owner` returns an owner with the holder's pointer. The new owner owns what the holder
--- owned.
+-- `into_owner` moves the holder's pointer into a new owner. The new owner then owns the memory that
+-- the holder owned.
 use mathlib.Core.List.{[], ◌∷◌}
 use mathlib.Core.Path.{refl}
 use mir.Val.{Val}
@@ -30,7 +30,7 @@ Passed = keeper_holder.the_row
 abbrev Given : RattleType
 Given = OwnerRow keeper.the_row
 
--- the holder that was passed is consumed
+-- the call consumes the holder
 abbrev stays : Stays promise.ended.signature.params promise.ended.kept
 stays = (stay_dropped (plain (λ _. Passed)) yes, tt)
 
@@ -42,7 +42,7 @@ into_owner_spec 𝓤 𝓛 𝓜 𝓡 wired =
     let h = a.0 in let w : Val = word h.at h.alloc in
     let y : (walk_of 𝓛 promise.ended stays clauses).Ghost = ((κs, qs, bounds, a, (w ∷ [], tt)), tt) in
     let made : Given.Denot = record { at = h.at; alloc = h.alloc; value = h.keeper } in
-    -- The context contains what the holder owned.
+    -- The proof context contains the memory that the holder owned.
     qed 𝓛 ((‵ ftrue ⊛ ‵ (fsep (Passed.own_val h (w ∷ [])) ftrue)) ∷ raw ((clauses κs a).requires tt) ∷ []) ∵ split ! $ drop ! $ fsplit ! $ keep ! (0 ∷ []) $
     fsplit ! $ drop ! $
     enter ! _ _ _ _ _ $ alloc_all ! (λ l. pass_all ! refl (word_typed h.at h.alloc, tt) $

@@ -1,4 +1,5 @@
--- `of` returns a holder with the owner's pointer. The new holder owns what the owner owned.
+-- `of` moves the owner's pointer into a new holder. The new holder then owns the memory that the
+-- owner owned.
 use mathlib.Core.List.{[], ◌∷◌}
 use mathlib.Core.Path.{refl}
 use mir.Val.{Val}
@@ -29,7 +30,7 @@ Passed = OwnerRow keeper.the_row
 abbrev Given : RattleType
 Given = keeper_holder.the_row
 
--- the owner that was passed is consumed
+-- the call consumes the owner
 abbrev stays : Stays promise.ended.signature.params promise.ended.kept
 stays = (stay_dropped (plain (λ _. Passed)) yes, tt)
 
@@ -41,7 +42,7 @@ of_spec 𝓤 𝓛 𝓜 𝓡 wired =
     let h = a.0 in let w : Val = word h.at h.alloc in
     let y : (walk_of 𝓛 promise.ended stays clauses).Ghost = ((κs, qs, bounds, a, (w ∷ [], tt)), tt) in
     let made : Given.Denot = record { at = h.at; alloc = h.alloc; keeper = h.value } in
-    -- The context contains what the owner owned.
+    -- The proof context contains the memory that the owner owned.
     qed 𝓛 ((‵ ftrue ⊛ ‵ (fsep (Passed.own_val h (w ∷ [])) ftrue)) ∷ raw ((clauses κs a).requires tt) ∷ []) ∵ split ! $ drop ! $ fsplit ! $ keep ! (0 ∷ []) $
     fsplit ! $ drop ! $
     enter ! _ _ _ _ _ $ alloc_all ! (λ l. pass_all ! refl (word_typed h.at h.alloc, tt) $

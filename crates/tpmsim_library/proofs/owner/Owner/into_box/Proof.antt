@@ -1,4 +1,5 @@
--- `into_box` tests the pointer. If it is not null, the call makes a box from what the owner owned.
+-- `into_box` tests the pointer. If the pointer is not null, the call makes a box from the memory
+-- that the owner owned.
 use mathlib.Core.List.{[], ◌∷◌}
 use mathlib.Core.Path.{◌≡◌, ◌∙◌, refl, sym, ap, subst}
 use lib.Dec.{T as T-type, lit<}
@@ -41,7 +42,7 @@ pub into_box_spec : {M : Type 1} → statement M
 into_box_spec 𝓤 𝓛 𝓜 𝓡 wired T L drop_of glued =
     let clauses = promise.clauses T drop_of 𝓛 𝓜.mem 𝓡.returns in let ended = promise.ended T drop_of in let 𝓣 = tables 𝓤 𝓛.H 𝓜 𝓡 𝓡.env in
     let types = bounded (a_type ∷ []) (T, tt) (dcons drop_of dnil) in let function = inst_fn types code.function in let Row = OwnerRow (param 0 T) in
-    -- the owner that was passed is consumed
+    -- the call consumes the owner
     let stays : Stays ended.signature.params ended.kept = (stay_dropped (plain (λ _. Row)) no, tt) in
     let linked : Linked 𝓡.env = record {
       allocate = code.calls-std_heap::GlobalAllocator::allocate 𝓡.env wired;
@@ -55,8 +56,8 @@ into_box_spec 𝓤 𝓛 𝓜 𝓡 wired T L drop_of glued =
     (code.unfolded 𝓤 𝓛.H 𝓜 𝓡 wired (T, tt) drop_of) (λ κs. ((λ h. word h.at h.alloc ∷ []), tt)) (λ κs. ((λ h ws is. word_told h.at h.alloc ws is.0), tt)) (λ κs qs bounds a _ are.
     let h = a.0 in let w : Val = word h.at h.alloc in let W = walk_of 𝓛 ended stays clauses in let Out : RattleType = type_at ended.signature.result κs in
     let κ = κs.0 in let q = qs.0 in let y : W.Ghost = ((κs, qs, bounds, a, (w ∷ [], tt)), tt) in
-    -- The context contains what the owner owned, and the facts that the lifetime has not ended and
-    -- that the type outlives it.
+    -- The proof context contains the memory that the owner owned, and two facts: the lifetime has
+    -- not ended, and the type outlives it.
     qed 𝓛 (((‵ (flft κ q) ⊛ ‵ ftrue) ⊛ ‵ (fsep (Row.own_val h (w ∷ [])) ftrue)) ∷ (raw (fact 𝓤 (κ ⊑ T.lives)) ⊛ ‵ ftrue) ∷ []) ∵
     split ! $ split ! $ move ! (2 ∷ []) $ fsplit ! $ move ! (4 ∷ []) $ split ! $ keep ! (2 ∷ 4 ∷ 0 ∷ []) $
     use1 𝓛 (‵ (owns_at (param 0 T) h.alloc h.at h.value)) (owner_opened (param 0 T) 𝓛 h (w ∷ [])) $
@@ -69,7 +70,7 @@ into_box_spec 𝓤 𝓛 𝓜 𝓡 wired T L drop_of glued =
     first ! $ branches ! (get ! refl)
     (λ _. sets ! (agg ! (and_then ! (lit ! tt) (no_more !))) refl (tt, (record { fits = lit< tt }, tt)) $
     returns_within ! (W.post y) refl (look_at ! 0 refl) $ free_all ! refl $
-    -- The context is empty, because None owns nothing.
+    -- The proof context is empty, because None owns nothing.
     use0 𝓛 (‵ (Out.own_val None (live 0 vnil ∷ []))) (none_of 𝓛 (BoxRow T)) $ keep ! (0 ∷ 1 ∷ []) $
     suffices ! _ (ends_at 𝓛 ended stays clauses y (live 0 vnil) None (tt, tt) (tt, tt)) $ says ! none $
     nothing ! $ nothing ! $ join ! $ nothing ! $ move ! (3 ∷ 0 ∷ []) $ join ! $ group ! 3 $ done !)
@@ -87,7 +88,7 @@ into_box_spec 𝓤 𝓛 𝓜 𝓡 wired T L drop_of glued =
     move ! (1 ∷ 2 ∷ 0 ∷ []) $ use3 𝓛 (raw (part.pre at_part)) (whole_asks T drop_of 𝓛 𝓜.mem 𝓡.returns κ q h.alloc (block_ptr b o) value) $
     calls_at_last ! (framed 𝓤 𝓛.H 𝓜 𝓣) part met at_part
     (and_then ! (get ! refl) (and_then ! (get ! refl) (no_more !))) (λ u.
-    -- The context contains the box, and the fact that the lifetime has not ended.
+    -- The proof context contains the box, and the fact that the lifetime has not ended.
     use1 𝓛 (later (some (λ (boxed : (BoxRow T).Denot). given ((boxed.value ≡ value) × (u ≡ word boxed.ptr boxed.alloc)) (‵ (flft κ q) ⊛ ‵ ((BoxRow T).own_val boxed (u ∷ []))))))
     (whole_gives T drop_of 𝓛 𝓜.mem 𝓡.returns κ q h.alloc (block_ptr b o) value u) $ await ! tt $ pick ! (λ boxed. learn ! (λ same. split ! $ move ! (1 ∷ 0 ∷ []) $
     let typed : T-type (has_ty (layout (BoxRow T)) u) × WT u = subst (λ (v : Val). T-type (has_ty (layout (BoxRow T)) v) × WT v) (sym same.1) (word_typed boxed.ptr boxed.alloc) in

@@ -1,4 +1,4 @@
--- `empty` makes a holder with a null pointer, which owns nothing.
+-- `empty` returns a holder whose pointer is null. This holder owns no memory.
 use mathlib.Core.List.{[], ◌∷◌}
 use mathlib.Core.Path.{refl}
 use types.ByLocal.{alloc_all, pass_all, free_all, look_at, get, sets}
@@ -20,7 +20,7 @@ use Rattle.tpmsim_web.proofs.holder.Holder.empty.Code as code
 use Rattle.tpmsim_web.proofs.holder.Holder.empty.Statement.{statement}
 use Rattle.tpmsim_web.specs.contracts.holder.Holder.empty as promise
 
--- the allocator that was passed is consumed
+-- the call consumes the allocator
 abbrev stays : Stays promise.ended.signature.params promise.ended.kept
 stays = (stay_dropped (plain (λ _. lent.the_row)) yes, tt)
 
@@ -35,7 +35,7 @@ empty_spec 𝓤 𝓛 𝓜 𝓡 wired =
     enter ! _ _ _ _ _ $ alloc_all ! (λ l. pass_all ! refl (source_typed a.0, tt) $
     sets ! (agg ! (and_then ! (lit ! tt) (and_then ! (get ! refl) (no_more !)))) refl (word_typed null_ptr a.0) $
     returns ! (look_at ! 0 refl) $ free_all ! refl $
-    -- The context contains the holder.
+    -- The proof context contains the holder.
     feq_i ! Ptr null_ptr null_ptr refl $ use1 𝓛 (‵ (HolderRow.own_val made (word null_ptr a.0 ∷ []))) (holder_made 𝓛 made) $
     suffices ! _ (ends_at 𝓛 promise.ended stays clauses y (word null_ptr a.0) made (tt, tt) (tt, tt)) $ says ! refl $
     nothing ! $ nothing ! $ join ! $ nothing ! $ group ! 3 $ done !))

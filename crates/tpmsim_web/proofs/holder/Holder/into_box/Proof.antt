@@ -1,4 +1,5 @@
--- `into_box` tests the pointer. If it is not null, the call makes a box from what the holder owned.
+-- `into_box` tests the pointer. If the pointer is not null, the call makes a box from the memory
+-- that the holder owned.
 use mathlib.Core.List.{[], ◌∷◌}
 use mathlib.Core.Path.{◌≡◌, ◌∙◌, refl, sym, ap, subst}
 use lib.Dec.{T, lit<}
@@ -34,7 +35,7 @@ use Rattle.tpmsim_web.specs.Held.{held}
 use Rattle.tpmsim_web.specs.contracts.device.Device as device
 use Rattle.tpmsim_web.specs.contracts.holder.Holder.into_box as promise
 
--- the holder that was passed is consumed
+-- the call consumes the holder
 abbrev stays : Stays promise.ended.signature.params promise.ended.kept
 stays = (stay_dropped (plain (λ _. HolderRow)) yes, tt)
 
@@ -53,7 +54,7 @@ into_box_spec 𝓤 𝓛 𝓜 𝓡 wired =
     (code.unfolded 𝓤 𝓛.H 𝓜 𝓡 wired) (λ κs. ((λ h. word h.at h.alloc ∷ []), tt)) (λ κs. ((λ h ws is. word_told h.at h.alloc ws is.0), tt)) (λ κs qs bounds a _ are.
     let h = a.0 in let w : Val = word h.at h.alloc in let W = walk_of 𝓛 promise.ended stays clauses in let Out : RattleType = type_at promise.ended.signature.result κs in
     let y : W.Ghost = ((κs, qs, bounds, a, (w ∷ [], tt)), tt) in
-    -- The context contains what the holder owned.
+    -- The proof context contains the memory that the holder owned.
     qed 𝓛 ((‵ ftrue ⊛ ‵ (fsep (HolderRow.own_val h (w ∷ [])) ftrue)) ∷ raw ((clauses κs a).requires tt) ∷ []) ∵ split ! $ drop ! $ fsplit ! $ keep ! (0 ∷ []) $
     use1 𝓛 (‵ (held device.the_row h.alloc h.at h.device)) (holder_opened 𝓛 h (w ∷ [])) $
     by_device ! h.alloc h.at h.device
@@ -65,7 +66,7 @@ into_box_spec 𝓤 𝓛 𝓜 𝓡 wired =
     first ! $ branches ! (get ! refl)
     (λ _. sets ! (agg ! (and_then ! (lit ! tt) (no_more !))) refl (tt, (record { fits = lit< tt }, tt)) $
     returns_within ! (W.post y) refl (look_at ! 0 refl) $ free_all ! refl $
-    -- The context is empty, because None owns nothing.
+    -- The proof context is empty, because None owns nothing.
     use0 𝓛 (‵ (Out.own_val None (live 0 vnil ∷ []))) (none_of 𝓛 BoxRow) $
     suffices ! _ (ends_at 𝓛 promise.ended stays clauses y (live 0 vnil) None (tt, tt) (tt, tt)) $ says ! none $
     nothing ! $ nothing ! $ join ! $ nothing ! $ group ! 3 $ done !)
@@ -82,7 +83,7 @@ into_box_spec 𝓤 𝓛 𝓜 𝓡 wired =
     use1 𝓛 (raw ((Whole 𝓛 𝓜.mem 𝓡.returns).pre (at_whole 𝓛 𝓜.mem 𝓡.returns h.alloc (block_ptr b o) value))) (whole_asks 𝓛 𝓜.mem 𝓡.returns h.alloc (block_ptr b o) value) $
     calls_at_last ! (framed 𝓤 𝓛.H 𝓜 𝓣) (Whole 𝓛 𝓜.mem 𝓡.returns) met (at_whole 𝓛 𝓜.mem 𝓡.returns h.alloc (block_ptr b o) value)
     (and_then ! (get ! refl) (and_then ! (get ! refl) (no_more !))) (λ u.
-    -- The context contains the box.
+    -- The proof context contains the box.
     use1 𝓛 (later (some (λ (boxed : BoxRow.Denot). given ((boxed.value ≡ value) × (u ≡ word boxed.ptr boxed.alloc)) (‵ (BoxRow.own_val boxed (u ∷ []))))))
     (whole_gives 𝓛 𝓜.mem 𝓡.returns h.alloc (block_ptr b o) value u) $ await ! tt $ pick ! (λ boxed. learn ! (λ same.
     let typed : T (has_ty (layout BoxRow) u) × WT u = subst (λ (v : Val). T (has_ty (layout BoxRow) v) × WT v) (sym same.1) (word_typed boxed.ptr boxed.alloc) in

@@ -43,7 +43,7 @@ DeviceRow = device.the_row
 abbrev PlaceRow : RattleType
 PlaceRow = place.the_row
 
--- the place and the device that were passed are consumed
+-- the call consumes the place and the device
 abbrev stays : Stays promise.ended.signature.params promise.ended.kept
 stays = (stay_dropped (plain (λ _. PlaceRow)) yes, (stay_dropped (plain (λ _. DeviceRow)) yes, tt))
 
@@ -76,8 +76,8 @@ new_spec 𝓤 𝓛 𝓜 𝓡 wired =
     let typed : T (has_ty (layout DeviceRow) w) × WT w = (subst (Typed (layout DeviceRow ∷ [])) device_is ((content_laws.lawful 𝓛).typed device y.0.4.1.0 are.1.0)).0 in
     subst (λ (us : List Val). Goes us y.0.4.1.0) (sym place_is) (subst (Goes (place_words at)) (sym device_is) (
     qed 𝓛 ((‵ ftrue ⊛ ‵ (fsep (PlaceRow.own_val a.0 (place_words at)) (fsep (DeviceRow.own_val device (w ∷ [])) ftrue))) ∷ raw ((clauses y.0.0 a).requires y.1) ∷ []) ∵
-    -- The context contains the memory, whose address may be compared with null, and what the device
-    -- owns.
+    -- The proof context contains the memory of the place, whose address may be compared with null,
+    -- and what the device owns.
     split ! $ drop ! $ fsplit ! $ fsplit ! $ drop ! $ fsplit ! $ move ! (2 ∷ []) $ fsplit ! $ keep ! (2 ∷ 0 ∷ 3 ∷ []) $
     in_a_block ! at (λ s. room_at DeviceRow s) (id⊢ 𝓤 (never 𝓤)) (λ b o lies.
     regoal ! (λ p. prop (WpFn 𝓤 𝓛.H 𝓣.C 𝓣.Λ code.function (place_words p ++ (w ∷ [])) (W.post (At (place_words at) (w ∷ []))))) lies refl $
@@ -89,7 +89,7 @@ new_spec 𝓤 𝓛 𝓜 𝓡 wired =
     sets ! (agg ! (no_more !)) refl (source_typed (record {})) $
     sets ! (agg ! (and_then ! (get_in ! (fld ! refl (stop !)) (sub ! 0 refl (whole !))) (and_then ! (get ! refl) (no_more !)))) refl (word_typed (block_ptr b o) (record {})) $
     returns ! (look_at ! 0 refl) $ free_all ! refl $
-    -- The context contains the holder.
+    -- The proof context contains the holder.
     use2 𝓛 (‵ (part_at DeviceRow full_share device b o)) (part_in 𝓛 DeviceRow refl full_share device b o w) $
     rewrite ! 1 (λ (s : Ptr). ‵ (flt (count_of s) (2 ^ 63))) lies refl $ fjoin ! $
     let made : HolderRow.Denot = record { at = block_ptr b o; alloc = record {}; device = Some device } in

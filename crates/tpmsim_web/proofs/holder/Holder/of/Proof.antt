@@ -1,4 +1,4 @@
--- `of` converts a box to a pointer. The new holder then owns what the box owned.
+-- `of` converts a box to a pointer. The new holder then owns the memory that the box owned.
 use mathlib.Core.List.{[], ◌∷◌}
 use mathlib.Core.Path.{◌≡◌, refl}
 use base.Fml.{fsep, ftrue}
@@ -27,7 +27,7 @@ use Rattle.tpmsim_web.specs.Held.{held}
 use Rattle.tpmsim_web.specs.contracts.device.Device as device
 use Rattle.tpmsim_web.specs.contracts.holder.Holder.of as promise
 
--- the box that was passed is consumed
+-- the call consumes the box
 abbrev stays : Stays promise.ended.signature.params promise.ended.kept
 stays = (stay_dropped (plain (λ _. BoxRow)) yes, tt)
 
@@ -46,13 +46,13 @@ of_spec 𝓤 𝓛 𝓜 𝓡 wired =
     (code.unfolded 𝓤 𝓛.H 𝓜 𝓡 wired) (λ κs. ((λ b. word b.ptr b.alloc ∷ []), tt)) (λ κs. ((λ b ws is. word_told b.ptr b.alloc ws is.0), tt)) (λ κs qs bounds a _ are.
     let b = a.0 in let w : Val = word b.ptr b.alloc in
     let y : (walk_of 𝓛 promise.ended stays clauses).Ghost = ((κs, qs, bounds, a, (w ∷ [], tt)), tt) in
-    -- The context contains the box, which the call requires.
+    -- The proof context contains the box, which the call requires.
     qed 𝓛 ((‵ ftrue ⊛ ‵ (fsep (BoxRow.own_val b (w ∷ [])) ftrue)) ∷ raw ((clauses κs a).requires tt) ∷ []) ∵ split ! $ drop ! $ fsplit ! $ keep ! (0 ∷ []) $
     use1 𝓛 (raw ((Apart 𝓛 𝓜.mem 𝓡.returns).pre (at_apart 𝓛 𝓜.mem 𝓡.returns b (w ∷ [])))) (apart_asks 𝓛 𝓜.mem 𝓡.returns b (w ∷ [])) $
     enter ! _ _ _ _ _ $ alloc_all ! (λ l. pass_all ! refl (word_typed b.ptr b.alloc, tt) $
     sets ! (of_opd ! (get ! refl)) refl (word_typed b.ptr b.alloc) $
     calls_at ! (framed 𝓤 𝓛.H 𝓜 (tables 𝓤 𝓛.H 𝓜 𝓡 𝓡.env)) (Apart 𝓛 𝓜.mem 𝓡.returns) met (at_apart 𝓛 𝓜.mem 𝓡.returns b (w ∷ [])) (and_then ! (get ! refl) (no_more !)) (λ u.
-    -- The context contains what the box owned, now at the pointer.
+    -- The proof context contains the memory that the box owned, which is now at the pointer.
     use1 𝓛 (later (some (λ (at : Ptr). given (u ≡ word at b.alloc) (‵ (held device.the_row b.alloc at (Some b.value)))))) (apart_gives 𝓛 𝓜.mem 𝓡.returns b (w ∷ []) u) $
     await ! tt $ pick ! (λ at. learn ! (λ is.
     lands_as ! is refl (word_typed at b.alloc) $
@@ -61,7 +61,7 @@ of_spec 𝓤 𝓛 𝓜 𝓡 wired =
     sets ! (of_opd ! (get ! refl)) refl (pointer_typed at) $
     sets ! (agg ! (and_then ! (get ! refl) (and_then ! (get ! refl) (no_more !)))) refl (word_typed at b.alloc) $
     returns ! (look_at ! 0 refl) $ free_all ! refl $
-    -- The context contains the holder.
+    -- The proof context contains the holder.
     let made : HolderRow.Denot = record { at = at; alloc = b.alloc; device = Some b.value } in
     use1 𝓛 (‵ (HolderRow.own_val made (word at b.alloc ∷ []))) (holder_made 𝓛 made) $
     suffices ! _ (ends_at 𝓛 promise.ended stays clauses y (word at b.alloc) made (tt, tt) (tt, tt)) $ says ! refl $

@@ -29,7 +29,7 @@ use Rattle.tpmsim_web.specs.contracts.lent.LentAllocator.allocate as promise
 abbrev self : Slot 1
 self = RefOf (0 ∷ []) tt (plain (λ _. lent.the_row)) (λ _. tt)
 
--- the arguments that were passed are consumed
+-- the call consumes its arguments
 abbrev stays : Stays promise.ended.signature.params promise.ended.kept
 stays = (
   stay_dropped self yes,
@@ -50,6 +50,6 @@ allocate_spec 𝓤 𝓛 𝓜 𝓡 wired =
     sets ! (agg ! (and_then ! (lit ! tt) (and_then ! (get ! refl) (no_more !)))) refl (Answer-typed false 0 0) $
     returns ! (look_at ! 0 refl) $ free_all ! refl $
     suffices ! _ (ends_at 𝓛 promise.ended stays clauses y (answer_val false 0 0) (Err (record {})) (tt, (tt, (tt, tt))) (tt, (tt, (tt, tt)))) $
-    -- The context contains the error.
+    -- The proof context contains the error.
     nothing ! $ use0 𝓛 (‵ (Answer.own_val (Err (record {})) (answer_val false 0 0 ∷ []))) (Answer-err 𝓛) $
     nothing ! $ nothing ! $ fjoin ! $ nothing ! $ fjoin ! $ nothing ! $ fjoin ! $ join ! $ move ! (2 ∷ []) $ join ! $ done !))
