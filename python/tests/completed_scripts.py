@@ -1,14 +1,16 @@
 """Random commands for a device with the completing layer. They make and flush objects, sequence
 objects and sessions, save and load the contexts of these, and read lists. There are also commands
-on sequence objects, and the other commands that the layer answers. A few commands have changed
-bytes, or are sent without the layer.
+on sequence objects, by passwords and by HMAC sessions, and the other commands that the layer
+answers. A few commands have changed bytes, or are sent without the layer.
 """
+
+import random_sessions
 
 from tpmsim.caller import HERE, hmac_key, OPEN, storage_key
 from tpmsim.caller.templates import STORES
 from tpmsim.model.sequence_commands import EVENT_SEQUENCE_COMPLETE, HANDLES, HASH_SEQUENCE_START
 from tpmsim.model.sequence_commands import HMAC_START, SEQUENCE_COMPLETE, SEQUENCE_UPDATE
-from tpmsim.standard import ALG_NULL, CC, command, frames, number, NV, nv, on_handle, on_handles
+from tpmsim.standard import ALG_NULL, CC, command, frames, number, NV, nv, on_handles
 from tpmsim.standard import RH_LOCKOUT, RH_NULL, RH_OWNER, RH_PLATFORM, SHA256, sized, TRANSIENT
 from tpmsim.standard.handle_kinds import PRIMARY_HIERARCHIES
 from tpmsim.standard.objects import Attribute
@@ -64,14 +66,6 @@ def primary(chance):
     return command(CC.CreatePrimary, hierarchy + PASSWORD + parameters, frames.SESSIONS)
 
 
-def session(chance):
-    kind = number(chance.choice((frames.SE_HMAC, frames.SE_POLICY, frames.SE_TRIAL)), 1)
-    head = number(RH_NULL, 4) * 2 + sized(bytes(16)) + sized(b"")
-    return command(
-        CC.StartAuthSession, head + kind + number(frames.ALG_NULL, 2) + number(SHA256, 2)
-    )
-
-
 def listing(chance):
     asked = chance.choice((0, 1, 1, 1, 2, 3, 4, 5, 6, 6, 6, 7, 8, 9))
     first = {
@@ -102,46 +96,57 @@ def testing(chance):
     return command(code, parameters)
 
 
-def starting(chance):
+def starting(chance, known):
     """Returns a command that starts a sequence."""
     auth, algorithm = chance.choice(VALUES), chance.choice((SHA256, frames.SHA1, ALG_NULL, 0x0C))
     parameters = sized(auth) + number(algorithm, 2)
     if chance.random() < 0.4:
         return command(HASH_SEQUENCE_START, parameters)
-    key = TRANSIENT << 24 | chance.randrange(4)
-    return on_handle(HMAC_START, key, parameters, entries(chance, 1))
+    key = chance.choice(known.objects or [TRANSIENT << 24 | chance.randrange(4)])
+    return authorized(chance, known, HMAC_START, [key], parameters)
 
 
-def entries(chance, count):
-    """Returns password entries for a command. In rare cases there is one entry too many or too few,
-    or an entry has another handle or attribute.
+def authorized(chance, known, code, handles, parameters):
+    """Returns a command on sequences. Its first entry is a password or an HMAC session."""
+    found = entries(chance, [known.of(it)[1] for it in handles])
+    if known.sessions and found and chance.random() < 0.4:
+        found[0] = random_sessions.entry(chance, known, code, handles, parameters)
+    return on_handles(code, handles, parameters, found)
+
+
+def entries(chance, values):
+    """Returns entries with these passwords or with wrong ones. In rare cases there is one entry too
+    many or too few, or an entry has another handle or attribute.
     """
-    count += chance.choice((-1, 1)) if chance.random() < 0.03 else 0
-    handles = frames.RS_PW, frames.HMAC_SESSION << 24
+    if chance.random() < 0.03:
+        values = values[1:] if chance.random() < 0.5 else [*values, b""]
+    handles = frames.HMAC_SESSION << 24, frames.POLICY_SESSION << 24
     return [
         frames.entry(
-            chance.choice(handles) if chance.random() < 0.02 else frames.RS_PW,
+            chance.choice(handles) if chance.random() < 0.05 else frames.RS_PW,
             attributes=chance.choice((0, 2, 8, 32)) if chance.random() < 0.05 else 1,
-            hmac=chance.choice(VALUES),
+            hmac=value if chance.random() < 0.6 else chance.choice(VALUES),
         )
-        for _ in range(count)
+        for value in values
     ]
 
 
-def sequence(chance):
+def sequence(chance, known):
     """Returns a command on a sequence."""
     handle = chance.choice(HANDLES) if chance.random() < 0.9 else handle_of(chance)
+    if known.sequences and chance.random() < 0.6:
+        handle = chance.choice(known.sequences)
     data = chance.choice((b"", b"\xff\x54", b"\x43\x47", bytes(3), chance.randbytes(1024)))
     hierarchy = chance.choice((*PRIMARY_HIERARCHIES, RH_LOCKOUT))
     code = chance.choice((SEQUENCE_UPDATE,) * 4 + (SEQUENCE_COMPLETE, EVENT_SEQUENCE_COMPLETE))
     if code == EVENT_SEQUENCE_COMPLETE:
         pcr = chance.choice((chance.randrange(25), RH_NULL))
-        return on_handles(code, [pcr, handle], sized(data), entries(chance, 2))
+        return authorized(chance, known, code, [pcr, handle], sized(data))
     parameters = sized(data)
     parameters += number(hierarchy, 4) if code == SEQUENCE_COMPLETE else b""
     if chance.random() < 0.02:
         return command(code, number(handle, 4) + parameters)
-    return on_handle(code, handle, parameters, entries(chance, 1))
+    return authorized(chance, known, code, [handle], parameters)
 
 
 def changed(chance):
@@ -168,8 +173,10 @@ class Scripts:
 
     def __init__(self, chance, changes=False):
         self.chance, self.contexts, self.changes = chance, list[bytes](), changes
+        self.known = random_sessions.Known()
 
     def heard(self, buffer, response):
+        self.known.heard(buffer, response)
         if int.from_bytes(buffer[6:10], "big") == CONTEXT_SAVE and not any(response[6:10]):
             self.contexts.append(response[10:])
 
@@ -195,7 +202,7 @@ class Scripts:
         found = chance.choices(
             (
                 lambda: primary(chance),
-                lambda: session(chance),
+                lambda: random_sessions.started(chance, self.known),
                 lambda: on_context(chance, CONTEXT_SAVE),
                 lambda: command(CONTEXT_LOAD, self.context()),
                 lambda: on_context(chance, CC.FlushContext),
@@ -208,8 +215,8 @@ class Scripts:
                 lambda: chance.randbytes(chance.randrange(12)),
                 lambda: testing(chance),
                 lambda: changed(chance),
-                lambda: starting(chance),
-                lambda: sequence(chance),
+                lambda: starting(chance, self.known),
+                lambda: sequence(chance, self.known),
             ),
             (6, 3, 9, 6, 6, 1, 5, 2, 2, 0.5, 0.5, 0.5, 3, 0.3 * self.changes, 5, 12),
         )[0]()

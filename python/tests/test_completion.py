@@ -30,6 +30,10 @@ SEEDS, COMMANDS, START = 12, 500, 7
 # Seeds whose commands have no power cycle near their end.
 LONG = 2, 8
 
+# What is added to an action that an HMAC session authorized. The layer sent the device a command.
+BY_SESSION = ", and the device accepts the layer's TPM2_{} by session N"
+BY_GET_RANDOM = BY_SESSION.format("GetRandom")
+
 # The actions that the layer may report, with N for each number.
 DEEDS = {
     "context N of object N, which stays loaded",
@@ -68,15 +72,21 @@ DEEDS = {
     "the HMAC sequence N ends with TPM2_SequenceComplete",
     "the device refuses the layer's TPM2_HMAC",
     "the device refuses the layer's TPM2_PCR_Extend",
+    "the device refuses the layer's TPM2_GetRandom",
+    f"the HMAC sequence N starts{BY_SESSION.format('HMAC')}",
+    f"the event sequence N ends{BY_SESSION.format('PCR_Extend')}",
+    *(f"the {kind} sequence N ends{BY_GET_RANDOM}" for kind in ("hash", "HMAC")),
+    *(f"N bytes are added to the {kind} sequence N{BY_GET_RANDOM}" for kind in KINDS.values()),
     "there is no sequence N",
     "N is not the handle of a transient object",
-    "a password is missing",
+    "an entry is missing",
     "the authorization area is malformed",
     "all N sequences are taken",
     "entry N authorizes nothing",
-    "entry N is not a password, and only passwords authorize sequences",
+    "entry N is not a password",
+    "entry N is not a password or an HMAC session",
     "entry N has a reserved bit",
-    "entry N has an attribute that a password cannot have",
+    "entry N has an attribute other than continueSession",
 }
 
 

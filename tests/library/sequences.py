@@ -272,13 +272,15 @@ def keys_that_cannot(client):
     print("a storage key:", client.code(hmac_start(storage, SHA256)))
     print("no object:", client.code(hmac_start(0x80000007)))
     print("a sequence:", client.code(hmac_start(FIRST)))
-    print("an HMAC session for the key:", client.code(with_session(client, HMAC_START, protected)))
+    parameters = sized(b"") + number(ALG_NULL, 2)
+    buffer = with_session(client, HMAC_START, protected, parameters)
+    print("an HMAC session without an HMAC:", client.code(buffer))
 
 
-def with_session(client, code, handle):
-    """Returns a command whose entry has an HMAC session."""
+def with_session(client, code, handle, parameters):
+    """Returns a command whose entry has an HMAC session, and an empty HMAC."""
     session = client.tpm.session().handle
-    return on_handle(code, handle, sized(b"") + number(ALG_NULL, 2), [entry(session, bytes(16))])
+    return on_handle(code, handle, parameters, [entry(session, bytes(16))])
 
 
 def passwords(client):
@@ -295,7 +297,7 @@ def passwords(client):
         ("one password for two handles", event_complete(PCR, handle, passwords=(b"",))),
         ("three", event_complete(PCR, handle, passwords=(b"", b"pin", b""))),
         ("no sessions", command(UPDATE, number(handle, 4) + sized(b""))),
-        ("an HMAC session", with_session(client, UPDATE, handle)),
+        ("an HMAC session without an HMAC", with_session(client, UPDATE, handle, sized(b""))),
         ("a second entry", on_handle(UPDATE, handle, sized(b""), [entry(hmac=b"pin"), entry()])),
         (
             "a reserved bit",

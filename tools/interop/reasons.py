@@ -13,6 +13,5 @@ REASONS = {
     "object": "objects cannot be loaded by their creation or from outside, be duplicated, or get another authorization value",
     "policy": "these policy commands are not served",
     "scheme": "keyed hashes have no XOR scheme",
-    "sequence": "only passwords authorize TPM2_HMAC_Start and TPM2_EventSequenceComplete, and these tools use HMAC sessions",
     "ticket": "TPM2_PolicySecret has no expiration, and makes no ticket",
 }

@@ -28,19 +28,19 @@ loads_exactly : (first : Seen) (opened : Result Object ContextFault) (seen : See
 loads_exactly first (Ok object) seen (refused, places) = places_exactly refused first object seen places
 loads_exactly first (Err fault) seen is = is
 
-sends_exactly : (first : Seen) (buffer : List ℕ) (locality : ℕ) (sent : Option Sent) (seen : Seen) → Sends false first buffer locality sent seen → seen ≡ sending_after first buffer locality sent
-sends_exactly first buffer locality (Some sent) seen (second, p, is) =
-    is ∙ ap (λ (s : Seen). sent_effect first s sent) (passes_exactly first.layer first.step.after (sent_event sent locality) second p)
-sends_exactly first buffer locality None seen is = is
+sends_exactly : (first : Seen) (buffer : List ℕ) (locality : ℕ) (random : List ℕ) (sent : Option Sent) (seen : Seen) → Sends false first buffer locality random sent seen → seen ≡ sending_after first buffer locality random sent
+sends_exactly first buffer locality random (Some sent) seen (second, p, is) =
+    is ∙ ap (λ (s : Seen). sent_effect first s sent) (passes_exactly first.layer first.step.after (sent_event sent locality random) second p)
+sends_exactly first buffer locality random None seen is = is
 
-behind_exactly : (first : Seen) (buffer : List ℕ) (locality : ℕ) (asked : Option (List ℕ)) (seen : Seen) → Behind false first buffer locality asked seen → seen ≡ done_after first buffer locality asked
-behind_exactly first buffer locality (Some context) seen loads = loads_exactly first (opened_after first context) seen loads
-behind_exactly first buffer locality None seen sends = sends_exactly first buffer locality (sent_after first buffer) seen sends
+behind_exactly : (first : Seen) (buffer : List ℕ) (locality : ℕ) (random : List ℕ) (asked : Option (List ℕ)) (seen : Seen) → Behind false first buffer locality random asked seen → seen ≡ done_after first buffer locality random asked
+behind_exactly first buffer locality random (Some context) seen loads = loads_exactly first (opened_after first context) seen loads
+behind_exactly first buffer locality random None seen sends = sends_exactly first buffer locality random (sent_after first buffer) seen sends
 
 asks_first_exactly : (c : Completion) (old : Record) (buffer : List ℕ) (locality elapsed : ℕ) (random : List ℕ) (seen : Seen) → AsksFirst false c old buffer locality elapsed random seen → seen ≡ completed_with c old (Given buffer locality elapsed random)
 asks_first_exactly c old buffer locality elapsed random seen (first, p, b) =
-    behind_exactly first buffer locality (asked_after first buffer) seen b
-    ∙ ap (λ (f : Seen). behind f buffer locality) (passes_exactly c old (Given buffer locality elapsed random) first p)
+    behind_exactly first buffer locality random (asked_after first buffer) seen b
+    ∙ ap (λ (f : Seen). behind f buffer locality random) (passes_exactly c old (Given buffer locality elapsed random) first p)
 
 pub completes_exactly : (c : Completion) (old : Record) (event : PlainEvent) (seen : Seen) → Completes false c old event seen → seen ≡ completed_with c old event
 completes_exactly c old (Given buffer locality elapsed random) seen x = asks_first_exactly c old buffer locality elapsed random seen x

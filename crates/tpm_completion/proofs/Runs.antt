@@ -23,17 +23,17 @@ loading_leads : (can : Bool) (first : Seen) (opened : Result Object ContextFault
 loading_leads can first (Ok object) seen (refused, places) = placing_leads can refused first object seen places
 loading_leads can first (Err fault) seen is = after_is seen _ is
 
-sending_leads : (can : Bool) (first : Seen) (buffer : List ℕ) (locality : ℕ) (sent : Option Sent) (seen : Seen) (sends : Sends can first buffer locality sent seen) → Leads can first.step.after (run_sending can first buffer locality sent seen sends) seen.step.after
-sending_leads can first buffer locality (Some sent) seen (second, passes, is) = (refl, passes.executes, after_is seen _ is)
-sending_leads can first buffer locality None seen is = after_is seen _ is
+sending_leads : (can : Bool) (first : Seen) (buffer : List ℕ) (locality : ℕ) (random : List ℕ) (sent : Option Sent) (seen : Seen) (sends : Sends can first buffer locality random sent seen) → Leads can first.step.after (run_sending can first buffer locality random sent seen sends) seen.step.after
+sending_leads can first buffer locality random (Some sent) seen (second, passes, is) = (refl, passes.executes, after_is seen _ is)
+sending_leads can first buffer locality random None seen is = after_is seen _ is
 
-behind_leads : (can : Bool) (first : Seen) (buffer : List ℕ) (locality : ℕ) (asked : Option (List ℕ)) (seen : Seen) (behind : Behind can first buffer locality asked seen) → Leads can first.step.after (run_after can first buffer locality asked seen behind) seen.step.after
-behind_leads can first buffer locality (Some context) seen loads = loading_leads can first (opened_after first context) seen loads
-behind_leads can first buffer locality None seen sends = sending_leads can first buffer locality (sent_after first buffer) seen sends
+behind_leads : (can : Bool) (first : Seen) (buffer : List ℕ) (locality : ℕ) (random : List ℕ) (asked : Option (List ℕ)) (seen : Seen) (behind : Behind can first buffer locality random asked seen) → Leads can first.step.after (run_after can first buffer locality random asked seen behind) seen.step.after
+behind_leads can first buffer locality random (Some context) seen loads = loading_leads can first (opened_after first context) seen loads
+behind_leads can first buffer locality random None seen sends = sending_leads can first buffer locality random (sent_after first buffer) seen sends
 
 command_leads : (can : Bool) (c : Completion) (old : Record) (buffer : List ℕ) (locality elapsed : ℕ) (random : List ℕ) (seen : Seen) (asks : AsksFirst can c old buffer locality elapsed random seen) → Leads can old (run_command can c old buffer locality elapsed random seen asks) seen.step.after
 command_leads can c old buffer locality elapsed random seen (first, passes, behind) =
-    (refl, passes.executes, behind_leads can first buffer locality (asked_after first buffer) seen behind)
+    (refl, passes.executes, behind_leads can first buffer locality random (asked_after first buffer) seen behind)
 
 with_leads : (can : Bool) (c : Completion) (old : Record) (event : PlainEvent) (seen : Seen) (completes : Completes can c old event seen) → Leads can old (run_with can c old event seen completes) seen.step.after
 with_leads can c old (Given buffer locality elapsed random) seen completes = command_leads can c old buffer locality elapsed random seen completes

@@ -1,5 +1,5 @@
 -- When a sequence completes, the answer depends only on all its data.
-use Rattle.std.proofs.Common.{◌≡◌, ℕ, Bool, List, [], ◌∷◌, Option, Some, refl, ap, ap₂, ◌∙◌}
+use Rattle.std.proofs.Common.{ℕ, Bool, List, [], ◌∷◌, Option, Some, ap, ap₂, ◌∙◌}
 use Rattle.std.specs.Prelude.{if◌then◌else◌}
 use Rattle.tpm_hash_state.proofs.Absorbing.{digest_is_hash}
 use Rattle.tpm_hash_state.proofs.HmacLaws.{hmac_is_hmac}

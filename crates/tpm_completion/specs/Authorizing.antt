@@ -1,10 +1,12 @@
--- How a command on sequence objects is authorized: by passwords alone, one for each handle that
--- needs authorization. TPM 2.0 Library, Part 3, section 5.5 (session area validation) and 5.6
+-- How a command on sequence objects is authorized: by one entry for each handle that needs
+-- authorization. The first entry contains a password or names an HMAC session, a second entry
+-- contains a password. TPM 2.0 Library, Part 3, section 5.5 (session area validation) and 5.6
 -- (authorization checks), and Part 1, section 32.4 (sequence objects).
-use Rattle.std.specs.Prelude.{ℕ, ◌==◌, ◌||◌, nat_lt, not, List, [], ◌∷◌, length, Result, Ok, Err, ok_or}
+use Rattle.std.specs.Prelude.{ℕ, ◌==◌, ◌&&◌, ◌||◌, nat_lt, not, Bool, List, [], ◌∷◌, length, Result, Ok, Err, ok_or}
 use Rattle.std.specs.Int.{w32}
 use Rattle.tpm_bytes.specs.Reading.{◌>>=◌, number_at, or_fault, refused_if}
-use Rattle.tpm_types.specs.Handle.{is_transient, numbered, password_handle}
+use Rattle.tpm_auth.specs.Entries.{is_password}
+use Rattle.tpm_types.specs.Handle.{is_policy_session, is_session, is_transient, numbered}
 use Rattle.tpm_types.specs.Rc.{at, entry_fault, plain}
 use Rattle.tpm_types.specs.Refused.{checked, refusal}
 use Rattle.tpm_types.specs.SessionAttributes.{audits, has_reserved_bits, uses_cipher}
@@ -66,38 +68,45 @@ sequence_named c n reference handle = do
 unfoldable pub entries_at : List ℕ → Result (List Entry × List ℕ) Refused
 entries_at text = checked check.Entries (area_at text)
 
--- the checks of entry n. They refuse with SIZE if the nonce or password has more than 32 bytes;
--- with HANDLE if the entry is a session's, since only passwords authorize these commands; with
--- RESERVED_BITS or ATTRIBUTES if an attribute other than continueSession is set
-unfoldable pub is_password_entry : (n : ℕ) → Entry → Result (Unit {0}) Refused
-is_password_entry n e = do
+-- whether an entry names an HMAC session. The session need not exist
+abbrev pub names_hmac_session : Entry → Bool
+names_hmac_session e = is_session e.session && not (is_policy_session e.session)
+
+-- the checks of entry n. They refuse with SIZE if the nonce, or the HMAC or password, has more than
+-- 32 bytes; with HANDLE if the handle in the entry is not allowed; with RESERVED_BITS or ATTRIBUTES
+-- if an attribute other than continueSession is set
+unfoldable pub entry_passes : (n : ℕ) → (allowed : Bool) → Entry → Result (Unit {0}) Refused
+entry_passes n allowed e = do
   sizes ← refused_if (nat_lt 32 (length e.nonce) || nat_lt 32 (length e.hmac))
       (entry_refused n code.Size)
-  session ← refused_if (not (e.session.number == password_handle.number))
-      (entry_refused n code.Handle)
+  handle ← refused_if (not allowed) (entry_refused n code.Handle)
   reserved ← refused_if (has_reserved_bits e.attributes) (entry_refused n code.ReservedBits)
   refused_if (audits e.attributes || uses_cipher e.attributes) (entry_refused n code.Attributes)
+
+-- the checks of the first entry, which contains a password or names an HMAC session
+abbrev pub first_passes : Entry → Result (Unit {0}) Refused
+first_passes e = entry_passes 1 (is_password e || names_hmac_session e) e
 
 -- the only entry of a command with one handle. A second entry authorizes nothing, and is refused
 -- with HANDLE
 unfoldable pub only_entry : List Entry → Result Entry Refused
 only_entry [] = Err missing_refused
 only_entry (e ∷ []) = do
-  valid ← is_password_entry 1 e
+  valid ← first_passes e
   Ok e
 only_entry (e ∷ f ∷ more) = do
-  valid ← is_password_entry 1 e
+  valid ← first_passes e
   Err (entry_refused 2 code.Handle)
 
--- the two entries of a command with two handles. A missing second entry is refused with
--- AUTH_MISSING, a third entry with HANDLE
+-- the two entries of a command with two handles. The second contains a password. A missing second
+-- entry is refused with AUTH_MISSING, a third entry with HANDLE
 unfoldable pub two_entries : List Entry → Result (Entry × Entry) Refused
 two_entries [] = Err missing_refused
 two_entries (e ∷ []) = do
-  valid ← is_password_entry 1 e
+  valid ← first_passes e
   Err missing_refused
 two_entries (e ∷ f ∷ more) = do
-  first ← is_password_entry 1 e
-  second ← is_password_entry 2 f
+  first ← first_passes e
+  second ← entry_passes 2 (is_password f) f
   third ← refused_if (not (length more == 0)) (entry_refused 3 code.Handle)
   Ok (e, f)

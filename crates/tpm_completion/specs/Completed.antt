@@ -28,25 +28,28 @@ loaded_after first (Err fault) = unopened_after first fault
 
 -- the effect after the device refused a command: the device executes the command that the layer
 -- sends or, if there is none, the layer may answer
-abbrev pub sending_after : Seen → (buffer : List ℕ) → (locality : ℕ) → Option Sent → Seen
-sending_after first buffer locality (Some sent) =
-    sent_effect first (passed first.layer first.step.after (sent_event sent locality)) sent
-sending_after first buffer locality None = answered first (reply_after first buffer)
+abbrev pub sending_after : Seen → (buffer : List ℕ) → (locality : ℕ) → (random : List ℕ)
+    → Option Sent → Seen
+sending_after first buffer locality random (Some sent) =
+    sent_effect first (passed first.layer first.step.after (sent_event sent locality random)) sent
+sending_after first buffer locality random None = answered first (reply_after first buffer)
 
 -- the effect after the device has executed a command: the context of an object is loaded, or the
 -- layer sends a command to the device, or it may answer
-abbrev pub done_after : Seen → (buffer : List ℕ) → (locality : ℕ) → Option (List ℕ) → Seen
-done_after first buffer locality (Some context) =
+abbrev pub done_after : Seen → (buffer : List ℕ) → (locality : ℕ) → (random : List ℕ)
+    → Option (List ℕ) → Seen
+done_after first buffer locality random (Some context) =
     loaded_after first (opened_after first context)
-done_after first buffer locality None =
-    sending_after first buffer locality (sent_after first buffer)
+done_after first buffer locality random None =
+    sending_after first buffer locality random (sent_after first buffer)
 
-abbrev pub behind : Seen → (buffer : List ℕ) → (locality : ℕ) → Seen
-behind first buffer locality = done_after first buffer locality (asked_after first buffer)
+abbrev pub behind : Seen → (buffer : List ℕ) → (locality : ℕ) → (random : List ℕ) → Seen
+behind first buffer locality random =
+    done_after first buffer locality random (asked_after first buffer)
 
 abbrev pub completed_with : Completion → Record → PlainEvent → Seen
 completed_with c old (Given buffer locality elapsed random) =
-    behind (passed c old (Given buffer locality elapsed random)) buffer locality
+    behind (passed c old (Given buffer locality elapsed random)) buffer locality random
 completed_with c old Cycled = passed c old Cycled
 completed_with c old (Placed object) = passed c old (Placed object)
 

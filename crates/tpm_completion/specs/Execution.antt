@@ -1,6 +1,6 @@
 -- How the completing layer handles one event: what the device executes, what the client gets, and
 -- the layer's new state.
-use Rattle.std.specs.Prelude.{◌≡◌, ℕ, ◌==◌, Bool, true, false, List, replicate, Option, Some, None, Result, Ok, Err}
+use Rattle.std.specs.Prelude.{◌≡◌, ℕ, ◌==◌, Bool, true, false, List, Option, Some, None, Result, Ok, Err}
 use Rattle.tpm_machine.specs.Follows.{After, Follows}
 use Rattle.tpm_machine.specs.Drawn.{drawn_by}
 use Rattle.tpm_machine.specs.State.{latest_drawn, state_of}
@@ -113,17 +113,17 @@ abbrev pub sent_after : Seen → (buffer : List ℕ) → Option Sent
 sent_after first buffer =
     sent_for first.step.after first.layer buffer first.step.response
 
--- the event of the command that the layer sends. It follows the client's command at once. The
--- command draws no random bytes; the event contains zeros
-abbrev pub sent_event : Sent → (locality : ℕ) → PlainEvent
-sent_event sent locality = Given sent.command locality 0 (replicate 256 0)
+-- the event of the command that the layer sends. It follows the client's command at once, and has
+-- its random bytes, of which the device drew none when it refused the client's command
+abbrev pub sent_event : Sent → (locality : ℕ) → (random : List ℕ) → PlainEvent
+sent_event sent locality random = Given sent.command locality 0 random
 
 -- the effect after the device executed the command that the layer sent; `second` is that command's
 -- own effect. The row remains that of the client's command, which the device refused
 abbrev pub sent_effect : (first second : Seen) → Sent → Seen
 sent_effect first second sent =
     let reply : Reply =
-    sent_reply second.layer (second.step.row.check == 0) sent.work second.step.response in
+    sent_reply second.layer (second.step.row.check == 0) sent second.step.response in
     record {
       step = record second.step { response = reply.response; row = first.step.row };
       layer = reply.after;
@@ -145,28 +145,30 @@ reply_after first buffer =
 
 -- After the device refused a command, it executes the command that the layer sends, if there is
 -- one. Otherwise, the layer answers, or the client gets the device's response.
-abbrev pub Sends : (can : Bool) → Seen → (buffer : List ℕ) → (locality : ℕ) → Option Sent → Seen
-    → Type 0
-Sends can first buffer locality (Some sent) seen =
-    (second : Seen) × Passes can first.layer first.step.after (sent_event sent locality) second
+abbrev pub Sends : (can : Bool) → Seen → (buffer : List ℕ) → (locality : ℕ) → (random : List ℕ)
+    → Option Sent → Seen → Type 0
+Sends can first buffer locality random (Some sent) seen =
+    (second : Seen)
+    × Passes can first.layer first.step.after (sent_event sent locality random) second
     × (seen ≡ sent_effect first second sent)
-Sends can first buffer locality None seen = seen ≡ answered first (reply_after first buffer)
+Sends can first buffer locality random None seen =
+    seen ≡ answered first (reply_after first buffer)
 
 -- After the device has executed a command, the context of an object is loaded, or the layer sends a
 -- command to the device, or the layer answers, or the client gets the device's response.
-abbrev pub Behind : (can : Bool) → Seen → (buffer : List ℕ) → (locality : ℕ) → Option (List ℕ)
-    → Seen → Type 0
-Behind can first buffer locality (Some context) seen =
+abbrev pub Behind : (can : Bool) → Seen → (buffer : List ℕ) → (locality : ℕ) → (random : List ℕ)
+    → Option (List ℕ) → Seen → Type 0
+Behind can first buffer locality random (Some context) seen =
     Loads can first (opened_after first context) seen
-Behind can first buffer locality None seen =
-    Sends can first buffer locality (sent_after first buffer) seen
+Behind can first buffer locality random None seen =
+    Sends can first buffer locality random (sent_after first buffer) seen
 
 -- The device executes the command first, and the layer may answer afterwards.
 abbrev pub AsksFirst : Bool → Completion → Record → (buffer : List ℕ) → (locality elapsed : ℕ)
     → List ℕ → Seen → Type 0
 AsksFirst can c old buffer locality elapsed random seen =
     (first : Seen) × Passes can c old (Given buffer locality elapsed random) first
-    × Behind can first buffer locality (asked_after first buffer) seen
+    × Behind can first buffer locality random (asked_after first buffer) seen
 
 -- An event has this effect with the layer. The device alone executes a power cycle or a placed
 -- object.

@@ -23,6 +23,7 @@ pub mod SequenceReply
 pub mod Sequenced
 pub mod SequenceRows
 pub mod Sequences
+pub mod SessionEntry
 pub mod Testing
 pub mod Told
 pub use Rattle.tpm_machine.specs.Drawn

@@ -33,27 +33,27 @@ run_loading can first (Err fault) seen is = []
 
 -- the device's execution of the command that the layer sends; none if the layer sends no command
 abbrev pub run_sending : (can : Bool) (first : Seen) (buffer : List ℕ) (locality : ℕ)
-    (sent : Option Sent) (seen : Seen) → Sends can first buffer locality sent seen
-    → List Execution
-run_sending can first buffer locality (Some sent) seen (second, passes, is) =
-    executed first.step.after (sent_event sent locality) second.step ∷ []
-run_sending can first buffer locality None seen is = []
+    (random : List ℕ) (sent : Option Sent) (seen : Seen)
+    → Sends can first buffer locality random sent seen → List Execution
+run_sending can first buffer locality random (Some sent) seen (second, passes, is) =
+    executed first.step.after (sent_event sent locality random) second.step ∷ []
+run_sending can first buffer locality random None seen is = []
 
 -- the device's executions after it executed the client's command
 abbrev pub run_after : (can : Bool) (first : Seen) (buffer : List ℕ) (locality : ℕ)
-    (asked : Option (List ℕ)) (seen : Seen) → Behind can first buffer locality asked seen
-    → List Execution
-run_after can first buffer locality (Some context) seen loads =
+    (random : List ℕ) (asked : Option (List ℕ)) (seen : Seen)
+    → Behind can first buffer locality random asked seen → List Execution
+run_after can first buffer locality random (Some context) seen loads =
     run_loading can first (opened_after first context) seen loads
-run_after can first buffer locality None seen sends =
-    run_sending can first buffer locality (sent_after first buffer) seen sends
+run_after can first buffer locality random None seen sends =
+    run_sending can first buffer locality random (sent_after first buffer) seen sends
 
 abbrev pub run_command : (can : Bool) (c : Completion) (old : Record) (buffer : List ℕ)
     (locality elapsed : ℕ) (random : List ℕ) (seen : Seen)
     → AsksFirst can c old buffer locality elapsed random seen → List Execution
 run_command can c old buffer locality elapsed random seen (first, passes, behind) =
     executed old (Given buffer locality elapsed random) first.step
-    ∷ run_after can first buffer locality (asked_after first buffer) seen behind
+    ∷ run_after can first buffer locality random (asked_after first buffer) seen behind
 
 abbrev pub run_with : (can : Bool) (c : Completion) (old : Record) (event : PlainEvent)
     (seen : Seen) → Completes can c old event seen → List Execution

@@ -32,32 +32,39 @@ abbrev pub row_reply : Completion → Result Reply Refused → Reply
 row_reply c (Ok reply) = reply
 row_reply c (Err e) = refused c (rc_number e.rc)
 
--- the refusal of a command for which the layer would otherwise send a command to the device
-abbrev pub unsent_reply : Completion → Option (Result Sent Refused) → Option Reply
-unsent_reply c (Some (Ok sent)) = None
-unsent_reply c (Some (Err e)) = Some (refused c (rc_number e.rc))
-unsent_reply c None = None
+-- the refusal of a command for which the layer would otherwise send a command to the device; the
+-- other answer if the layer sends no command for it
+abbrev pub unsent_reply : Completion → (other : Option Reply) → Option (Result Sent Refused)
+    → Option Reply
+unsent_reply c other (Some (Ok sent)) = None
+unsent_reply c other (Some (Err e)) = Some (refused c (rc_number e.rc))
+unsent_reply c other None = other
 
--- the answer to a command with sessions: SequenceUpdate (15C), SequenceComplete (13E), or a refused
--- HMAC_Start (15B) or EventSequenceComplete (185)
-abbrev pub authorized_reply : Record → Completion → Command → Option Reply
-authorized_reply r c command =
+-- the answer to SequenceUpdate (15C) or SequenceComplete (13E) with a password
+abbrev pub password_reply : Record → Completion → Command → Option Reply
+password_reply r c command =
     if command.code == 0x15c then Some (row_reply c (update_row c command.parameters))
     else (if command.code == 0x13e then
     Some (row_reply c (complete_row r.fixed.hierarchies c command.parameters))
-    else unsent_reply c (sent_by r c command.code command.parameters))
+    else None)
 
--- whether a command with this code needs a password
-abbrev pub needs_password : (code : ℕ) → Bool
-needs_password code =
+-- the answer to a command with sessions: the refusal of a command for which the layer would
+-- otherwise send a command to the device, or the answer to a command with a password
+abbrev pub authorized_reply : Record → Completion → Command → Option Reply
+authorized_reply r c command =
+    unsent_reply c (password_reply r c command) (sent_by r c command.code command.parameters)
+
+-- whether a command with this code needs an authorization area
+abbrev pub needs_entry : (code : ℕ) → Bool
+needs_entry code =
     (code == 0x15b) || ((code == 0x15c) || ((code == 0x13e) || (code == 0x185)))
 
 -- the answer to a command without sessions: HashSequenceStart (186), or AUTH_MISSING (125) for a
--- command that needs a password
+-- command that needs an authorization area
 abbrev pub bare_reply : Completion → Command → Option Reply
 bare_reply c command =
     if command.code == 0x186 then Some (row_reply c (hash_start_row c command.parameters))
-    else (if needs_password command.code then Some (refused c 0x125)
+    else (if needs_entry command.code then Some (refused c 0x125)
     else None)
 
 -- the answer to a buffer that the device refused with COMMAND_CODE; `plain` is the buffer parsed as

@@ -34,6 +34,8 @@ use Rattle.tpm_completion.specs.Hashing.{hierarchy_at, ticketed_text}
 use Rattle.tpm_completion.specs.Saving.{Reply}
 use Rattle.tpm_completion.specs.Sequences.{free_slot, in_slot, sequence_handle, with_sequence, without_sequence}
 use Rattle.tpm_completion.specs.declared.completion.Completion.{Completion}
+use Rattle.tpm_completion.specs.declared.sequence_rows.NamedSequence.{NamedSequence}
+use Rattle.tpm_types_command.specs.AuthEntry.{Entry, entry_of}
 
 -- ---- responses to commands with passwords
 
@@ -83,33 +85,56 @@ hash_start_row c parameters = do
 
 -- ---- TPM2_SequenceUpdate
 
--- a sequence object that a command names, and the command's parameters
+-- a sequence object that a command names, the entry that authorizes it, and the command's parameters
 pub record Named : Type 0 where
   pub slot : ℕ
   pub object : SequenceObject
+  pub entry : Entry
   pub parameters : List ℕ
 
--- the sequence object that the only handle of a command names, authorized by the password in the
--- only entry
-unfoldable pub sequence_in : Completion → List ℕ → Result Named Refused
-sequence_in c text = do
+-- the value of a `NamedSequence`, regardless of where its bytes are in memory
+abbrev pub named_of : NamedSequence → Named
+named_of named = record {
+  slot = named.slot;
+  object = named.object;
+  entry = entry_of named.entry;
+  parameters = named.parameters.now;
+}
+
+-- the sequence object that the only handle of a command names, and the only entry, which is not yet
+-- compared
+unfoldable pub named_in : Completion → List ℕ → Result Named Refused
+named_in c text = do
   handle ← handle_at 1 text
   slot ← sequence_named c 1 code.ReferenceH0 handle.0
   object ← ok_or (in_slot c slot) (absent_refused code.ReferenceH0)
   entries ← entries_at handle.1
   entry ← only_entry entries.0
-  wrong ← refused_if (not (is_authorized object entry.hmac)) (password_refused 1)
-  Ok (record { slot = slot; object = object; parameters = entries.1 })
+  Ok (record { slot = slot; object = object; entry = entry; parameters = entries.1 })
 
--- TPM2_SequenceUpdate, whose parameter is buffer
+-- the sequence object that the only handle of a command names, authorized by the password in the
+-- only entry
+unfoldable pub sequence_in : Completion → List ℕ → Result Named Refused
+sequence_in c text = do
+  named ← named_in c text
+  wrong ← refused_if (not (is_authorized named.object named.entry.hmac)) (password_refused 1)
+  Ok named
+
+-- the sequence object after TPM2_SequenceUpdate, whose parameter is buffer
+unfoldable pub updated_in : Named → Result SequenceObject Refused
+updated_in named = do
+  bytes ← parameter 1 (buffer_at data_limit named.parameters)
+  ended ← all_read bytes.1
+  Ok (object_updated named.object bytes.0)
+
+-- TPM2_SequenceUpdate with a password
 unfoldable pub update_row : Completion → List ℕ → Result Reply Refused
 update_row c text = do
   named ← sequence_in c text
-  bytes ← parameter 1 (buffer_at data_limit named.parameters)
-  ended ← all_read bytes.1
+  object ← updated_in named
   Ok (record {
     response = authorized_success [] [] password_answer;
-    after = with_sequence c named.slot (object_updated named.object bytes.0);
+    after = with_sequence c named.slot object;
   })
 
 -- ---- TPM2_SequenceComplete
@@ -123,16 +148,21 @@ completion_text h asked (Hash state beginning) =
 completion_text h asked (Hmac state) = Some (ticketed_text h kind.Null (hmac_digest state))
 completion_text h asked (Event sha1 sha256) = None
 
--- TPM2_SequenceComplete, whose parameters are buffer and hierarchy. It removes the sequence object.
--- Check A1 refuses an event sequence with MODE for handle 1
-unfoldable pub complete_row : Hierarchies → Completion → List ℕ → Result Reply Refused
-complete_row h c text = do
-  named ← sequence_in c text
+-- the answer to TPM2_SequenceComplete, whose parameters are buffer and hierarchy. Check A1 refuses
+-- an event sequence with MODE for handle 1
+unfoldable pub completed_in : Hierarchies → Named → Result (List ℕ) Refused
+completed_in h named = do
   bytes ← parameter 1 (buffer_at data_limit named.parameters)
   asked ← parameter 2 (hierarchy_at bytes.1)
   ended ← all_read asked.1
-  answer ← ok_or (completion_text h asked.0 (sequence_updated named.object.sequence bytes.0))
+  ok_or (completion_text h asked.0 (sequence_updated named.object.sequence bytes.0))
       (mode_refused 1)
+
+-- TPM2_SequenceComplete with a password. It removes the sequence object
+unfoldable pub complete_row : Hierarchies → Completion → List ℕ → Result Reply Refused
+complete_row h c text = do
+  named ← sequence_in c text
+  answer ← completed_in h named
   Ok (record {
     response = authorized_success [] answer password_answer;
     after = without_sequence c named.slot;

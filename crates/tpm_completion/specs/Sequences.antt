@@ -1,6 +1,6 @@
 -- The sequence objects of the completing layer, and their handles. TPM 2.0 Library, Part 1, section
 -- 32.4 (hash, HMAC and event sequences), and Part 2, section 7.2 (TPM_HT).
-use Rattle.std.specs.Prelude.{ℕ, ◌+◌, ◌-◌, ◌&&◌, nat_lt, not, Bool, List, get_or, is_none, is_some, length, option_and_then, replicate, slice_set, if◌then◌else◌, Option, Some, None}
+use Rattle.std.specs.Prelude.{ℕ, ◌+◌, ◌-◌, ◌&&◌, nat_lt, not, Bool, List, get_or, is_none, is_some, option_and_then, replicate, slice_set, if◌then◌else◌, Option, Some, None}
 use Rattle.std.specs.List.{flat_map}
 use Rattle.tpm_bytes.specs.Numbers.{numbers_below}
 use Rattle.tpm_containers.specs.Numbered.{number_of, place_of}

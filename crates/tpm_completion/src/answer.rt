@@ -27,7 +27,7 @@ pub fn answer(code: u32, body: &[u8], text: &mut Response)
 pub fn answer_authorized(handle: &[u8], parameters: &[u8], area: &[u8], text: &mut Response)
     requires handle { length handle.now ≤ 4 }
     requires parameters { length parameters.now ≤ 600 }
-    requires area { length area.now ≤ 10 }
+    requires area { length area.now ≤ 100 }
     ensures { text.new.items ≡ authorized_success handle.now parameters.now area.now }
 {
     let size = 14 + handle.len() + parameters.len() + area.len();

@@ -1,14 +1,16 @@
-//! Authorizes the commands on sequence objects, by passwords alone.
+//! Checks the authorization areas of the commands on sequence objects. The first entry contains a
+//! password or names an HMAC session, a second entry contains a password.
 
 ghost use Rattle.std.specs.Prelude.{◌≡◌, ◌≤◌, IfOk, length, map};
 ghost use Rattle.tpm_bytes.specs.Reading.{Gives, Reads};
+ghost use Rattle.tpm_auth.specs.Entries.{is_password};
 ghost use Rattle.tpm_types_command.specs.AuthEntry.{entry_of};
-ghost use Rattle.tpm_completion.specs.Authorizing.{absent_refused, entries_at, entry_refused, handle_at, handle_refused, is_password_entry, missing_refused, only_entry, password_refused, sequence_named, two_entries};
+ghost use Rattle.tpm_completion.specs.Authorizing.{absent_refused, entries_at, entry_passes, entry_refused, first_passes, handle_at, handle_refused, missing_refused, names_hmac_session, only_entry, password_refused, sequence_named, two_entries};
 
 use crate::completion::Completion;
 use arrayvec::ArrayVec;
 use tpm_bytes::Cursor;
-use tpm_types::{Check, Handle, Refused, ResponseCode, SessionKind};
+use tpm_types::{Check, Handle, Refused, ResponseCode};
 use tpm_types_command::AuthEntry;
 use tpm_types_command::auth_area::AuthArea;
 
@@ -74,17 +76,31 @@ pub fn read_entries<'a>(text: &mut Cursor<'a>) -> Result<Entries<'a>, Refused>
     }
 }
 
-/// Checks that the entry with this number contains a password.
-#[tactic(auto, unfolding(crate::specs::Authorizing::is_password_entry))]
-fn check_entry(number: u8, entry: &AuthEntry) -> Result<(), Refused>
-    ensures value { result ≡ is_password_entry number (entry_of entry.now) }
+/// Whether an entry contains a password.
+pub fn is_password(entry: &AuthEntry) -> bool
+    ensures { result ≡ is_password (entry_of entry.now) }
+{
+    entry.session == Handle::PASSWORD
+}
+
+/// Whether an entry names an HMAC session.
+fn names_hmac_session(entry: &AuthEntry) -> bool
+    ensures { result ≡ names_hmac_session (entry_of entry.now) }
+{
+    entry.session.is_session() && !entry.session.is_policy_session()
+}
+
+/// Checks the entry with this number. `allowed` says whether its handle is allowed.
+#[tactic(auto, unfolding(crate::specs::Authorizing::entry_passes))]
+fn check_entry(number: u8, allowed: bool, entry: &AuthEntry) -> Result<(), Refused>
+    ensures value { result ≡ entry_passes number allowed (entry_of entry.now) }
     ensures small { IfOk result (λ valid. (length entry.now.nonce.now ≤ 32)
         × (length entry.now.hmac.now ≤ 32)) }
 {
     if entry.nonce.len() > 32 || entry.hmac.len() > 32 {
         return Err(entry_refused(number, ResponseCode::Size));
     }
-    if !matches!(entry.session.session_kind(), SessionKind::Password) {
+    if !allowed {
         return Err(entry_refused(number, ResponseCode::Handle));
     }
     if entry.attributes.has_reserved_bits() {
@@ -96,7 +112,16 @@ fn check_entry(number: u8, entry: &AuthEntry) -> Result<(), Refused>
     Ok(())
 }
 
-/// The only entry of a command with one handle, which contains a password.
+/// Checks the first entry, which contains a password or names an HMAC session.
+fn check_first(entry: &AuthEntry) -> Result<(), Refused>
+    ensures value { result ≡ first_passes (entry_of entry.now) }
+    ensures small { IfOk result (λ valid. (length entry.now.nonce.now ≤ 32)
+        × (length entry.now.hmac.now ≤ 32)) }
+{
+    check_entry(1, is_password(entry) || names_hmac_session(entry), entry)
+}
+
+/// The only entry of a command with one handle.
 #[tactic(auto, unfolding(crate::specs::Authorizing::only_entry))]
 pub fn only_entry<'a>(entries: &[AuthEntry<'a>]) -> Result<AuthEntry<'a>, Refused>
     ensures value { Gives entry_of (only_entry (map entry_of entries.now)) result }
@@ -106,17 +131,17 @@ pub fn only_entry<'a>(entries: &[AuthEntry<'a>]) -> Result<AuthEntry<'a>, Refuse
     match entries {
         [] => Err(missing_refused()),
         [entry] => {
-            check_entry(1, entry)?;
+            check_first(entry)?;
             Ok(*entry)
         }
         [entry, ..] => {
-            check_entry(1, entry)?;
+            check_first(entry)?;
             Err(entry_refused(2, ResponseCode::Handle))
         }
     }
 }
 
-/// The two entries of a command with two handles, each of which contains a password.
+/// The two entries of a command with two handles. The second contains a password.
 #[tactic(auto, unfolding(crate::specs::Authorizing::two_entries))]
 pub fn two_entries<'a>(entries: &[AuthEntry<'a>]) -> Result<(AuthEntry<'a>, AuthEntry<'a>), Refused>
     ensures value { Gives (λ both. (entry_of both.0, entry_of both.1))
@@ -127,12 +152,12 @@ pub fn two_entries<'a>(entries: &[AuthEntry<'a>]) -> Result<(AuthEntry<'a>, Auth
     match entries {
         [] => Err(missing_refused()),
         [entry] => {
-            check_entry(1, entry)?;
+            check_first(entry)?;
             Err(missing_refused())
         }
         [first, second, more @ ..] => {
-            check_entry(1, first)?;
-            check_entry(2, second)?;
+            check_first(first)?;
+            check_entry(2, is_password(second), second)?;
             if !more.is_empty() {
                 return Err(entry_refused(3, ResponseCode::Handle));
             }

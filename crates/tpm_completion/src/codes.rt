@@ -7,6 +7,8 @@ pub const INCREMENTAL_SELF_TEST: u32 = 0x142;
 
 pub const STIR_RANDOM: u32 = 0x146;
 
+pub const HMAC: u32 = 0x155;
+
 pub const HMAC_START: u32 = 0x15b;
 
 pub const SEQUENCE_UPDATE: u32 = 0x15c;
@@ -19,9 +21,13 @@ pub const FLUSH_CONTEXT: u32 = 0x165;
 
 pub const GET_CAPABILITY: u32 = 0x17a;
 
+pub const GET_RANDOM: u32 = 0x17b;
+
 pub const GET_TEST_RESULT: u32 = 0x17c;
 
 pub const HASH: u32 = 0x17d;
+
+pub const PCR_EXTEND: u32 = 0x182;
 
 pub const EVENT_SEQUENCE_COMPLETE: u32 = 0x185;
 

@@ -111,7 +111,7 @@ fn complete<K: Keep>(
 {
     let event = Event::of_command(buffer, locality, elapsed_ms, *random);
     pass(machine, layer, &event, outcome);
-    answer_after(machine, layer, buffer, locality, outcome);
+    answer_after(machine, layer, buffer, locality, random, outcome);
 }
 
 /// Loads an object if the command is to load an object's context. Otherwise, the layer may send a
@@ -121,16 +121,17 @@ fn answer_after<K: Keep>(
     layer: &mut Completion,
     buffer: &[u8],
     locality: Locality,
+    random: &[u8; 256],
     outcome: &mut Outcome,
 )
     ensures { Behind K.can_refuse (seen_of K.record_of machine.old layer.old outcome.old)
-        buffer.now (locality_number locality)
+        buffer.now (locality_number locality) random.now
         (asked_after (seen_of K.record_of machine.old layer.old outcome.old) buffer.now)
         (seen_of K.record_of machine.new layer.new outcome.new) }
 {
     match context_asked(machine.keep(), buffer, outcome.response.as_slice()) {
         Some(context) => load(machine, layer, context, outcome),
-        None => send_or_answer(machine, layer, buffer, locality, outcome),
+        None => send_or_answer(machine, layer, buffer, locality, random, outcome),
     }
 }
 
@@ -141,15 +142,16 @@ fn send_or_answer<K: Keep>(
     layer: &mut Completion,
     buffer: &[u8],
     locality: Locality,
+    random: &[u8; 256],
     outcome: &mut Outcome,
 )
     ensures { Sends K.can_refuse (seen_of K.record_of machine.old layer.old outcome.old)
-        buffer.now (locality_number locality)
+        buffer.now (locality_number locality) random.now
         (sent_after (seen_of K.record_of machine.old layer.old outcome.old) buffer.now)
         (seen_of K.record_of machine.new layer.new outcome.new) }
 {
     match layer.sent_for(machine.keep(), buffer, outcome.response.as_slice()) {
-        Some(sent) => send(machine, layer, &sent, locality, outcome),
+        Some(sent) => send(machine, layer, &sent, locality, random, outcome),
         None => {
             let was_told = outcome.row.check == 0;
             layer.reply(machine.keep(), buffer, was_told, &mut outcome.response);
@@ -164,19 +166,20 @@ fn send<K: Keep>(
     layer: &mut Completion,
     sent: &Sent,
     locality: Locality,
+    random: &[u8; 256],
     outcome: &mut Outcome,
 )
     ensures { (buffer : List ℕ)
         → Sends K.can_refuse (seen_of K.record_of machine.old layer.old outcome.old) buffer
-        (locality_number locality) (Some sent.now)
+        (locality_number locality) random.now (Some sent.now)
         (seen_of K.record_of machine.new layer.new outcome.new) }
 {
     let row = outcome.row;
-    let event = Event::of_command(sent.command.as_slice(), locality, 0, [0; 256]);
+    let event = Event::of_command(sent.command.as_slice(), locality, 0, *random);
     pass(machine, layer, &event, outcome);
     let accepted = outcome.row.check == 0;
     outcome.row = row;
-    layer.answer_sent(accepted, sent.work.as_ref(), &mut outcome.response);
+    layer.answer_sent(accepted, sent, &mut outcome.response);
 }
 
 /// Loads the object of a context, or refuses the context.

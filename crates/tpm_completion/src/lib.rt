@@ -13,7 +13,8 @@
 //! The context of a session is a token, and the session stays in its slot. The context of an object
 //! contains the whole object, encrypted and authenticated (tpm_context). The layer changes the
 //! device in two ways: it places the object of a context in a free slot, which is an event of
-//! tpm_machine, or it sends a command ([`sending`]).
+//! tpm_machine, or it sends a command ([`sending`]), if necessary with the client's session
+//! ([`session_entry`]).
 
 mod answer;
 mod authorizing;
@@ -22,9 +23,11 @@ mod codes;
 mod command;
 pub mod completion;
 mod context;
+mod event_completing;
 pub mod execution;
 mod handles;
 mod hashing;
+mod hmac_starting;
 pub mod laws;
 mod listing;
 mod loading;
@@ -32,9 +35,11 @@ mod properties;
 mod reply;
 mod saving;
 mod sending;
+mod sent_commands;
 mod sequence_reply;
 mod sequence_rows;
 mod sequences;
+mod session_entry;
 mod testing;
 
 pub use completion::Completion;

@@ -1,45 +1,40 @@
 //! The commands on sequence objects for which the layer sends a command to the device: TPM2_HMAC
-//! for TPM2_HMAC_Start, and TPM2_PCR_Extend for TPM2_EventSequenceComplete.
+//! for TPM2_HMAC_Start, TPM2_PCR_Extend for TPM2_EventSequenceComplete, and TPM2_GetRandom of no
+//! bytes for TPM2_SequenceUpdate and TPM2_SequenceComplete with a session.
 
-ghost use Rattle.std.specs.Prelude.{◌≡◌, ◌≤◌, ◌+◌, ◌++◌, [], IfOk, length, map, option_copied};
-ghost use Rattle.std.specs.Int.{w32, to_be_bytes};
-ghost use Rattle.std.specs.Prelude.{option_and_then, option_map};
-ghost use Rattle.tpm_record.specs.Entity.{object_of};
-ghost use Rattle.tpm_bytes.specs.Reading.{Gives};
-ghost use Rattle.tpm_step.specs.step.Answer.{framed};
-ghost use Rattle.tpm_types_command.specs.AuthEntry.{entry_of};
-ghost use Rattle.tpm_completion.specs.Sending.{area_of, digests_text, event_complete_sent, extend_command, hmac_command, hmac_start_in, hmac_start_sent, key_hash, keyed_sequence, sent_by, sent_for, sent_reply, start_of, start_work, work_done};
+ghost use Rattle.std.specs.Prelude.{◌≡◌, ◌≤◌, ◌++◌, length};
+ghost use Rattle.tpm_step.specs.step.Entries.{password_answer};
+ghost use Rattle.tpm_completion.specs.Sending.{complete_sent, random_sent, sent_answer, sent_by, sent_for, sent_reply, unless_password, update_sent, work_done};
+ghost use Rattle.tpm_completion.specs.SequenceRows.{named_in, named_of};
 
 use crate::answer::{answer_authorized, is_refusal};
-use crate::authorizing::{
-    absent_refused, only_entry, password_refused, read_entries, read_handle, two_entries,
+use crate::authorizing::is_password;
+use crate::codes::{
+    COMMAND_CODE, EVENT_SEQUENCE_COMPLETE, GET_RANDOM, HMAC_START, SEQUENCE_COMPLETE,
+    SEQUENCE_UPDATE,
 };
-use crate::codes::{COMMAND_CODE, EVENT_SEQUENCE_COMPLETE, HMAC_START};
 use crate::command::PlainCommand;
 use crate::completion::Completion;
-use crate::sequence_rows::{PASSWORD_ANSWER, full_refused, mode_refused};
+use crate::sent_commands::{COMMAND_LIMIT, RANDOM_PARAMETERS, random_command, with_hmac};
+use crate::sequence_rows::{NamedSequence, PASSWORD_ANSWER};
 use crate::sequences::sequence_handle;
-use tpm_bytes::{Cursor, Sink};
-use tpm_mac::HashAlg;
-use tpm_object::Object;
-use tpm_record::rows::reading::{end, parameter};
-use tpm_record::{Keep, object_of};
-use tpm_sequence::{Sequence, SequenceObject};
+use crate::session_entry::{Covered, EntryAnswer, entry_answered, first_answer, hmac_sent};
+use crate::testing::Body;
+use tpm_bytes::Sink;
+use tpm_record::Keep;
+use tpm_sequence::SequenceObject;
 use tpm_step::Response;
-use tpm_types::{
-    DATA_LIMIT, Handle, Refused, ResponseCode, hash_or_null_number, read_buffer, read_hash_or_null,
-};
-use tpm_types_command::AuthEntry;
-use tpm_types_object::{KeyedHashScheme, PublicParameters};
-
-/// The capacity for a command that the layer sends, in bytes.
-const COMMAND_LIMIT: usize = 192;
+use tpm_types::{Refused, trimmed};
 
 /// What the layer does after the device accepted the command that the layer sent.
 #[derive(Drop)]
 pub enum Work {
-    /// Puts an HMAC sequence into a slot.
+    /// Puts an HMAC sequence into a slot, and answers with its handle.
     Starts(u8, SequenceObject),
+    /// Puts the updated sequence into its slot.
+    Updates(u8, SequenceObject),
+    /// Removes the sequence in a slot, and answers with the encoded digest or HMAC, and its ticket.
+    Completes(u8, Body),
     /// Removes the event sequence in a slot, and answers with the encoded digests.
     Ends(u8, Sink<80>),
 }
@@ -48,192 +43,110 @@ pub enum Work {
 #[derive(Drop)]
 pub struct Sent {
     pub command: Sink<COMMAND_LIMIT>,
+    /// The code of the client's command.
+    pub code: u32,
     pub work: Option<Work>,
+    /// How the layer answers the first entry of the client's command, if it names a session.
+    pub answer: Option<EntryAnswer>,
 }
 
-/// Begins the body of a command: a handle, and an authorization area with one entry.
-#[tactic(auto, using(tpm_types_command::proofs::EntryLaws::entry_sizes))]
-fn append_handle(handle: Handle, entry: &AuthEntry, body: &mut Sink<COMMAND_LIMIT>)
-    requires empty { body.old ≡ [] }
-    requires nonce { length entry.now.nonce.now ≤ 32 }
-    requires hmac { length entry.now.hmac.now ≤ 32 }
-    ensures text { body.new ≡ to_be_bytes w32 handle.number ++ area_of (entry_of entry.now) }
-    ensures small { length body.new ≤ 81 }
-{
-    let size = 9 + entry.nonce.len() + entry.hmac.len();
-    body.append_u32(handle.number);
-    body.append_u32(size as u32);
-    entry.append_to(body);
-}
+impl Sent {
+    /// The answer to the first entry of the client's command, if the answer to the command has
+    /// these parameters. `response` is the device's response to the layer's command.
+    fn answer_to_first(&self, parameters: &[u8], response: &[u8]) -> Sink<80>
+        ensures value { result ≡ sent_answer self.now parameters.now response.now }
+        ensures small { length result ≤ 69 }
+    {
+        first_answer(self.answer.as_ref(), self.code, parameters, response)
+    }
 
-/// A command with sessions, with this code and body.
-fn command_of(code: u32, body: &[u8]) -> Sink<COMMAND_LIMIT>
-    requires { length body.now ≤ 180 }
-    ensures { result ≡ framed 0x8002 code body.now }
-{
-    let mut command = Sink::new();
-    command.append_u16(0x8002);
-    command.append_u32((10 + body.len()) as u32);
-    command.append_u32(code);
-    command.append(body);
-    command
-}
-
-/// The command TPM2_HMAC of no data.
-#[tactic(auto, unfolding(crate::specs::Sending::hmac_command))]
-fn hmac_command(handle: Handle, entry: &AuthEntry, asked: Option<HashAlg>) -> Sink<COMMAND_LIMIT>
-    requires nonce { length entry.now.nonce.now ≤ 32 }
-    requires hmac { length entry.now.hmac.now ≤ 32 }
-    ensures { result ≡ hmac_command handle (entry_of entry.now) asked }
-{
-    let mut body = Sink::new();
-    append_handle(handle, entry, &mut body);
-    body.append_sized(&[]);
-    body.append_u16(hash_or_null_number(asked));
-    command_of(0x155, body.as_slice())
-}
-
-/// The command TPM2_PCR_Extend, with these encoded digests.
-#[tactic(auto, unfolding(crate::specs::Sending::extend_command))]
-fn extend_command(handle: Handle, entry: &AuthEntry, digests: &[u8]) -> Sink<COMMAND_LIMIT>
-    requires nonce { length entry.now.nonce.now ≤ 32 }
-    requires hmac { length entry.now.hmac.now ≤ 32 }
-    requires digests { length digests.now ≤ 80 }
-    ensures { result ≡ extend_command handle (entry_of entry.now) digests.now }
-{
-    let mut body = Sink::new();
-    append_handle(handle, entry, &mut body);
-    body.append(digests);
-    command_of(0x182, body.as_slice())
-}
-
-/// The hash of an HMAC sequence with a key, if there is one.
-fn key_hash(parameters: PublicParameters, asked: Option<HashAlg>) -> Option<HashAlg>
-    ensures { result ≡ key_hash parameters asked }
-{
-    match parameters {
-        PublicParameters::KeyedHash(KeyedHashScheme::Null) => asked,
-        PublicParameters::KeyedHash(KeyedHashScheme::Hmac(own)) => Some(own),
-        PublicParameters::SymCipher => None,
+    /// The same, followed by the answer to a second entry, which contains a password.
+    fn answer_to_both(&self, parameters: &[u8], response: &[u8]) -> Sink<80>
+        ensures value { result
+            ≡ sent_answer self.now parameters.now response.now ++ password_answer }
+    {
+        let mut area = self.answer_to_first(parameters, response);
+        area.append(&PASSWORD_ANSWER);
+        area
     }
 }
 
-/// The HMAC sequence that starts with the key of an object.
-fn keyed_sequence(asked: Option<HashAlg>, object: &Object) -> Option<Sequence>
-    ensures { result ≡ keyed_sequence asked object.now }
+/// The command that the layer sends for a client's command with this code on a sequence object.
+fn random_sent<K: Keep>(keep: &K, code: u32, named: &NamedSequence, work: Work) -> Sent
+    requires nonce { length named.now.entry.nonce.now ≤ 32 }
+    requires hmac { length named.now.entry.hmac.now ≤ 32 }
+    ensures { result ≡ random_sent (K.record_of keep.now) code (named_of named.now) work }
 {
-    let hash = key_hash(object.public.parameters, asked)?;
-    Some(Sequence::hmac(hash, object.sensitive.as_slice()))
-}
-
-/// What TPM2_HMAC_Start asks for: the handle of a key, the entry with its password, hashAlg, the
-/// authorization value of the new sequence object, and a free slot.
-#[derive(Clone, Copy)]
-struct HmacStart<'a> {
-    handle: Handle,
-    entry: AuthEntry<'a>,
-    hash: Option<HashAlg>,
-    auth: &'a [u8],
-    slot: u8,
-}
-
-/// The work after the device accepted TPM2_HMAC with this key.
-fn start_work<K: Keep>(keep: &K, start: &HmacStart) -> Option<Work>
-    requires { length start.now.auth.now ≤ 32 }
-    ensures { result ≡ option_map (start_work start.now.slot start.now.auth.now)
-        (option_and_then (keyed_sequence start.now.hash)
-        (object_of (K.record_of keep.now) start.now.handle)) }
-{
-    let object = object_of(keep, start.handle)?;
-    let sequence = keyed_sequence(start.hash, object)?;
-    let object = SequenceObject::new(start.auth, sequence);
-    Some(Work::Starts(start.slot, object))
-}
-
-/// The encoding of the digests of an event sequence's data.
-#[tactic(auto, unfolding(tpm_types::specs::DigestValues::digest_values_text, tpm_types::specs::DigestValues::values_text, tpm_types::specs::DigestValues::digest_value_text))]
-fn digests_text(sequence: &Sequence) -> Option<Sink<80>>
-    ensures { result ≡ digests_text sequence.now }
-{
-    let Sequence::Event { sha1, sha256 } = sequence else {
-        return None;
+    let asked = Covered {
+        code,
+        names: &[],
+        parameters: named.parameters,
+        value: trimmed(&named.object.auth),
     };
-    let mut text = Sink::new();
-    text.append_u32(2);
-    text.append_u16(0x0004);
-    text.append(sha1.digest().as_slice());
-    text.append_u16(0x000b);
-    text.append(sha256.digest().as_slice());
-    Some(text)
+    let covered = Covered {
+        code: GET_RANDOM,
+        names: &[],
+        parameters: &RANDOM_PARAMETERS,
+        value: &[],
+    };
+    let hmac = hmac_sent(keep, &asked, &covered, &named.entry);
+    Sent {
+        command: random_command(&with_hmac(&named.entry, hmac.as_slice())),
+        code,
+        work: Some(work),
+        answer: entry_answered(keep, &asked, &named.entry),
+    }
+}
+
+/// The command that the layer sends for TPM2_SequenceUpdate with a session.
+#[tactic(auto, unfolding(crate::specs::Sending::update_sent))]
+fn update_sent<K: Keep>(keep: &K, named: &NamedSequence) -> Result<Sent, Refused>
+    requires nonce { length named.now.entry.nonce.now ≤ 32 }
+    requires hmac { length named.now.entry.hmac.now ≤ 32 }
+    ensures { result ≡ update_sent (K.record_of keep.now) (named_of named.now) }
+{
+    let object = named.updated()?;
+    let work = Work::Updates(named.slot, object);
+    Ok(random_sent(keep, SEQUENCE_UPDATE, named, work))
+}
+
+/// The command that the layer sends for TPM2_SequenceComplete with a session.
+#[tactic(auto, unfolding(crate::specs::Sending::complete_sent))]
+fn complete_sent<K: Keep>(keep: &K, named: &NamedSequence) -> Result<Sent, Refused>
+    requires nonce { length named.now.entry.nonce.now ≤ 32 }
+    requires hmac { length named.now.entry.hmac.now ≤ 32 }
+    ensures { result ≡ complete_sent (K.record_of keep.now) (named_of named.now) }
+{
+    let answer = named.completed(&keep.fixed().hierarchies)?;
+    let work = Work::Completes(named.slot, answer);
+    Ok(random_sent(keep, SEQUENCE_COMPLETE, named, work))
 }
 
 impl Completion {
-    /// Parses a TPM2_HMAC_Start.
-    #[tactic(auto, unfolding(crate::specs::Sending::hmac_start_in))]
-    fn hmac_start_in<'a>(&self, bytes: &'a [u8]) -> Result<HmacStart<'a>, Refused>
-        ensures value { Gives start_of (hmac_start_in self.now bytes.now) result }
-        ensures small { IfOk result (λ start. (length start.entry.nonce.now ≤ 32)
-            × (length start.entry.hmac.now ≤ 32) × (length start.auth.now ≤ 32)) }
+    /// The command that the layer sends for TPM2_SequenceUpdate with a session. `None` if the
+    /// command has a password.
+    fn update_sent<K: Keep>(&self, keep: &K, bytes: &[u8]) -> Option<Result<Sent, Refused>>
+        ensures { result ≡ unless_password (update_sent (K.record_of keep.now))
+            (named_in self.now bytes.now) }
     {
-        let mut text = Cursor::new(bytes);
-        let handle = read_handle(1, &mut text)?;
-        let entries = read_entries(&mut text)?;
-        let entry = only_entry(entries.as_slice())?;
-        let auth = parameter(1, read_buffer(&mut text, 32))?;
-        let hash = parameter(2, read_hash_or_null(&mut text))?;
-        end(&text)?;
-        let Some(slot) = self.free_slot() else {
-            return Err(full_refused());
-        };
-        Ok(HmacStart {
-            handle,
-            entry,
-            hash,
-            auth,
-            slot,
-        })
-    }
-
-    /// The command that the layer sends for TPM2_HMAC_Start.
-    #[tactic(auto, unfolding(crate::specs::Sending::hmac_start_sent))]
-    fn hmac_start_sent<K: Keep>(&self, keep: &K, bytes: &[u8]) -> Result<Sent, Refused>
-        ensures { result ≡ hmac_start_sent (K.record_of keep.now) self.now bytes.now }
-    {
-        let start = self.hmac_start_in(bytes)?;
-        Ok(Sent {
-            command: hmac_command(start.handle, &start.entry, start.hash),
-            work: start_work(keep, &start),
-        })
-    }
-
-    /// The command that the layer sends for TPM2_EventSequenceComplete.
-    #[tactic(auto, unfolding(crate::specs::Sending::event_complete_sent))]
-    fn event_complete_sent(&self, bytes: &[u8]) -> Result<Sent, Refused>
-        ensures { result ≡ event_complete_sent self.now bytes.now }
-    {
-        let mut text = Cursor::new(bytes);
-        let pcr = read_handle(1, &mut text)?;
-        let handle = read_handle(2, &mut text)?;
-        let slot = self.sequence_named(2, ResponseCode::ReferenceH1, handle)?;
-        let Some(object) = self.in_slot(slot) else {
-            return Err(absent_refused(ResponseCode::ReferenceH1));
-        };
-        let entries = read_entries(&mut text)?;
-        let (first, second) = two_entries(entries.as_slice())?;
-        if !object.is_authorized(second.hmac) {
-            return Err(password_refused(2));
+        match self.named_in(bytes) {
+            Ok(named) if is_password(&named.entry) => None,
+            Ok(named) => Some(update_sent(keep, &named)),
+            Err(refused) => Some(Err(refused)),
         }
-        let data = parameter(1, read_buffer(&mut text, DATA_LIMIT))?;
-        end(&text)?;
-        let mut object = *object;
-        object.update(data);
-        let Some(digests) = digests_text(&object.sequence) else {
-            return Err(mode_refused(2));
-        };
-        Ok(Sent {
-            command: extend_command(pcr, &first, digests.as_slice()),
-            work: Some(Work::Ends(slot, digests)),
-        })
+    }
+
+    /// The command that the layer sends for TPM2_SequenceComplete with a session. `None` if the
+    /// command has a password.
+    fn complete_sent<K: Keep>(&self, keep: &K, bytes: &[u8]) -> Option<Result<Sent, Refused>>
+        ensures { result ≡ unless_password (complete_sent (K.record_of keep.now))
+            (named_in self.now bytes.now) }
+    {
+        match self.named_in(bytes) {
+            Ok(named) if is_password(&named.entry) => None,
+            Ok(named) => Some(complete_sent(keep, &named)),
+            Err(refused) => Some(Err(refused)),
+        }
     }
 
     /// The command that the layer sends for a client's command with sessions, or the refusal of the
@@ -248,7 +161,9 @@ impl Completion {
     {
         match command.code {
             HMAC_START => Some(self.hmac_start_sent(keep, command.parameters)),
-            EVENT_SEQUENCE_COMPLETE => Some(self.event_complete_sent(command.parameters)),
+            EVENT_SEQUENCE_COMPLETE => Some(self.event_complete_sent(keep, command.parameters)),
+            SEQUENCE_UPDATE => self.update_sent(keep, command.parameters),
+            SEQUENCE_COMPLETE => self.complete_sent(keep, command.parameters),
             _ => None,
         }
     }
@@ -269,32 +184,43 @@ impl Completion {
     }
 
     /// Does the work after the device accepted the command that was sent.
-    fn do_work(&mut self, work: &Work, text: &mut Response)
+    fn do_work(&mut self, sent: &Sent, work: &Work, text: &mut Response)
         ensures { record { response = text.new.items; after = self.new }
-            ≡ work_done self.old work.now }
+            ≡ work_done self.old sent.now work.now text.old.items }
     {
         match work {
             Work::Starts(slot, object) => {
                 self.put_sequence(*slot, *object);
                 let handle = sequence_handle(*slot).number.to_be_bytes();
-                answer_authorized(&handle, &[], &PASSWORD_ANSWER, text);
+                let area = sent.answer_to_first(&[], text.as_slice());
+                answer_authorized(&handle, &[], area.as_slice(), text);
+            }
+            Work::Updates(slot, object) => {
+                self.put_sequence(*slot, *object);
+                let area = sent.answer_to_first(&[], text.as_slice());
+                answer_authorized(&[], &[], area.as_slice(), text);
+            }
+            Work::Completes(slot, answer) => {
+                self.remove_sequence(*slot);
+                let area = sent.answer_to_first(answer.as_slice(), text.as_slice());
+                answer_authorized(&[], answer.as_slice(), area.as_slice(), text);
             }
             Work::Ends(slot, digests) => {
                 self.remove_sequence(*slot);
-                let both = [0, 0, 1, 0, 0, 0, 0, 1, 0, 0];
-                answer_authorized(&[], digests.as_slice(), &both, text);
+                let area = sent.answer_to_both(digests.as_slice(), text.as_slice());
+                answer_authorized(&[], digests.as_slice(), area.as_slice(), text);
             }
         }
     }
 
     /// Answers after the device executed the command that was sent. `accepted` says whether the
     /// device accepted it; if not, its refusal stays in `text`.
-    pub(crate) fn answer_sent(&mut self, accepted: bool, work: Option<&Work>, text: &mut Response)
+    pub(crate) fn answer_sent(&mut self, accepted: bool, sent: &Sent, text: &mut Response)
         ensures { record { response = text.new.items; after = self.new }
-            ≡ sent_reply self.old accepted (option_copied work.entry) text.old.items }
+            ≡ sent_reply self.old accepted sent.now text.old.items }
     {
-        if let (true, Some(work)) = (accepted, work) {
-            self.do_work(work, text);
+        if let (true, Some(work)) = (accepted, &sent.work) {
+            self.do_work(sent, work, text);
         }
     }
 }

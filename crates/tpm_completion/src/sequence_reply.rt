@@ -6,8 +6,7 @@ ghost use Rattle.std.specs.Int.{w32};
 ghost use Rattle.tpm_bytes.specs.Reading.{number_at};
 ghost use Rattle.tpm_completion.specs.Command.{authorized_command, command_of, plain_command};
 ghost use Rattle.tpm_completion.specs.Saving.{Reply};
-ghost use Rattle.tpm_completion.specs.Sending.{sent_by};
-ghost use Rattle.tpm_completion.specs.SequenceReply.{RepliesIf, asked_reply, authorized_reply, bare_reply, flush_handle, flush_reply, needs_password, row_reply, sequence_reply, unsent_reply};
+ghost use Rattle.tpm_completion.specs.SequenceReply.{RepliesIf, asked_reply, authorized_reply, bare_reply, flush_handle, flush_reply, needs_entry, password_reply, row_reply, sequence_reply};
 ghost use Rattle.tpm_completion.specs.SequenceRows.{RepliesBy};
 
 use crate::answer::{answer, is_refusal};
@@ -22,9 +21,9 @@ use tpm_record::Keep;
 use tpm_step::Response;
 use tpm_types::{Handle, Refused};
 
-/// Whether a command with this code needs a password.
-fn needs_password(code: u32) -> bool
-    ensures { result ≡ needs_password code }
+/// Whether a command with this code needs an authorization area.
+fn needs_entry(code: u32) -> bool
+    ensures { result ≡ needs_entry code }
 {
     matches!(
         code,
@@ -55,31 +54,38 @@ impl Completion {
             self.or_refuse(done, text);
             return true;
         }
-        if needs_password(command.code) {
+        if needs_entry(command.code) {
             answer(AUTH_MISSING, &[], text);
             return true;
         }
         false
     }
 
-    /// Answers with the refusal of a command for which the layer would send a command to the
-    /// device.
-    fn answer_unsent<K: Keep>(&self, keep: &K, command: &PlainCommand, text: &mut Response) -> bool
-        ensures { RepliesIf (unsent_reply self.now (sent_by (K.record_of keep.now) self.now
-            command.now.code command.now.parameters.now)) self.now text.old.items
-            result self.now text.new.items }
+    /// Answers TPM2_SequenceUpdate or TPM2_SequenceComplete with a password, and returns true;
+    /// returns false for any other command.
+    fn answer_with_password<K: Keep>(
+        &mut self,
+        keep: &K,
+        command: &PlainCommand,
+        text: &mut Response,
+    ) -> bool
+        ensures { RepliesIf (password_reply (K.record_of keep.now) self.old
+            (command_of command.now)) self.old text.old.items result self.new text.new.items }
     {
-        match self.sent_by(keep, command) {
-            Some(Err(refused)) => {
-                answer(refused.rc.number(), &[], text);
-                true
+        let done = match command.code {
+            SEQUENCE_UPDATE => self.update(command.parameters, text),
+            SEQUENCE_COMPLETE => {
+                self.complete(&keep.fixed().hierarchies, command.parameters, text)
             }
-            _ => false,
-        }
+            _ => return false,
+        };
+        self.or_refuse(done, text);
+        true
     }
 
-    /// Answers a command with sessions, and returns true; returns false if the layer has no answer.
-    fn answer_with_password<K: Keep>(
+    /// Answers a command with sessions, and returns true; returns false if the layer has no answer,
+    /// or would send a command to the device.
+    fn answer_authorized_command<K: Keep>(
         &mut self,
         keep: &K,
         command: &PlainCommand,
@@ -88,15 +94,14 @@ impl Completion {
         ensures { RepliesIf (authorized_reply (K.record_of keep.now) self.old
             (command_of command.now)) self.old text.old.items result self.new text.new.items }
     {
-        let done = match command.code {
-            SEQUENCE_UPDATE => self.update(command.parameters, text),
-            SEQUENCE_COMPLETE => {
-                self.complete(&keep.fixed().hierarchies, command.parameters, text)
+        match self.sent_by(keep, command) {
+            Some(Ok(_)) => false,
+            Some(Err(refused)) => {
+                answer(refused.rc.number(), &[], text);
+                true
             }
-            _ => return self.answer_unsent(keep, command, text),
-        };
-        self.or_refuse(done, text);
-        true
+            None => self.answer_with_password(keep, command, text),
+        }
     }
 
     /// Answers a buffer that the device refused with COMMAND_CODE.
@@ -108,7 +113,7 @@ impl Completion {
         match PlainCommand::read(buffer) {
             Ok(command) => self.answer_bare(&command, text),
             Err(_) => match PlainCommand::read_authorized(buffer) {
-                Ok(command) => self.answer_with_password(keep, &command, text),
+                Ok(command) => self.answer_authorized_command(keep, &command, text),
                 Err(_) => false,
             },
         }

@@ -1,9 +1,9 @@
 //! The commands on sequence objects that the layer answers by itself: TPM2_HashSequenceStart,
 //! TPM2_SequenceUpdate and TPM2_SequenceComplete.
 
-ghost use Rattle.std.specs.Prelude.{◌≡◌, ◌≤◌, IfSome, length};
+ghost use Rattle.std.specs.Prelude.{◌≡◌, ◌≤◌, IfOk, IfSome, length};
 ghost use Rattle.tpm_bytes.specs.Reading.{Gives};
-ghost use Rattle.tpm_completion.specs.SequenceRows.{RepliesBy, complete_row, completion_text, full_refused, hash_start_row, mode_refused, sequence_in, started_sequence, update_row};
+ghost use Rattle.tpm_completion.specs.SequenceRows.{RepliesBy, complete_row, completed_in, completion_text, full_refused, hash_start_row, mode_refused, named_in, named_of, sequence_in, started_sequence, update_row, updated_in};
 
 use crate::answer::{answer, answer_authorized};
 use crate::authorizing::{absent_refused, only_entry, password_refused, read_entries, read_handle};
@@ -22,6 +22,7 @@ use tpm_step::Response;
 use tpm_types::{
     ActionCheck, DATA_LIMIT, HierarchyHandle, Refused, ResponseCode, read_buffer, read_hash_or_null,
 };
+use tpm_types_command::AuthEntry;
 
 /// The response to an entry with a password: an empty nonce, continueSession, and an empty HMAC.
 pub const PASSWORD_ANSWER: [u8; 5] = [0, 0, 1, 0, 0];
@@ -53,12 +54,46 @@ fn started_sequence(hash: Option<HashAlg>) -> Sequence
     }
 }
 
-/// A sequence object that a command names, and the command's parameters.
+/// A sequence object that a command names, the entry that authorizes it, and the command's
+/// parameters.
 #[derive(Drop)]
-struct NamedSequence<'a> {
-    slot: u8,
-    object: SequenceObject,
-    parameters: &'a [u8],
+pub struct NamedSequence<'a> {
+    pub slot: u8,
+    pub object: SequenceObject,
+    pub entry: AuthEntry<'a>,
+    pub parameters: &'a [u8],
+}
+
+impl NamedSequence<'_> {
+    /// The sequence object after TPM2_SequenceUpdate.
+    #[tactic(auto, unfolding(crate::specs::SequenceRows::updated_in))]
+    pub fn updated(&self) -> Result<SequenceObject, Refused>
+        ensures { result ≡ updated_in (named_of self.now) }
+    {
+        let mut ahead = Cursor::new(self.parameters);
+        let data = parameter(1, read_buffer(&mut ahead, DATA_LIMIT))?;
+        end(&ahead)?;
+        let mut object = self.object;
+        object.update(data);
+        Ok(object)
+    }
+
+    /// The answer to TPM2_SequenceComplete.
+    #[tactic(auto, unfolding(crate::specs::SequenceRows::completed_in))]
+    pub fn completed(&self, hierarchies: &Hierarchies) -> Result<Body, Refused>
+        ensures { result ≡ completed_in hierarchies.now (named_of self.now) }
+    {
+        let mut ahead = Cursor::new(self.parameters);
+        let data = parameter(1, read_buffer(&mut ahead, DATA_LIMIT))?;
+        let asked = parameter(2, read_hierarchy(&mut ahead))?;
+        end(&ahead)?;
+        let mut object = self.object;
+        object.update(data);
+        match completion_text(hierarchies, asked, &object.sequence) {
+            Some(body) => Ok(body),
+            None => Err(mode_refused(1)),
+        }
+    }
 }
 
 /// The answer when a sequence completes, unless it is an event sequence.
@@ -110,11 +145,13 @@ impl Completion {
         Ok(())
     }
 
-    /// The sequence object that the only handle of a command names, authorized by the password in
-    /// the only entry.
-    #[tactic(auto, unfolding(crate::specs::SequenceRows::sequence_in))]
-    fn sequence_in<'a>(&self, bytes: &'a [u8]) -> Result<NamedSequence<'a>, Refused>
-        ensures { Gives (λ named. record { slot = named.slot; object = named.object; parameters = named.parameters.now }) (sequence_in self.now bytes.now) result }
+    /// The sequence object that the only handle of a command names, and the only entry, which is
+    /// not yet compared.
+    #[tactic(auto, unfolding(crate::specs::SequenceRows::named_in))]
+    pub(crate) fn named_in<'a>(&self, bytes: &'a [u8]) -> Result<NamedSequence<'a>, Refused>
+        ensures value { Gives named_of (named_in self.now bytes.now) result }
+        ensures small { IfOk result (λ named. (length named.entry.nonce.now ≤ 32)
+            × (length named.entry.hmac.now ≤ 32)) }
     {
         let mut text = Cursor::new(bytes);
         let handle = read_handle(1, &mut text)?;
@@ -124,34 +161,41 @@ impl Completion {
         };
         let entries = read_entries(&mut text)?;
         let entry = only_entry(entries.as_slice())?;
-        if !object.is_authorized(entry.hmac) {
-            return Err(password_refused(1));
-        }
         Ok(NamedSequence {
             slot,
             object: *object,
+            entry,
             parameters: text.rest(),
         })
     }
 
-    /// TPM2_SequenceUpdate.
+    /// The sequence object that the only handle of a command names, authorized by the password in
+    /// the only entry.
+    #[tactic(auto, unfolding(crate::specs::SequenceRows::sequence_in))]
+    fn sequence_in<'a>(&self, bytes: &'a [u8]) -> Result<NamedSequence<'a>, Refused>
+        ensures { Gives named_of (sequence_in self.now bytes.now) result }
+    {
+        let named = self.named_in(bytes)?;
+        if !named.object.is_authorized(named.entry.hmac) {
+            return Err(password_refused(1));
+        }
+        Ok(named)
+    }
+
+    /// TPM2_SequenceUpdate with a password.
     #[tactic(auto, unfolding(crate::specs::SequenceRows::update_row))]
     pub(crate) fn update(&mut self, bytes: &[u8], text: &mut Response) -> Result<(), Refused>
         ensures { RepliesBy (update_row self.old bytes.now) self.old result self.new
             text.new.items }
     {
         let named = self.sequence_in(bytes)?;
-        let mut ahead = Cursor::new(named.parameters);
-        let data = parameter(1, read_buffer(&mut ahead, DATA_LIMIT))?;
-        end(&ahead)?;
-        let mut object = named.object;
-        object.update(data);
+        let object = named.updated()?;
         self.put_sequence(named.slot, object);
         answer_authorized(&[], &[], &PASSWORD_ANSWER, text);
         Ok(())
     }
 
-    /// TPM2_SequenceComplete.
+    /// TPM2_SequenceComplete with a password.
     #[tactic(auto, unfolding(crate::specs::SequenceRows::complete_row))]
     pub(crate) fn complete(
         &mut self,
@@ -163,15 +207,7 @@ impl Completion {
             self.new text.new.items }
     {
         let named = self.sequence_in(bytes)?;
-        let mut ahead = Cursor::new(named.parameters);
-        let data = parameter(1, read_buffer(&mut ahead, DATA_LIMIT))?;
-        let asked = parameter(2, read_hierarchy(&mut ahead))?;
-        end(&ahead)?;
-        let mut object = named.object;
-        object.update(data);
-        let Some(body) = completion_text(hierarchies, asked, &object.sequence) else {
-            return Err(mode_refused(1));
-        };
+        let body = named.completed(hierarchies)?;
         self.remove_sequence(named.slot);
         answer_authorized(&[], body.as_slice(), &PASSWORD_ANSWER, text);
         Ok(())

@@ -9,4 +9,5 @@ pub mod SentCodes
 pub mod SequencesNamed
 pub mod SequencesSaved
 pub mod SequencesLoaded
+pub mod SessionEntries
 pub mod SequencesStarted

@@ -20,7 +20,7 @@ use Rattle.tpm_completion.specs.Handles.{session_shown}
 use Rattle.tpm_completion.specs.Properties.{active_count, count_elements, identity_elements, limit_elements, object_count, property_elements}
 use Rattle.tpm_completion.specs.Reply.{stands}
 use Rattle.tpm_completion.specs.Sending.{sent_by}
-use Rattle.tpm_completion.specs.SequenceReply.{needs_password, unsent_reply}
+use Rattle.tpm_completion.specs.SequenceReply.{needs_entry, password_reply, unsent_reply}
 use Rattle.tpm_completion.specs.declared.completion.Completion.{Completion}
 use Rattle.tpm_completion_laws.specs.Listed.{CommandsAscend, CountsAddUp, CountsAll, ListsItsOwn, PcrPropertiesHold, PropertiesAscend, ServesItsOwn}
 
@@ -52,8 +52,11 @@ serves_its_own r c command response none =
     let update = or_false (code == 0x15c) _ start.1 in
     let event = or_false (code == 0x185) (code == 0x186) update.1 in
     let sent : sent_by r c code command.parameters ≡ None =
-    if_false (code == 0x15b) _ _ start.0 ∙ if_false (code == 0x185) _ None event.0 in
-    let needs : needs_password code ≡ false =
+    if_false (code == 0x15b) _ _ start.0
+    ∙ if_false (code == 0x185) _ _ event.0
+    ∙ if_false (code == 0x15c) _ _ update.0
+    ∙ if_false (code == 0x13e) _ None complete.0 in
+    let needs : needs_entry code ≡ false =
     or_both (code == 0x15b) _ start.0 (or_both (code == 0x15c) _ update.0 (or_both (code == 0x13e) (code == 0x185) complete.0 event.0)) in
     record {
       served =
@@ -64,11 +67,11 @@ serves_its_own r c command response none =
           ∙ if_false (code == 0x17c) _ _ five.0
           ∙ if_false (code == 0x17d) _ _ six.0
           ∙ if_false (code == 0x18a) _ (stands c response) seven.0;
-      bare = if_false (code == 0x186) _ _ event.1 ∙ if_false (needs_password code) _ None needs;
+      bare = if_false (code == 0x186) _ _ event.1 ∙ if_false (needs_entry code) _ None needs;
       authorized =
-          if_false (code == 0x15c) _ _ update.0
-          ∙ if_false (code == 0x13e) _ _ complete.0
-          ∙ ap (unsent_reply c) sent;
+          ap (unsent_reply c (password_reply r c command)) sent
+          ∙ if_false (code == 0x15c) _ _ update.0
+          ∙ if_false (code == 0x13e) _ None complete.0;
       sent = sent;
     }
 

@@ -151,7 +151,7 @@ loads_objects r later c d number o locality elapsed random small is whole starte
     let first = lacking_effect t d drawn in
     let asked = asked_again t 0x161 context (omega arith) few started ∙ asked_is context (names_none r.fixed.hierarchies (binding_of r c) number o small) in
     let opens = loads_what_was_saved r t c (forgotten t d) number o small is (still_valid r later c d o elapsed stays) in
-    let effect = ap (λ (seen : Seen). behind seen buffer locality) (passed_lacks later d buffer locality elapsed random lacks)
-    ∙ ap (done_after first buffer locality) asked ∙ ap (loaded_after first) opens in
+    let effect = ap (λ (seen : Seen). behind seen buffer locality random) (passed_lacks later d buffer locality elapsed random lacks)
+    ∙ ap (done_after first buffer locality random) asked ∙ ap (loaded_after first) opens in
     subst (IsLoaded t o (next_handle later.objects)) (sym effect)
     (loaded_as t d drawn o (lowest_free t.objects) refl (omega (arith, whole.objects)))

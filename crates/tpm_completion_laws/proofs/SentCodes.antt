@@ -1,24 +1,19 @@
--- The commands that the layer sends to the device are TPM2_HMAC and TPM2_PCR_Extend.
-use Rattle.std.proofs.Common.{arith, ◌≡◌, ℕ, Bool, true, false, List, [], ◌++◌, length, Option, Some, None, Result, Ok, Err, IfOk, IfSome, refl, sym, ap, subst}
-use Rattle.std.specs.Int.{w16, w32, to_be_bytes}
+-- The commands that the layer sends to the device are TPM2_HMAC, TPM2_PCR_Extend and
+-- TPM2_GetRandom.
+use Rattle.std.proofs.Common.{arith, ◌≡◌, ℕ, Bool, true, false, List, ◌++◌, length, Option, Some, None, Result, Ok, Err, IfOk, IfSome, refl, sym, ap, subst}
+use Rattle.std.specs.Int.{w32, to_be_bytes}
 use Rattle.std.specs.Prelude.{◌==◌, ◌&&◌, ◌||◌, nat_lt, not, ok_or, if◌then◌else◌}
 use Rattle.std.proofs.lemmas.Nat.{from_be_bytes-to_be_bytes_4}
 use Rattle.tpm_bytes.specs.Reading.{◌>>=◌, refused_if}
-use Rattle.tpm_bytes.specs.Writing.{sized_text}
 use Rattle.tpm_bytes.specs.declared.cursor.Short.{Short}
 use Rattle.tpm_commands.specs.CommandCode.{code_named}
 use Rattle.tpm_commands.specs.declared.command_code.CommandCode.{CommandCode}
 use Rattle.tpm_commands.specs.declared.command_code.CommandCode.TheVariants as command
 use Rattle.tpm_mac.specs.declared.algorithm.HashAlg.{HashAlg}
+use Rattle.tpm_auth.specs.Entries.{is_password}
 use Rattle.tpm_auth.specs.Grant.{authorize}
 use Rattle.tpm_record.specs.Record.{Record}
-use Rattle.tpm_types.specs.Algorithm.{hash_or_null_number}
-use Rattle.tpm_record.specs.rows.Rows.{all_read, parameter}
-use Rattle.tpm_sequence.specs.Authorization.{is_authorized}
-use Rattle.tpm_sequence.specs.Sequence.{sequence_updated}
-use Rattle.tpm_types.specs.Buffer.{buffer_at}
-use Rattle.tpm_types.specs.Limits.{buffer_limit, data_limit}
-use Rattle.tpm_types.specs.declared.rc.ResponseCode.TheVariants as code
+use Rattle.tpm_types.specs.Limits.{buffer_limit}
 use Rattle.tpm_types.specs.Refused.{checked}
 use Rattle.tpm_types.specs.declared.check.Check.TheVariants as check
 use Rattle.tpm_types.specs.declared.handle.Handle.{Handle}
@@ -32,15 +27,13 @@ use Rattle.tpm_types_command.specs.declared.header.HeaderFault.{HeaderFault}
 use Rattle.tpm_types_command.specs.declared.header.HeaderFault.TheVariants as fault
 use Rattle.tpm_step.specs.step.Answer.{framed}
 use Rattle.tpm_step.specs.step.General.{body_of, general, in_command, in_header, present_handles_at, sessions_pass}
-use Rattle.tpm_step.specs.step.Step.{Accepted, acceptance, accepted, request_in}
+use Rattle.tpm_step.specs.step.Step.{acceptance, accepted, request_in}
 use Rattle.tpm_step.specs.step.Table.{row_of}
-use Rattle.tpm_step.specs.declared.refused_command.RefusedCommand.{RefusedCommand}
 use Rattle.tpm_completion.specs.Answer.{is_refusal}
-use Rattle.tpm_completion.specs.Authorizing.{absent_refused, entries_at, handle_at, password_refused, sequence_named, two_entries}
 use Rattle.tpm_completion.specs.Command.{Command, authorized_command}
-use Rattle.tpm_completion.specs.Sending.{accepted_only, area_of, digests_text, event_complete_sent, extend_command, hmac_command, hmac_start_in, hmac_start_sent, sent_by, sent_for, sent_in}
-use Rattle.tpm_completion.specs.SequenceRows.{mode_refused}
-use Rattle.tpm_completion.specs.Sequences.{in_slot}
+use Rattle.tpm_completion.specs.Sending.{accepted_only, area_of, complete_sent, event_complete_in, event_complete_sent, event_entry, extend_command, hmac_command, hmac_parameters, hmac_start_in, hmac_start_sent, random_command, random_covered, random_parameters, sent_by, sent_for, sent_in, sequence_asked, start_entry, unless_password, update_sent}
+use Rattle.tpm_completion.specs.SequenceRows.{Named, completed_in, named_in, updated_in}
+use Rattle.tpm_completion.specs.SessionEntry.{entry_sent}
 use Rattle.tpm_completion.specs.declared.completion.Completion.{Completion}
 use Rattle.tpm_completion.specs.declared.sending.Sent.{Sent}
 
@@ -127,14 +120,18 @@ extend_named : (tag : ℕ) (body : List ℕ) → code_named (code_field (framed 
 unfolding code_named
 extend_named tag body = ap code_named (from_be_bytes-to_be_bytes_4 0x182 (omega arith))
 
-module _ (Is : CommandCode → Type 0) (hmac : Is command.Hmac) (extend : Is command.PcrExtend) where
+random_named : (tag : ℕ) (body : List ℕ) → code_named (code_field (framed tag 0x17b body)) ≡ Some command.GetRandom
+unfolding code_named
+random_named tag body = ap code_named (from_be_bytes-to_be_bytes_4 0x17b (omega arith))
+
+module _ (Is : CommandCode → Type 0) (hmac : Is command.Hmac) (extend : Is command.PcrExtend) (random : Is command.GetRandom) where
   abbrev Sends : Sent → Type 0
   Sends sent = HasCode Is sent.command
 
   hmac_code : (handle : Handle) (e : Entry) (asked : Option HashAlg) → HasCode Is (hmac_command handle e asked)
   unfolding hmac_command
   hmac_code handle e asked =
-      let body : List ℕ = to_be_bytes w32 handle.number ++ area_of e ++ sized_text [] ++ to_be_bytes w16 (hash_or_null_number asked) in
+      let body : List ℕ = to_be_bytes w32 handle.number ++ area_of e ++ hmac_parameters asked in
       framed_code Is 0x8002 0x155 body command.Hmac (hmac_named 0x8002 body) hmac
 
   extend_code : (handle : Handle) (e : Entry) (digests : List ℕ) → HasCode Is (extend_command handle e digests)
@@ -143,42 +140,60 @@ module _ (Is : CommandCode → Type 0) (hmac : Is command.Hmac) (extend : Is com
       let body : List ℕ = to_be_bytes w32 handle.number ++ area_of e ++ digests in
       framed_code Is 0x8002 0x182 body command.PcrExtend (extend_named 0x8002 body) extend
 
+  random_code : (e : Entry) → HasCode Is (random_command e)
+  unfolding random_command
+  random_code e =
+      let body : List ℕ = area_of e ++ random_parameters in
+      framed_code Is 0x8002 0x17b body command.GetRandom (random_named 0x8002 body) random
+
   start_code : (r : Record) (c : Completion) (text : List ℕ) → IfOk (hmac_start_sent r c text) Sends
   unfolding hmac_start_sent
-  start_code r c text = then_ok Sends (hmac_start_in c text) _ (λ start. hmac_code start.handle start.entry start.hash)
+  start_code r c text = then_ok Sends (hmac_start_in c text) _ (λ start. hmac_code start.handle (start_entry r start) start.hash)
 
-  complete_code : (c : Completion) (text : List ℕ) → IfOk (event_complete_sent c text) Sends
+  event_code : (r : Record) (c : Completion) (text : List ℕ) → IfOk (event_complete_sent r c text) Sends
   unfolding event_complete_sent
-  complete_code c text =
-      then_ok Sends (handle_at 1 text) _ (λ pcr.
-      then_ok Sends (handle_at 2 pcr.1) _ (λ handle.
-      then_ok Sends (sequence_named c 2 code.ReferenceH1 handle.0) _ (λ slot.
-      then_ok Sends (ok_or (in_slot c slot) (absent_refused code.ReferenceH1)) _ (λ object.
-      then_ok Sends (entries_at handle.1) _ (λ entries.
-      then_ok Sends (two_entries entries.0) _ (λ both.
-      then_ok Sends (refused_if (not (is_authorized object both.1.hmac)) (password_refused 2)) _ (λ wrong.
-      then_ok Sends (parameter 1 (buffer_at data_limit entries.1)) _ (λ bytes.
-      then_ok Sends (all_read bytes.1) _ (λ ended.
-      then_ok Sends (ok_or (digests_text (sequence_updated object.sequence bytes.0)) (mode_refused 2)) _ (λ digests. extend_code pcr.0 both.0 digests))))))))))
+  event_code r c text =
+      then_ok Sends (event_complete_in c text) _ (λ event. extend_code event.pcr (event_entry r event) event.digests)
+
+  update_code : (r : Record) (named : Named) → IfOk (update_sent r named) Sends
+  unfolding update_sent
+  update_code r named =
+      then_ok Sends (updated_in named) _ (λ object. random_code (entry_sent r (sequence_asked 0x15c named) random_covered named.entry))
+
+  complete_code : (r : Record) (named : Named) → IfOk (complete_sent r named) Sends
+  unfolding complete_sent
+  complete_code r named =
+      then_ok Sends (completed_in r.fixed.hierarchies named) _ (λ answer. random_code (entry_sent r (sequence_asked 0x13e named) random_covered named.entry))
 
   only_ok : (x : Result Sent Refused) → IfOk x Sends → IfSome (accepted_only (Some x)) Sends
   only_ok (Ok sent) is = is
   only_ok (Err e) is = tt
 
-  by_code : (r : Record) (c : Completion) (code : ℕ) (text : List ℕ) → IfSome (accepted_only (sent_by r c code text)) Sends
-  by_code r c code text = by (code == 0x15b) (code == 0x185)
+  unless_code : (sends : Named → Result Sent Refused) (x : Result Named Refused) → ((named : Named) → IfOk (sends named) Sends) → IfSome (accepted_only (unless_password sends x)) Sends
+  unless_code sends (Ok named) each = by (is_password named.entry)
     where
-      by : (start complete : Bool) → IfSome (accepted_only (if start then Some (hmac_start_sent r c text) else (if complete then Some (event_complete_sent c text) else None))) Sends
-      by true complete = only_ok (hmac_start_sent r c text) (start_code r c text)
-      by false true = only_ok (event_complete_sent c text) (complete_code c text)
-      by false false = tt
+      by : (b : Bool) → IfSome (accepted_only (if b then None else Some (sends named))) Sends
+      by true = tt
+      by false = only_ok (sends named) (each named)
+  unless_code sends (Err e) each = tt
+
+  by_code : (r : Record) (c : Completion) (code : ℕ) (text : List ℕ) → IfSome (accepted_only (sent_by r c code text)) Sends
+  by_code r c code text = by (code == 0x15b) (code == 0x185) (code == 0x15c) (code == 0x13e)
+    where
+      by : (start event update complete : Bool)
+          → IfSome (accepted_only (if start then Some (hmac_start_sent r c text) else (if event then Some (event_complete_sent r c text) else (if update then unless_password (update_sent r) (named_in c text) else (if complete then unless_password (complete_sent r) (named_in c text) else None))))) Sends
+      by true event update complete = only_ok (hmac_start_sent r c text) (start_code r c text)
+      by false true update complete = only_ok (event_complete_sent r c text) (event_code r c text)
+      by false false true complete = unless_code (update_sent r) (named_in c text) (update_code r)
+      by false false false true = unless_code (complete_sent r) (named_in c text) (complete_code r)
+      by false false false false = tt
 
   in_code : (r : Record) (c : Completion) (x : Result Command Short) → IfSome (sent_in r c x) Sends
   in_code r c (Ok command) = by_code r c command.code command.parameters
   in_code r c (Err e) = tt
 
-  -- a property that both TPM2_HMAC and TPM2_PCR_Extend have holds for each command that the layer
-  -- sends
+  -- a property that TPM2_HMAC, TPM2_PCR_Extend and TPM2_GetRandom all have holds for each command
+  -- that the layer sends
   pub sent_code : (r : Record) (c : Completion) (buffer response : List ℕ) → IfSome (sent_for r c buffer response) Sends
   unfolding sent_for
   sent_code r c buffer response = by (r.fixed.started && is_refusal 0x143 response)

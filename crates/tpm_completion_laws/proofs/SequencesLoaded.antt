@@ -137,9 +137,9 @@ loads_sequences r later c d number o locality elapsed random small is whole star
     let asked = asked_again t 0x161 context (omega arith) few started ∙ no_object context (is_own context own) in
     let opens = loads_saved_sequence r t c layer number o small is (still_valid r later c d elapsed stays) in
     let same = kept_sequences t d started in
-    let effect = ap (λ (seen : Seen). behind seen buffer locality) (passed_lacks later d buffer locality elapsed random lacks)
-    ∙ ap (done_after first buffer locality) asked
-    ∙ ap (sending_after first buffer locality) (none_sent t layer 0x161 context few)
+    let effect = ap (λ (seen : Seen). behind seen buffer locality random) (passed_lacks later d buffer locality elapsed random lacks)
+    ∙ ap (done_after first buffer locality random) asked
+    ∙ ap (sending_after first buffer locality random) (none_sent t layer 0x161 context few)
     ∙ ap (answered first)
     (reply_again t layer 0x161 context false (omega arith) few started refl
     ∙ asked_loads t layer context (refusal 0x143) own

@@ -1,5 +1,5 @@
 -- TPM2_ContextSave of a sequence object returns its context.
-use Rattle.std.proofs.Common.{arith, ◌≡◌, ℕ, ◌+◌, ◌-◌, ◌^◌, ◌<◌, Bool, true, false, Option, Some, None, refl, sym, ap, subst, ◌∙◌}
+use Rattle.std.proofs.Common.{arith, ◌≡◌, ℕ, ◌+◌, ◌-◌, ◌^◌, ◌<◌, Bool, true, false, List, Option, Some, None, refl, sym, ap, subst, ◌∙◌}
 use Rattle.std.specs.Prelude.{if◌then◌else◌}
 use Rattle.std.specs.Int.{w32, to_be_bytes}
 use Rattle.tpm_machine.specs.Drawn.{drawn_by}
@@ -56,12 +56,12 @@ pub kept_sequences : (t : Record) (c : Completion) → t.fixed.started ≡ true 
 unfolding forgotten
 kept_sequences t c started = ap (λ (b : Bool). if b then c.sequences else no_sequences) started
 
-saved_effect : (t : Record) (c : Completion) (handle : Handle) (object : SequenceObject) (locality drawn : ℕ) → t.fixed.started ≡ true → handle.number < 2 ^ 32 → (forgotten t c).count < 2 ^ 64 - 1 → object_at t.objects handle ≡ None → sequence_of (forgotten t c) handle ≡ Some object
-    → behind (lacking_effect t c drawn) (save_buffer handle) locality ≡ answered (lacking_effect t c drawn) (saved_reply t (forgotten t c) object)
-saved_effect t c handle object locality drawn started small less none there =
+saved_effect : (t : Record) (c : Completion) (handle : Handle) (object : SequenceObject) (locality drawn : ℕ) (random : List ℕ) → t.fixed.started ≡ true → handle.number < 2 ^ 32 → (forgotten t c).count < 2 ^ 64 - 1 → object_at t.objects handle ≡ None → sequence_of (forgotten t c) handle ≡ Some object
+    → behind (lacking_effect t c drawn) (save_buffer handle) locality random ≡ answered (lacking_effect t c drawn) (saved_reply t (forgotten t c) object)
+saved_effect t c handle object locality drawn random started small less none there =
     let first = lacking_effect t c drawn in
-    ap (done_after first (save_buffer handle) locality) (asked_again t 0x162 (to_be_bytes w32 handle.number) (omega arith) (omega arith) started)
-    ∙ ap (sending_after first (save_buffer handle) locality) (none_sent t (forgotten t c) 0x162 (to_be_bytes w32 handle.number) (omega arith))
+    ap (done_after first (save_buffer handle) locality random) (asked_again t 0x162 (to_be_bytes w32 handle.number) (omega arith) (omega arith) started)
+    ∙ ap (sending_after first (save_buffer handle) locality random) (none_sent t (forgotten t c) 0x162 (to_be_bytes w32 handle.number) (omega arith))
     ∙ ap (answered first)
     (reply_again t (forgotten t c) 0x162 (to_be_bytes w32 handle.number) false (omega arith) (omega arith) started refl
     ∙ served_saves t (forgotten t c) handle object small less none there)
@@ -78,7 +78,7 @@ saves_sequences r c handle object locality elapsed random started small less non
     let lacks = step_lacks r buffer locality elapsed random (header_lacks 0x162 (to_be_bytes w32 handle.number) lacks_save (omega arith)) in
     let drawn = drawn_by r (Given buffer locality elapsed random) (lacking_step t).row.check in
     let own = same_named (forgotten t c) c handle (kept_sequences t c started) ∙ there in
-    let effect = ap (λ (first : Seen). behind first buffer locality) (passed_lacks r c buffer locality elapsed random lacks)
-    ∙ saved_effect t c handle object locality drawn started small (subst (λ (n : ℕ). n < 2 ^ 64 - 1) (sym (kept_count t c)) less) none own in
+    let effect = ap (λ (first : Seen). behind first buffer locality random) (passed_lacks r c buffer locality elapsed random lacks)
+    ∙ saved_effect t c handle object locality drawn random started small (subst (λ (n : ℕ). n < 2 ^ 64 - 1) (sym (kept_count t c)) less) none own in
     subst (IsSequenceSaved t (forgotten t c) handle object) (sym effect)
     (record { response = refl; device = refl; layer = refl; stays = counted_named (forgotten t c) ((forgotten t c).count + 1) handle ∙ own })

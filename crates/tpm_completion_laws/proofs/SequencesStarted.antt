@@ -1,9 +1,10 @@
 -- TPM2_HMAC_Start starts a sequence with the hash and the key that the device uses for TPM2_HMAC.
-use Rattle.std.proofs.Common.{arith, ◌≡◌, ℕ, ◌+◌, ◌^◌, ◌<◌, ◌≤◌, Bool, true, false, cond, List, [], ◌∷◌, ◌++◌, length, drop, replicate, Option, Some, None, option_map, Result, Ok, Err, IfOk, refl, sym, ap, subst, ◌∙◌, append-nil, append_assoc, length-append, eqb-true, ltb-false}
-use Rattle.std.specs.Prelude.{◌==◌, ◌&&◌, ◌||◌, nat_lt, not, ok_or, option_and_then, slice_get, if◌then◌else◌}
+use Rattle.std.proofs.Common.{arith, ◌≡◌, ℕ, ◌+◌, ◌^◌, ◌<◌, ◌≤◌, Bool, true, false, cond, List, [], ◌∷◌, ◌++◌, length, drop, Option, Some, None, option_map, Result, Ok, Err, IfOk, refl, sym, ap, subst, ◌∙◌, append-nil, length-append, eqb-true, ltb-false}
+use Rattle.std.specs.Prelude.{◌==◌, ◌&&◌, ◌||◌, bit_and, nat_lt, not, ok_or, option_and_then, slice_get, if◌then◌else◌}
 use Rattle.std.specs.Int.{w16, w32, to_be_bytes}
 use Rattle.std.specs.List.{AllByRecursion, list_any}
 use Rattle.std.specs.Option.{option_map_or}
+use Rattle.std.proofs.lemmas.Nat.{and_assoc, and_le_l}
 use Rattle.tpm_bytes.proofs.Fields.{AreBytes, number_or_takes, ok_is, or_fault_ok, passed, sized_again, wide32}
 use Rattle.tpm_bytes.specs.Reading.{◌>>=◌, number_at, or_fault, refused_if, sized_at}
 use Rattle.tpm_bytes.specs.Writing.{sized_text}
@@ -51,7 +52,7 @@ use Rattle.tpm_object.specs.declared.object.Object.{Object}
 use Rattle.tpm_sequence.proofs.SequenceLaws.{hmac_sequence_is_hmac}
 use Rattle.tpm_sequence.specs.Sequence.{hmac_sequence}
 use Rattle.tpm_sequence.specs.Sequence.{object_of as sequence_object}
-use Rattle.tpm_session.specs.FirstBuffer.{has_first_buffer, with_first_buffer}
+use Rattle.tpm_session.specs.FirstBuffer.{has_first_buffer}
 use Rattle.tpm_session.specs.ParameterHash.{HashedParts, OfResponse}
 use Rattle.tpm_session.specs.Sessions.{session_at, session_byte}
 use Rattle.tpm_session.specs.declared.session.Session.{Session}
@@ -62,9 +63,8 @@ use Rattle.tpm_record.specs.rows.Answer.{Sized, answer_of}
 use Rattle.tpm_record.specs.rows.Refusals.{action_refusal, handle_refusal}
 use Rattle.tpm_record.specs.rows.Request.{Request}
 use Rattle.tpm_record.specs.rows.Rows.{Success, all_read, parameter, unchanged}
-use Rattle.tpm_auth.specs.Entries.{decrypts, entries_pass, session_of}
+use Rattle.tpm_auth.specs.Entries.{decrypts, entries_pass, is_password, session_of}
 use Rattle.tpm_auth.specs.Grant.{authorize, authorized, grant, grants_pass}
-use Rattle.tpm_auth.specs.SessionGrant.{granted_value}
 use Rattle.tpm_auth.specs.declared.session_grant.Grant.{Grant}
 use Rattle.tpm_actions_object.specs.Hmac.{Parameters, chosen_hash, hmac_row, own_hash, parameters_in, scheme_of}
 use Rattle.tpm_actions_object.specs.Loaded.{loaded_at}
@@ -75,19 +75,21 @@ use Rattle.tpm_step.specs.step.Answer.{answer_to, framed, success_text, written_
 use Rattle.tpm_step.specs.step.Entries.{entries_answer, entries_rolled, entry_answer, password_answer, session_answer}
 use Rattle.tpm_step.specs.step.General.{general}
 use Rattle.tpm_step.specs.step.Granted.{Granted}
-use Rattle.tpm_step.specs.step.Parameters.{asks_for, entry_parameters, session_bytes, session_parameters}
+use Rattle.tpm_step.specs.step.Parameters.{asks_for, entry_parameters, session_parameters}
 use Rattle.tpm_step.specs.step.Step.{Accepted, acceptance, accepted, request_in, stepped_of, success_step}
 use Rattle.tpm_step.specs.step.Table.{row_of}
 use Rattle.tpm_step.specs.declared.direction.Direction.{Direction}
 use Rattle.tpm_step.specs.declared.direction.Direction.TheVariants as direction
 use Rattle.tpm_step.specs.declared.refused_command.RefusedCommand.{RefusedCommand}
 use Rattle.tpm_step.specs.rows.Acceptance.{IsAcceptance}
-use Rattle.tpm_completion.specs.Authorizing.{entries_at, entry_refused, handle_at, is_password_entry, only_entry}
-use Rattle.tpm_completion.specs.Sending.{HmacStart, area_of, hmac_command, hmac_start_in, key_hash, keyed_sequence, start_sent, start_work}
+use Rattle.tpm_completion.specs.Authorizing.{entries_at, entry_passes, entry_refused, first_passes, handle_at, names_hmac_session, only_entry}
+use Rattle.tpm_completion.specs.Sending.{HmacStart, area_of, hmac_command, hmac_start_in, key_hash, keyed_sequence, start_asked, start_covered, start_entry, start_sent, start_work}
 use Rattle.tpm_completion.specs.SequenceRows.{authorized_success, full_refused}
 use Rattle.tpm_completion.specs.Sequences.{free_slot}
+use Rattle.tpm_completion.specs.SessionEntry.{Covered, entry_sent, sent_hmac}
 use Rattle.tpm_completion.specs.declared.completion.Completion.{Completion}
 use Rattle.tpm_completion.specs.declared.sending.Work.TheVariants.{Starts}
+use Rattle.tpm_completion_laws.proofs.SessionEntries.{few_bytes}
 use Rattle.tpm_completion_laws.specs.Sequences.{StartsLikeTheDevice, StartsWithTheKey, hmac_request}
 
 -- ---- results of several steps
@@ -95,9 +97,10 @@ use Rattle.tpm_completion_laws.specs.Sequences.{StartsLikeTheDevice, StartsWithT
 bind_is : {A B E : Type 0} (x : Result A E) (f : A → Result B E) (a : A) (y : Result B E) → x ≡ Ok a → f a ≡ y → (x >>= f) ≡ y
 bind_is x f a y is rest = rw is rest
 
-always : {A E : Type 0} (P : A → Type 0) (x : Result A E) → ((a : A) → P a) → IfOk x P
-always P (Ok a) all = all a
-always P (Err e) all = tt
+-- if `refused_if` does not refuse, its condition is false
+unrefused : {E : Type 0} (P : Type 0) (b : Bool) (fault : E) → (b ≡ false → P) → IfOk (refused_if b fault) (λ u. P)
+unrefused P true fault all = tt
+unrefused P false fault all = all refl
 
 neither : (a b : Bool) → (a || b) ≡ false → (a ≡ false) × (b ≡ false)
 neither true b e = absurd cc
@@ -109,17 +112,18 @@ not_false false e = absurd cc
 
 -- ---- what TPM2_HMAC_Start asks for
 
--- The nonce and the password of an entry have at most 32 bytes, and its handle is TPM_RS_PW.
-record HasPassword (e : Entry) : Type 0 where
+-- The nonce of an entry, and its HMAC or password, have at most 32 bytes. The entry neither decrypts
+-- nor encrypts a parameter.
+record IsPlain (e : Entry) : Type 0 where
   nonce : length e.nonce ≤ 32
   hmac : length e.hmac ≤ 32
-  password : (e.session.number == password_handle.number) ≡ true
+  cipher : uses_cipher e.attributes ≡ false
 
--- The handle and the entry can be encoded, and the entry is that of a password.
+-- The handle and the entry can be encoded, and the entry passes the layer's checks.
 record IsStart (start : HmacStart) : Type 0 where
   handle : start.handle.number < 2 ^ 32
   entry : IsEntry start.entry
-  secret : HasPassword start.entry
+  plain : IsPlain start.entry
 
 handle_is : (text : List ℕ) → AreBytes text → IfOk (handle_at 1 text) (λ x. (x.0.number < 2 ^ 32) × AreBytes x.1)
 unfolding handle_at
@@ -135,45 +139,66 @@ entries_are text fits = ok_checked _ check.Entries (area_at text) (by (area_at t
     by (Ok y) is = (area_takes text y fits is).2
     by (Err e) is = tt
 
-password_is : (n : ℕ) (e : Entry) → IfOk (is_password_entry n e) (λ u. HasPassword e)
-unfolding is_password_entry
-password_is n e =
+plain_is : (n : ℕ) (allowed : Bool) (e : Entry) → IfOk (entry_passes n allowed e) (λ u. IsPlain e)
+unfolding entry_passes
+plain_is n allowed e =
     let sizes : Bool = nat_lt 32 (length e.nonce) || nat_lt 32 (length e.hmac) in
-    let session : Bool = not (e.session.number == password_handle.number) in
-    let other : Bool = audits e.attributes || uses_cipher e.attributes in
-    ok_bind_is (λ u. HasPassword e) (refused_if sizes (entry_refused n code.Size)) _ (λ one first.
-    ok_bind_is (λ u. HasPassword e) (refused_if session (entry_refused n code.Handle)) _ (λ two second.
-    ok_bind (λ u. HasPassword e) (refused_if (has_reserved_bits e.attributes) (entry_refused n code.ReservedBits)) _ (λ three.
+    ok_bind_is (λ u. IsPlain e) (refused_if sizes (entry_refused n code.Size)) _ (λ one first.
+    ok_bind (λ u. IsPlain e) (refused_if (not allowed) (entry_refused n code.Handle)) _ (λ two.
+    ok_bind (λ u. IsPlain e) (refused_if (has_reserved_bits e.attributes) (entry_refused n code.ReservedBits)) _ (λ three.
     let small = neither (nat_lt 32 (length e.nonce)) (nat_lt 32 (length e.hmac)) (passed sizes (entry_refused n code.Size) one first) in
-    always (λ u. HasPassword e) (refused_if other (entry_refused n code.Attributes)) (λ u. record {
+    unrefused (IsPlain e) (audits e.attributes || uses_cipher e.attributes) (entry_refused n code.Attributes) (λ other. record {
       nonce = ltb-false _ _ small.0;
       hmac = ltb-false _ _ small.1;
-      password = not_false (e.session.number == password_handle.number) (passed session (entry_refused n code.Handle) two second);
+      cipher = (neither (audits e.attributes) (uses_cipher e.attributes) other).1;
     }))))
 
-only_is : (entries : List Entry) → AllByRecursion IsEntry entries → IfOk (only_entry entries) (λ e. IsEntry e × HasPassword e)
+only_is : (entries : List Entry) → AllByRecursion IsEntry entries → IfOk (only_entry entries) (λ e. IsEntry e × IsPlain e)
 unfolding only_entry
 only_is [] are = tt
-only_is (e ∷ []) are = ok_then (λ u. HasPassword e) _ (is_password_entry 1 e) _ (password_is 1 e) (λ valid has. (are.0, has))
-only_is (e ∷ f ∷ more) are = ok_bind _ (is_password_entry 1 e) _ (λ valid. tt)
+only_is (e ∷ []) are = ok_then (λ u. IsPlain e) _ (first_passes e) _ (plain_is 1 (is_password e || names_hmac_session e) e) (λ valid plain. (are.0, plain))
+only_is (e ∷ f ∷ more) are = ok_bind _ (first_passes e) _ (λ valid. tt)
 
 start_is : (c : Completion) (text : List ℕ) → AreBytes text → IfOk (hmac_start_in c text) IsStart
 unfolding hmac_start_in
 start_is c text fits =
     ok_then (λ x. (x.0.number < 2 ^ 32) × AreBytes x.1) IsStart (handle_at 1 text) _ (handle_is text fits) (λ handle is.
     ok_then (λ x. AllByRecursion IsEntry x.0) IsStart (entries_at handle.1) _ (entries_are handle.1 is.1) (λ entries are.
-    ok_then (λ e. IsEntry e × HasPassword e) IsStart (only_entry entries.0) _ (only_is entries.0 are) (λ entry one.
+    ok_then (λ e. IsEntry e × IsPlain e) IsStart (only_entry entries.0) _ (only_is entries.0 are) (λ entry one.
     ok_bind IsStart (parameter 1 (buffer_at 32 entries.1)) _ (λ auth.
     ok_bind IsStart (parameter 2 (hash_or_null_at auth.1)) _ (λ hash.
     ok_bind IsStart (all_read hash.1) _ (λ ended.
     ok_bind IsStart (ok_or (free_slot c) full_refused) _ (λ slot.
-    record { handle = is.0; entry = one.0; secret = one.1 })))))))
+    record { handle = is.0; entry = one.0; plain = one.1 })))))))
+
+-- ---- the entry that is sent
+
+-- the HMAC or password in the entry that the layer sends has at most 32 bytes
+few_sent : (r : Record) (asked sent : Covered) (e : Entry) → length e.hmac ≤ 32 → length (entry_sent r asked sent e).hmac ≤ 32
+few_sent r asked sent e few = by (session_of r e)
+  where
+    by : (found : Option Session) → length (option_map_or (λ (s : Session). sent_hmac s asked sent e) found e.hmac) ≤ 32
+    by None = few
+    by (Some s) = few_bytes s asked sent e
+
+-- the same request, with the entry that the layer sends
+abbrev with_sent : Record → HmacStart → HmacStart
+with_sent r start = record start { entry = start_entry r start }
+
+sent_is : (r : Record) (start : HmacStart) → IsStart start → IsStart (with_sent r start)
+sent_is r start is =
+    let few : length (start_entry r start).hmac ≤ 32 = few_sent r (start_asked r start) (start_covered r start) start.entry is.plain.hmac in
+    record {
+      handle = is.handle;
+      entry = record { session = is.entry.session; nonce = is.entry.nonce; attributes = is.entry.attributes; hmac = omega (arith, few) };
+      plain = record { nonce = is.plain.nonce; hmac = few; cipher = is.plain.cipher };
+    }
 
 -- ---- the command that is sent
 
 -- the parameters of TPM2_HMAC: a buffer, and the hashAlg of a TPM2_HMAC_Start
-abbrev hmac_parameters : HmacStart → (message : List ℕ) → List ℕ
-hmac_parameters start message = sized_text message ++ to_be_bytes w16 (hash_or_null_number start.hash)
+abbrev parameters_text : HmacStart → (message : List ℕ) → List ℕ
+parameters_text start message = sized_text message ++ to_be_bytes w16 (hash_or_null_number start.hash)
 
 -- the command as the device decodes it
 abbrev hmac_whole : HmacStart → Whole
@@ -181,15 +206,14 @@ hmac_whole start = record {
   code = command.Hmac;
   handles = start.handle ∷ [];
   entries = start.entry ∷ [];
-  parameters = hmac_parameters start [];
+  parameters = parameters_text start [];
 }
 
-body_is : (start : HmacStart) → command_body_text (hmac_whole start) ≡ to_be_bytes w32 start.handle.number ++ area_of start.entry ++ sized_text [] ++ to_be_bytes w16 (hash_or_null_number start.hash)
+body_is : (start : HmacStart) → command_body_text (hmac_whole start) ≡ to_be_bytes w32 start.handle.number ++ area_of start.entry ++ parameters_text start []
 body_is start =
     let front : List ℕ = to_be_bytes w32 start.handle.number in
     command_body_text-is (hmac_whole start)
-    ∙ ap (λ (entries : List ℕ). front ++ (to_be_bytes w32 (length entries) ++ entries) ++ hmac_parameters start []) (append-nil (auth_entry_text start.entry))
-    ∙ sym (append_assoc (front ++ area_of start.entry) (sized_text []) (to_be_bytes w16 (hash_or_null_number start.hash)))
+    ∙ ap (λ (entries : List ℕ). front ++ (to_be_bytes w32 (length entries) ++ entries) ++ parameters_text start []) (append-nil (auth_entry_text start.entry))
 
 text_is : (start : HmacStart) → command_text (hmac_whole start) ≡ hmac_command start.handle start.entry start.hash
 unfolding header_text hmac_command
@@ -209,8 +233,8 @@ is_command start is =
     let size = command_size-is c in
     let body = length-body c in
     let area = area_size start.entry in
-    let nonce = is.secret.nonce in
-    let hmac = is.secret.hmac in
+    let nonce = is.plain.nonce in
+    let hmac = is.plain.hmac in
     record {
       handle_count = refl;
       handles = (is.handle, tt);
@@ -259,23 +283,28 @@ no_session places handle is = by (at_place places (place_of handle.number))
         ap (λ (n : ℕ). if kind_of n == session_byte s then Some s else None) (eqb-true handle.number password_handle.number is)
         ∙ ap (λ (b : Bool). if b then Some s else None) (apart s.kind)
 
-plain_entry : (d : Direction) (r : Record) (g : Option Grant) (e : Entry) (text : List ℕ) → session_of r e ≡ None → entry_parameters d r g e text ≡ text
-unfolding entry_parameters
-plain_entry d r g e text none =
-    ap (λ (o : Option Session). option_map_or (λ (s : Session). with_first_buffer (session_bytes d s (granted_value r g) e) text) o text) none
-
--- a password neither decrypts nor encrypts parameters
-plain_by : (d : Direction) (r : Record) (g : Option Grant) (e : Entry) (text : List ℕ) → session_of r e ≡ None → session_parameters d r ((e, g) ∷ []) text ≡ text
-plain_by d r g e text none = by (asks_for d e)
-  where
-    by : (b : Bool) → option_map_or (λ (x : Granted). entry_parameters d r x.1 x.0 text) (cond b (Some (e, g)) None) text ≡ text
-    by true = plain_entry d r g e text none
-    by false = refl
-
 password_answered : (r : Record) (hashed : HashedParts) (g : Option Grant) (e : Entry) → session_of r e ≡ None → entry_answer r hashed g e ≡ password_answer
 unfolding entry_answer
 password_answered r hashed g e none =
     ap (λ (o : Option Session). option_map_or (session_answer r hashed g e) o password_answer) none
+
+-- ---- the entry neither decrypts nor encrypts parameters
+
+-- if none of the bits of the two attributes is set, the bit of one of them is not set
+no_bit : (octet bit : ℕ) → bit_and 0x60 bit ≡ bit → not (bit_and octet 0x60 == 0) ≡ false → not (bit_and octet bit == 0) ≡ false
+no_bit octet bit inside none =
+    let both : bit_and octet 0x60 ≡ 0 = eqb-true (bit_and octet 0x60) 0 (not_false (bit_and octet 0x60 == 0) none) in
+    let one : bit_and octet bit ≡ bit_and 0 bit = ap (bit_and octet) (sym inside) ∙ sym (and_assoc bit octet 0x60) ∙ ap (λ (n : ℕ). bit_and n bit) both in
+    let zero : bit_and octet bit ≡ 0 = omega (arith, one, and_le_l 0 bit) in
+    ap (λ (n : ℕ). not (n == 0)) zero
+
+asks_none : (d : Direction) (e : Entry) → uses_cipher e.attributes ≡ false → asks_for d e ≡ false
+asks_none direction.Decrypt e none = no_bit e.attributes.octet 0x20 refl none
+asks_none direction.Encrypt e none = no_bit e.attributes.octet 0x40 refl none
+
+plain_by : (d : Direction) (r : Record) (g : Option Grant) (e : Entry) (text : List ℕ) → uses_cipher e.attributes ≡ false → session_parameters d r ((e, g) ∷ []) text ≡ text
+plain_by d r g e text none =
+    ap (λ (b : Bool). option_map_or (λ (x : Granted). entry_parameters d r x.1 x.0 text) (cond b (Some (e, g)) None) text) (asks_none d e none)
 
 -- ---- the grants
 
@@ -304,11 +333,11 @@ buffer_again message rest few =
 abbrev parameters_of : HmacStart → (message : List ℕ) → Parameters
 parameters_of start message = record { buffer = message; hash = start.hash }
 
-parameters_again : (start : HmacStart) (message : List ℕ) → length message ≤ data_limit → parameters_in (hmac_parameters start message) ≡ Ok (parameters_of start message)
+parameters_again : (start : HmacStart) (message : List ℕ) → length message ≤ data_limit → parameters_in (parameters_text start message) ≡ Ok (parameters_of start message)
 unfolding parameters_in
 parameters_again start message few =
     let rest : List ℕ = to_be_bytes w16 (hash_or_null_number start.hash) in
-    bind_is (parameter 1 (buffer_at data_limit (hmac_parameters start message))) _ (message, rest) _
+    bind_is (parameter 1 (buffer_at data_limit (parameters_text start message))) _ (message, rest) _
     (ap (λ (x : Result (List ℕ × List ℕ) Rc). parameter 1 x) (buffer_again message rest few))
     (bind_is (parameter 2 (hash_or_null_at rest)) _ (start.hash, []) _
     (ap (λ (x : Result (Option HashAlg × List ℕ) Rc). parameter 2 x) (hash_or_null_spelled.again start.hash [] tt)) refl)
@@ -334,7 +363,7 @@ hmac_by t handle text = do
   hash ← ok_or (chosen_hash scheme p.hash) hash_refusal
   Ok (unchanged t (answer_of (Sized (hmac_of hash object.sensitive p.buffer))))
 
-row_by : (t : Record) (start : HmacStart) (locality : ℕ) (random message : List ℕ) → hmac_row t (hmac_request start locality random message) ≡ hmac_by t start.handle (hmac_parameters start message)
+row_by : (t : Record) (start : HmacStart) (locality : ℕ) (random message : List ℕ) → hmac_row t (hmac_request start locality random message) ≡ hmac_by t start.handle (parameters_text start message)
 unfolding hmac_row
 row_by t start locality random message = refl
 
@@ -354,11 +383,11 @@ parameters_are : (start : HmacStart) (x : Result Parameters Refused) → x ≡ O
 parameters_are start (Ok p) is = ok_is {E = Refused} p (parameters_of start []) is
 parameters_are start (Err e) is = tt
 
-row_is : (t : Record) (start : HmacStart) → IfOk (hmac_by t start.handle (hmac_parameters start [])) (IsHmac t start)
+row_is : (t : Record) (start : HmacStart) → IfOk (hmac_by t start.handle (parameters_text start [])) (IsHmac t start)
 row_is t start =
     ok_bind_is (IsHmac t start) (loaded_at t start.handle) _ (λ object found.
-    ok_then (λ (p : Parameters). p ≡ parameters_of start []) (IsHmac t start) (parameters_in (hmac_parameters start [])) _
-    (parameters_are start (parameters_in (hmac_parameters start [])) (parameters_again start [] (omega arith))) (λ p same.
+    ok_then (λ (p : Parameters). p ≡ parameters_of start []) (IsHmac t start) (parameters_in (parameters_text start [])) _
+    (parameters_are start (parameters_in (parameters_text start [])) (parameters_again start [] (omega arith))) (λ p same.
     ok_bind_is (IsHmac t start) (scheme_of object.public.parameters) _ (λ scheme kind.
     ok_bind_is (IsHmac t start) (refused_if (has object.public.attributes attribute.Restricted) restricted_refusal) _ (λ a2 second.
     ok_bind_is (IsHmac t start) (refused_if (not (has object.public.attributes attribute.Sign)) key_refusal) _ (λ a3 third.
@@ -376,10 +405,10 @@ row_is t start =
     }))))))
 
 by_again : (t : Record) (start : HmacStart) (success : Success) (is : IsHmac t start success) (message : List ℕ) → length message ≤ data_limit
-    → hmac_by t start.handle (hmac_parameters start message) ≡ Ok (unchanged t (answer_of (Sized (hmac_of is.hash is.object.sensitive message))))
+    → hmac_by t start.handle (parameters_text start message) ≡ Ok (unchanged t (answer_of (Sized (hmac_of is.hash is.object.sensitive message))))
 by_again t start success is message few =
     bind_is (loaded_at t start.handle) _ is.object _ (ap (λ (o : Option Object). ok_or o handle_refusal) is.found)
-    (bind_is (parameters_in (hmac_parameters start message)) _ (parameters_of start message) _ (parameters_again start message few)
+    (bind_is (parameters_in (parameters_text start message)) _ (parameters_of start message) _ (parameters_again start message few)
     (bind_is (scheme_of is.object.public.parameters) _ is.scheme _ is.kind
     (bind_is (refused_if (has is.object.public.attributes attribute.Restricted) restricted_refusal) _ tt _ (ap (λ (b : Bool). refused_if b restricted_refusal) is.unrestricted)
     (bind_is (refused_if (not (has is.object.public.attributes attribute.Sign)) key_refusal) _ tt _ (ap (λ (b : Bool). refused_if b key_refusal) is.signs)
@@ -418,16 +447,28 @@ work_is r start object hash found keyed =
 
 -- ---- the response
 
-answer_is : (t : Record) (start : HmacStart) (g : Option Grant) (random mac : List ℕ) → ((s : Record) → session_of s start.entry ≡ None)
-    → (answer_to (hmac_whole start) (g ∷ []) (written_of (answer_of (Sized mac))) t random).response ≡ authorized_success [] (sized_text mac) password_answer
+-- the record after the entry's session got its new nonce
+abbrev rolled_after : Record → Entry → (random : List ℕ) → Record
+rolled_after t e random = (entries_rolled t (e ∷ []) (drop 0 random)).after
+
+-- the answer to the entry
+abbrev area_after : Record → Entry → Option Grant → (random mac : List ℕ) → List ℕ
+area_after t e g random mac = entries_answer (rolled_after t e random) (OfResponse (code_number command.Hmac) (sized_text mac)) ((e, g) ∷ [])
+
+area_of_password : (t : Record) (e : Entry) (g : Option Grant) (random mac : List ℕ) → is_password e ≡ true → area_after t e g random mac ≡ password_answer
+area_of_password t e g random mac is =
+    let after : Record = rolled_after t e random in
+    ap (λ (area : List ℕ). area ++ [])
+    (password_answered after (OfResponse (code_number command.Hmac) (sized_text mac)) g e (no_session after.sessions e.session is))
+
+answer_is : (t : Record) (start : HmacStart) (g : Option Grant) (random mac : List ℕ) → uses_cipher start.entry.attributes ≡ false
+    → (answer_to (hmac_whole start) (g ∷ []) (written_of (answer_of (Sized mac))) t random).response ≡ authorized_success [] (sized_text mac) (area_after t start.entry g random mac)
 unfolding answer_to success_text
 answer_is t start g random mac none =
     let e : Entry = start.entry in
-    let after : Record = (entries_rolled t (e ∷ []) (drop 0 random)).after in
+    let after : Record = rolled_after t e random in
     ap (λ (parameters : List ℕ). framed 0x8002 0 ([] ++ to_be_bytes w32 (length parameters) ++ parameters ++ entries_answer after (OfResponse (code_number command.Hmac) parameters) ((e, g) ∷ [])))
-    (plain_by direction.Encrypt after g e (sized_text mac) (none after))
-    ∙ ap (λ (area : List ℕ). framed 0x8002 0 ([] ++ to_be_bytes w32 (length (sized_text mac)) ++ sized_text mac ++ (area ++ [])))
-    (password_answered after (OfResponse (code_number command.Hmac) (sized_text mac)) g e (none after))
+    (plain_by direction.Encrypt after g e (sized_text mac) none)
 
 -- ---- the law
 
@@ -436,7 +477,7 @@ accepted_starts : (r : Record) (start : HmacStart) (locality : ℕ) (random : Li
 accepted_starts r start locality random a begun is same =
     let t : Record = ticked r 0 in
     let c : Whole = hmac_whole start in
-    let none : (s : Record) → session_of s start.entry ≡ None = λ s. no_session s.sessions start.entry.session begun.secret.password in
+    let none : uses_cipher start.entry.attributes ≡ false = begun.plain.cipher in
     let granted : authorize t c locality ≡ Ok a.grants = subst (λ (d : Whole). authorize t d locality ≡ Ok a.grants) same is.granted in
     let one : IsOneGrant a.grants = ok_at IsOneGrant (authorize t c locality) a.grants (one_grant t start locality) granted in
     let asked : a.request ≡ hmac_request start locality random [] =
@@ -444,19 +485,20 @@ accepted_starts r start locality random a begun is same =
     ∙ ap (λ (d : Whole). request_in t d a.grants locality random) same
     ∙ ap (λ (grants : List (Option Grant)). request_in t c grants locality random) one.1
     ∙ ap (λ (text : List ℕ). let q : Request = record { handles = start.handle ∷ []; locality = locality; parameters = text; random = random } in q)
-    (plain_by direction.Decrypt t one.0 start.entry (hmac_parameters start []) (none t)) in
-    let row : hmac_by t start.handle (hmac_parameters start []) ≡ Ok a.success =
+    (plain_by direction.Decrypt t one.0 start.entry (parameters_text start []) none) in
+    let row : hmac_by t start.handle (parameters_text start []) ≡ Ok a.success =
     sym (row_by t start locality random [])
     ∙ sym (row_served t (hmac_request start locality random []))
     ∙ ap (λ (q : Request). row_of t command.Hmac q) (sym asked)
     ∙ ap (λ (d : Whole). row_of t d.code a.request) (sym same)
     ∙ is.row in
-    let keyed : IsHmac t start a.success = ok_at (IsHmac t start) (hmac_by t start.handle (hmac_parameters start [])) a.success (row_is t start) row in
+    let keyed : IsHmac t start a.success = ok_at (IsHmac t start) (hmac_by t start.handle (parameters_text start [])) a.success (row_is t start) row in
     let mac : List ℕ = hmac_of keyed.hash keyed.object.sensitive [] in
     record {
       hash = keyed.hash;
       key = keyed.object.sensitive;
       sequence = hmac_sequence keyed.hash keyed.object.sensitive;
+      area = area_after t start.entry one.0 random mac;
       work = work_is r start keyed.object keyed.hash (sym (same_object r start.handle 0) ∙ keyed.found) (key_is keyed.object.public.parameters keyed.scheme start.hash keyed.hash keyed.kind keyed.chosen);
       digest = λ parts. hmac_sequence_is_hmac keyed.hash keyed.object.sensitive parts;
       answer = λ one_locality drawn message few. row_by t start one_locality drawn message ∙ by_again t start a.success keyed message few;
@@ -464,6 +506,7 @@ accepted_starts r start locality random a begun is same =
           ∙ ap (λ (grants : List (Option Grant)). (answer_to c grants (written_of a.success.answer) a.success.after random).response) one.1
           ∙ ap (λ (s : Success). (answer_to c (one.0 ∷ []) (written_of s.answer) s.after random).response) keyed.answer
           ∙ answer_is t start one.0 random mac none;
+      password = area_of_password t start.entry one.0 random mac;
     }
 
 -- the number of every check is greater than 0
@@ -488,10 +531,26 @@ stepped_starts : (r : Record) (start : HmacStart) (locality : ℕ) (random : Lis
 stepped_starts r start locality random (Ok a) begun is same zero = accepted_starts r start locality random a begun is same
 stepped_starts r start locality random (Err e) begun is same zero = absurd (check_some e.refused.check zero)
 
+-- what holds of the request with the entry that the layer sends holds of the client's request
+sent_starts : (r : Record) (start : HmacStart) (text : List ℕ) → StartsLikeTheDevice (ticked r 0) (with_sent r start) (start_sent r (with_sent r start)).work text
+    → StartsLikeTheDevice (ticked r 0) start (start_sent r start).work text
+sent_starts r start text is = record {
+  hash = is.hash;
+  key = is.key;
+  sequence = is.sequence;
+  area = is.area;
+  work = is.work;
+  digest = is.digest;
+  answer = is.answer;
+  response = is.response;
+  password = is.password;
+}
+
 pub starts_with_the_key : StartsWithTheKey
-starts_with_the_key r c text start locality fits asked zero =
+starts_with_the_key r c text start locality random fits asked zero =
     let t : Record = ticked r 0 in
-    let buffer : List ℕ = hmac_command start.handle start.entry start.hash in
-    let random : List ℕ = replicate 256 0 in
-    let begun : IsStart start = ok_at IsStart (hmac_start_in c text) start (start_is c text fits) asked in
-    stepped_starts r start locality random (accepted t buffer locality random) begun (accepted_is t buffer locality random) (accepted_whole t start locality random begun) zero
+    let sent : HmacStart = with_sent r start in
+    let buffer : List ℕ = hmac_command sent.handle sent.entry sent.hash in
+    let begun : IsStart sent = sent_is r start (ok_at IsStart (hmac_start_in c text) start (start_is c text fits) asked) in
+    sent_starts r start (stepped_of t random (accepted t buffer locality random)).response
+    (stepped_starts r sent locality random (accepted t buffer locality random) begun (accepted_is t buffer locality random) (accepted_whole t sent locality random begun) zero)

@@ -18,13 +18,13 @@ use Rattle.tpm_completion.specs.Capability.{asked_at, capability_told}
 use Rattle.tpm_completion.specs.Command.{Command, authorized_command, plain_command, tag_of}
 use Rattle.tpm_completion.specs.Completion.{session_context}
 use Rattle.tpm_completion.specs.Context.{names_session, token_at, names_sequence}
-use Rattle.tpm_completion.specs.Hashing.{hash_row, hierarchy_at}
+use Rattle.tpm_completion.specs.Hashing.{hash_row}
 use Rattle.tpm_completion.specs.Loading.{placed_reply}
 use Rattle.tpm_completion.specs.Reply.{capability_asked, command_reply, is_stirred, listed, stands, load_asked, or_reply, plain_reply, probed, replied, reply, reply_by, row_served, save_asked, served, stirred}
 use Rattle.tpm_completion.specs.Saving.{Reply, handle_given, refused, with_session, loaded, loaded_by, next_number, object_numbered, object_saved, place_named, saved, session_numbered, session_saved, sequence_numbered, sequence_saved}
-use Rattle.tpm_completion.specs.Sending.{sent_by, sent_reply}
-use Rattle.tpm_completion.specs.SequenceReply.{asked_reply, authorized_reply, bare_reply, flush_handle, flush_reply, needs_password, row_reply, sequence_reply, unsent_reply}
-use Rattle.tpm_completion.specs.SequenceRows.{complete_row, completion_text, flushed, full_refused, hash_start_row, mode_refused, sequence_in, update_row}
+use Rattle.tpm_completion.specs.Sending.{sent_by, sent_reply, work_reply}
+use Rattle.tpm_completion.specs.SequenceReply.{asked_reply, authorized_reply, bare_reply, flush_handle, flush_reply, needs_entry, password_reply, row_reply, sequence_reply, unsent_reply}
+use Rattle.tpm_completion.specs.SequenceRows.{complete_row, completed_in, flushed, full_refused, hash_start_row, sequence_in, update_row, updated_in}
 use Rattle.tpm_completion.specs.Sequences.{free_slot, slot_of, sequence_of}
 use Rattle.tpm_completion.specs.Testing.{incremental_row, test_parms_row, test_result_row}
 use Rattle.tpm_completion.specs.declared.capability.Asked.{Asked}
@@ -32,13 +32,11 @@ use Rattle.tpm_completion.specs.declared.completion.Completion.{Completion}
 use Rattle.tpm_completion.specs.declared.context.Token.{Token}
 use Rattle.tpm_completion.specs.declared.sending.Sent.{Sent}
 use Rattle.tpm_completion.specs.declared.sending.Work.{Work}
-use Rattle.tpm_completion.specs.declared.sending.Work.TheVariants.{Ends, Starts}
+use Rattle.tpm_completion.specs.declared.sending.Work.TheVariants.{Completes, Ends, Starts, Updates}
 use Rattle.tpm_record.specs.declared.hierarchy.Hierarchies.{Hierarchies}
 use Rattle.tpm_record.specs.rows.Rows.{all_read, parameter}
-use Rattle.tpm_sequence.specs.Sequence.{sequence_updated}
 use Rattle.tpm_types.specs.Algorithm.{hash_or_null_at}
 use Rattle.tpm_types.specs.Buffer.{buffer_at}
-use Rattle.tpm_types.specs.Limits.{data_limit}
 use Rattle.tpm_completion.specs.SequenceLoading.{opened_put, sequence_loaded, sequence_opened, sequence_put}
 use Rattle.tpm_sequence.specs.declared.object.SequenceObject.{SequenceObject}
 use Rattle.tpm_context.specs.declared.fault.ContextFault.{ContextFault}
@@ -209,41 +207,40 @@ module _ (r : Record) (c : Completion) where
   unfolding update_row
   updated_starts text =
       then_ok Starting (sequence_in c text) _ (λ named.
-      then_ok Starting (parameter 1 (buffer_at data_limit named.parameters)) _ (λ bytes.
-      then_ok Starting (all_read bytes.1) _ (λ ended. record { is = refl })))
+      then_ok Starting (updated_in named) _ (λ object. record { is = refl }))
 
   completed_starts : (h : Hierarchies) (text : List ℕ) → IfOk (complete_row h c text) Starting
   unfolding complete_row
   completed_starts h text =
       then_ok Starting (sequence_in c text) _ (λ named.
-      then_ok Starting (parameter 1 (buffer_at data_limit named.parameters)) _ (λ bytes.
-      then_ok Starting (parameter 2 (hierarchy_at bytes.1)) _ (λ asked.
-      then_ok Starting (all_read asked.1) _ (λ ended.
-      then_ok Starting (ok_or (completion_text h asked.0 (sequence_updated named.object.sequence bytes.0)) (mode_refused 1)) _ (λ answer. record { is = refl })))))
+      then_ok Starting (completed_in h named) _ (λ answer. record { is = refl }))
 
   reply_by_row : (row : Result Reply Refused) → IfOk row Starting → StartsAt c.start (row_reply c row)
   reply_by_row (Ok reply) is = is
   reply_by_row (Err e) is = record { is = refl }
 
-  unsent_starts : (sent : Option (Result Sent Refused)) → IfSome (unsent_reply c sent) Starting
-  unsent_starts (Some (Ok sent)) = tt
-  unsent_starts (Some (Err e)) = record { is = refl }
-  unsent_starts None = tt
+  unsent_starts : (other : Option Reply) (sent : Option (Result Sent Refused)) → IfSome other Starting → IfSome (unsent_reply c other sent) Starting
+  unsent_starts other (Some (Ok sent)) is = tt
+  unsent_starts other (Some (Err e)) is = record { is = refl }
+  unsent_starts other None is = is
 
   some_or : (b : Bool) (x y : Option Reply) → IfSome x Starting → IfSome y Starting → IfSome (if b then x else y) Starting
   some_or true x y h k = h
   some_or false x y h k = k
 
+  password_starts : (command : Command) → IfSome (password_reply r c command) Starting
+  password_starts command =
+      some_or (command.code == 0x15c) _ _ (reply_by_row (update_row c command.parameters) (updated_starts command.parameters))
+      (some_or (command.code == 0x13e) _ None (reply_by_row (complete_row r.fixed.hierarchies c command.parameters) (completed_starts r.fixed.hierarchies command.parameters)) tt)
+
   authorized_starts : (command : Command) → IfSome (authorized_reply r c command) Starting
   authorized_starts command =
-      some_or (command.code == 0x15c) _ _ (reply_by_row (update_row c command.parameters) (updated_starts command.parameters))
-      (some_or (command.code == 0x13e) _ _ (reply_by_row (complete_row r.fixed.hierarchies c command.parameters) (completed_starts r.fixed.hierarchies command.parameters))
-      (unsent_starts (sent_by r c command.code command.parameters)))
+      unsent_starts (password_reply r c command) (sent_by r c command.code command.parameters) (password_starts command)
 
   bare_starts : (command : Command) → IfSome (bare_reply c command) Starting
   bare_starts command =
       some_or (command.code == 0x186) _ _ (reply_by_row (hash_start_row c command.parameters) (started_starts command.parameters))
-      (some_or (needs_password command.code) _ _ (record { is = refl }) tt)
+      (some_or (needs_entry command.code) _ _ (record { is = refl }) tt)
 
   asked_starts : (plain authorized : Result Command Short) → IfSome (asked_reply r c plain authorized) Starting
   asked_starts (Ok command) authorized = bare_starts command
@@ -279,11 +276,16 @@ module _ (r : Record) (c : Completion) where
       (or_starts (sequence_reply r c buffer response) (plain_reply r c buffer response was_told) (sequence_starts buffer response) (plain_starts buffer response was_told)).is
 
 -- the answer after a command that the layer sent does not change the layer's start number
-pub sent_starts : (c : Completion) (accepted : Bool) (work : Option Work) (response : List ℕ) → (sent_reply c accepted work response).after.start ≡ c.start
-sent_starts c true (Some (Starts slot object)) response = refl
-sent_starts c true (Some (Ends slot digests)) response = refl
-sent_starts c true None response = refl
-sent_starts c false work response = refl
+work_starts : (c : Completion) (sent : Sent) (work : Option Work) (response : List ℕ) → (work_reply c sent work response).after.start ≡ c.start
+work_starts c sent (Some (Starts slot object)) response = refl
+work_starts c sent (Some (Updates slot object)) response = refl
+work_starts c sent (Some (Completes slot answer)) response = refl
+work_starts c sent (Some (Ends slot digests)) response = refl
+work_starts c sent None response = refl
+
+pub sent_starts : (c : Completion) (accepted : Bool) (sent : Sent) (response : List ℕ) → (sent_reply c accepted sent response).after.start ≡ c.start
+sent_starts c true sent response = work_starts c sent sent.work response
+sent_starts c false sent response = refl
 
 pub placed_starts : (c : Completion) (handle : Option Handle) → (placed_reply c handle).after.start ≡ c.start
 placed_starts c (Some handle) = refl

@@ -1,5 +1,5 @@
 -- Every command except TPM2_Startup and TPM2_Clear leaves each context valid.
-use Rattle.std.proofs.Common.{◌≡◌, ◌≢◌, ℕ, ◌==◌, Bool, true, false, List, Option, Some, None, Result, Ok, Err, IfOk, IfSome, replicate, refl, sym, ap, subst, ◌∙◌}
+use Rattle.std.proofs.Common.{◌≡◌, ◌≢◌, ℕ, ◌==◌, Bool, true, false, List, Option, Some, None, Result, Ok, Err, IfOk, IfSome, refl, sym, ap, subst, ◌∙◌}
 use Rattle.std.proofs.lemmas.Bool.{false≢true}
 use Rattle.tpm_commands.specs.CommandCode.{code_number, part_of}
 use Rattle.tpm_commands.specs.Part as part
@@ -154,18 +154,18 @@ sent_keeps t locality random buffer has =
         (row_keeps t a is.row keeps) (left_keeps a.success.after (success_step a random).after (success_leaves a random))
     by (Err e) is keeps = same_keeps _ _ refl refl refl
 
-sending_leaves : (first : Seen) (buffer : List ℕ) (locality : ℕ) (sent : Option Sent) → IfSome sent (λ s. HasCode (λ c. keeps_counts (part_of c) ≡ true) s.command)
-    → Leaves first.step.after first.layer (sending_after first buffer locality sent)
-sending_leaves first buffer locality (Some sent) has =
+sending_leaves : (first : Seen) (buffer : List ℕ) (locality : ℕ) (random : List ℕ) (sent : Option Sent) → IfSome sent (λ s. HasCode (λ c. keeps_counts (part_of c) ≡ true) s.command)
+    → Leaves first.step.after first.layer (sending_after first buffer locality random sent)
+sending_leaves first buffer locality random (Some sent) has =
     let t = ticked first.step.after 0 in
-    let keeps = sent_keeps t locality (replicate 256 0) sent.command has in
-    let second = passed_leaves first.step.after first.layer (sent_event sent locality) (record { secrets = keeps.secrets; reset_count = keeps.reset_count; restart_count = keeps.restart_count }) in
-    let effect : Seen = passed first.layer first.step.after (sent_event sent locality) in
+    let keeps = sent_keeps t locality random sent.command has in
+    let second = passed_leaves first.step.after first.layer (sent_event sent locality random) (record { secrets = keeps.secrets; reset_count = keeps.reset_count; restart_count = keeps.restart_count }) in
+    let effect : Seen = passed first.layer first.step.after (sent_event sent locality random) in
     record {
       fixed = second.fixed;
-      start = sent_starts effect.layer (effect.step.row.check == 0) sent.work effect.step.response ∙ second.start;
+      start = sent_starts effect.layer (effect.step.row.check == 0) sent effect.step.response ∙ second.start;
     }
-sending_leaves first buffer locality None has = record {
+sending_leaves first buffer locality random None has = record {
   fixed = nothing_changed first.step.after.fixed;
   start = reply_starts first.step.after first.layer buffer first.step.response (first.step.row.check == 0);
 }
@@ -178,11 +178,15 @@ extend_keeps : keeps_counts (part_of command.PcrExtend) ≡ true
 unfolding keeps_counts
 extend_keeps = refl
 
-done_leaves : (first : Seen) (buffer : List ℕ) (locality : ℕ) (asked : Option (List ℕ)) → Leaves first.step.after first.layer (done_after first buffer locality asked)
-done_leaves first buffer locality (Some context) = loaded_leaves first (opened_after first context)
-done_leaves first buffer locality None =
-    sending_leaves first buffer locality (sent_after first buffer)
-    (sent_code (λ c. keeps_counts (part_of c) ≡ true) hmac_keeps extend_keeps first.step.after first.layer buffer first.step.response)
+random_keeps : keeps_counts (part_of command.GetRandom) ≡ true
+unfolding keeps_counts
+random_keeps = refl
+
+done_leaves : (first : Seen) (buffer : List ℕ) (locality : ℕ) (random : List ℕ) (asked : Option (List ℕ)) → Leaves first.step.after first.layer (done_after first buffer locality random asked)
+done_leaves first buffer locality random (Some context) = loaded_leaves first (opened_after first context)
+done_leaves first buffer locality random None =
+    sending_leaves first buffer locality random (sent_after first buffer)
+    (sent_code (λ c. keeps_counts (part_of c) ≡ true) hmac_keeps extend_keeps random_keeps first.step.after first.layer buffer first.step.response)
 
 completed_leaves : (completes : Bool) (r : Record) (c : Completion) (buffer : List ℕ) (locality elapsed : ℕ) (random : List ℕ)
     → Keeps r.fixed (step r (Given buffer locality elapsed random)).after.fixed → Leaves r c (completed completes c r (Given buffer locality elapsed random))
@@ -190,7 +194,7 @@ completed_leaves false r c buffer locality elapsed random keeps = passed_leaves 
 completed_leaves true r c buffer locality elapsed random keeps =
     let first = passed c r (Given buffer locality elapsed random) in
     let one = passed_leaves r c (Given buffer locality elapsed random) keeps in
-    let two = done_leaves first buffer locality (asked_after first buffer) in
+    let two = done_leaves first buffer locality random (asked_after first buffer) in
     record {
       fixed = then_keeps r.fixed first.step.after.fixed _ one.fixed two.fixed;
       start = two.start ∙ one.start;

@@ -24,6 +24,7 @@ use Rattle.tpm_record.specs.Tick.{ticked}
 use Rattle.tpm_record.specs.rows.Answer.{Sized, answer_of}
 use Rattle.tpm_record.specs.rows.Request.{Request}
 use Rattle.tpm_record.specs.rows.Rows.{unchanged}
+use Rattle.tpm_auth.specs.Entries.{is_password}
 use Rattle.tpm_actions_object.specs.Hmac.{hmac_row}
 use Rattle.tpm_context.specs.Meaning.{IsEncodable}
 use Rattle.tpm_step.specs.step.Entries.{password_answer}
@@ -138,8 +139,8 @@ SequencesStayValidThrough =
 -- ---- TPM2_HMAC_Start
 
 -- the effect on the device of the TPM2_HMAC that the layer sends for a TPM2_HMAC_Start
-abbrev pub hmac_sent : Record → HmacStart → (locality : ℕ) → Stepped
-hmac_sent r start locality = step r (sent_event (start_sent r start) locality)
+abbrev pub hmac_sent : Record → HmacStart → (locality : ℕ) → (random : List ℕ) → Stepped
+hmac_sent r start locality random = step r (sent_event (start_sent r start) locality random)
 
 -- the request of a TPM2_HMAC of this message, with the handle and the hashAlg of a TPM2_HMAC_Start
 abbrev pub hmac_request : HmacStart → (locality : ℕ) → (random message : List ℕ) → Request
@@ -153,13 +154,15 @@ hmac_request start locality random message = record {
 -- There is a hash and a key for which the following holds. The work is to start a sequence whose
 -- digest is the HMAC of its data. The device, with this record, answers a TPM2_HMAC of any message
 -- with the HMAC of the message. The response to the TPM2_HMAC that was sent contains the HMAC of
--- the empty message.
+-- the empty message, and then the answer to the only entry. If the entry contains a password, this
+-- is the answer to a password.
 pub record StartsLikeTheDevice (r : Record) (start : HmacStart) (planned : Option Work)
     (text : List ℕ) : Type 0
   where
     pub hash : HashAlg
     pub key : List ℕ
     pub sequence : Sequence
+    pub area : List ℕ
     pub work : planned ≡ Some (Starts start.slot (sequence_object start.auth sequence))
     pub digest : (parts : List (List ℕ))
         → sequence_digests (updates sequence parts) ≡ hmac_of hash key (joined parts) ∷ []
@@ -168,7 +171,8 @@ pub record StartsLikeTheDevice (r : Record) (start : HmacStart) (planned : Optio
         → hmac_row r (hmac_request start locality random message)
         ≡ Ok (unchanged r (answer_of (Sized (hmac_of hash key message))))
     pub response : text
-        ≡ authorized_success [] (sized_text (hmac_of hash key [])) password_answer
+        ≡ authorized_success [] (sized_text (hmac_of hash key [])) area
+    pub password : is_password start.entry ≡ true → area ≡ password_answer
 
 -- If the device accepts the TPM2_HMAC that the layer sends for a TPM2_HMAC_Start, the layer starts a
 -- sequence with the hash and the key that the device uses. So the sequence has the same HMAC as a
@@ -176,7 +180,8 @@ pub record StartsLikeTheDevice (r : Record) (start : HmacStart) (planned : Optio
 abbrev pub StartsWithTheKey : Type 0
 StartsWithTheKey =
     (r : Record) (c : Completion) (text : List ℕ) (start : HmacStart) (locality : ℕ)
+    (random : List ℕ)
     → AreBytes text → hmac_start_in c text ≡ Ok start
-    → (hmac_sent r start locality).row.check ≡ 0
+    → (hmac_sent r start locality random).row.check ≡ 0
     → StartsLikeTheDevice (ticked r 0) start (start_sent r start).work
-    (hmac_sent r start locality).response
+    (hmac_sent r start locality random).response

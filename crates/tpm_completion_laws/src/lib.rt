@@ -1,7 +1,7 @@
 #![tactic(auto)]
 
-//! Laws of the completing layer: about the contexts that it makes and loads, and about what it
-//! lists.
+//! Laws of the completing layer: about the contexts that it makes and loads, about the HMACs of
+//! sessions that it checks and sends, and about what it lists.
 //!
 //! The laws are about the definitions of tpm_completion: each law is the contract of a function
 //! that does nothing. No crate uses this crate.
@@ -12,6 +12,7 @@ ghost use Rattle.tpm_completion_laws.specs.Listed.{PcrPropertiesHold, Properties
 ghost use Rattle.tpm_completion_laws.specs.Objects.{LoadsObjects, SavesObjects, StaysValidThrough};
 ghost use Rattle.tpm_completion_laws.specs.Sequences.{IsNamedOnce, LoadsSequences, SavesSequences};
 ghost use Rattle.tpm_completion_laws.specs.Sequences.{SequencesStayValidThrough, SlotIsNamed, StartsWithTheKey};
+ghost use Rattle.tpm_completion_laws.specs.SessionEntries.{CarriesTheProof, ComparesLikeTheDevice};
 
 /// The context of a session can be loaded only once. A context from another start of the layer is
 /// always refused.
@@ -46,6 +47,14 @@ pub fn sequence_laws()
     ensures loaded { LoadsSequences }
     ensures valid { SequencesStayValidThrough }
     ensures key { StartsWithTheKey }
+{}
+
+/// The layer checks the HMAC of a session as the device does. The HMAC that the layer sends to the
+/// device is right if and only if the client's HMAC is.
+#[inline(always)]
+pub fn session_laws()
+    ensures carried { CarriesTheProof }
+    ensures compared { ComparesLikeTheDevice }
 {}
 
 /// The layer serves only its own commands, and lists and counts each of them. Commands and

@@ -14,6 +14,7 @@ use Rattle.tpm_completion.specs.declared.sending.Sent.{Sent}
 use Rattle.tpm_context.specs.declared.fault.ContextFault.{ContextFault}
 use Rattle.tpm_edge_secrecy.proofs.Contexts.{layer_loads_alike}
 use Rattle.tpm_edge_secrecy.proofs.Layer.{forgotten_same, layer_answers_alike, layer_saves_alike}
+use Rattle.tpm_edge_secrecy.proofs.NoSecretKeys.{hmac_is_not_secret}
 use Rattle.tpm_edge_secrecy.proofs.Sequences.{layer_sends_alike}
 use Rattle.tpm_edge_secrecy.specs.Layer.{CompletedRunTellsNothing, CompletedTellsNothing, Completions, CompletionsAlike, CompletesAlike, NoneReadsWith, RepliesAlike, SetAlike, answers_with, is_reading_with, is_saving, layer_reads, reads_after, saves_secret, sent_reads, starts_secret}
 use Rattle.tpm_object.specs.declared.object.Object.{Object}
@@ -133,7 +134,7 @@ module _ (indices : ℕ → Bool) (objects : Public → Bool) where
 
   sent_behind_alike : (x y : Seen) → CompletesAlike s false x y → (buffer : List ℕ) → starts_secret s x.step.after x.layer buffer x.step.response ≡ false → sent_after x buffer ≡ sent_after y buffer
   sent_behind_alike x y alike buffer free =
-      layer_sends_alike s x.step.after y.step.after x.layer buffer x.step.response alike.after free
+      layer_sends_alike s x.step.after y.step.after x.layer buffer x.step.response alike.after free (hmac_is_not_secret indices objects x.step.after x.layer buffer x.step.response)
       ∙ ap (λ (c : Completion). sent_for y.step.after c buffer x.step.response) alike.layer
       ∙ ap (sent_for y.step.after y.layer buffer) (alike.response refl)
 
@@ -144,10 +145,10 @@ module _ (indices : ℕ → Bool) (objects : Public → Bool) where
 
   effect_alike : (saved : Bool) (x y z w : Seen) → CompletesAlike s false x y → CompletesAlike s false z w → (sent : Sent) → CompletesAlike s saved (sent_effect x z sent) (sent_effect y w sent)
   effect_alike saved x y z w first second sent =
-      let same : sent_reply z.layer (z.step.row.check == 0) sent.work z.step.response ≡ sent_reply w.layer (w.step.row.check == 0) sent.work w.step.response =
-      ap (λ (c : Completion). sent_reply c (z.step.row.check == 0) sent.work z.step.response) second.layer
-      ∙ ap (λ (row : Row). sent_reply w.layer (row.check == 0) sent.work z.step.response) second.row
-      ∙ ap (sent_reply w.layer (w.step.row.check == 0) sent.work) (second.response refl) in
+      let same : sent_reply z.layer (z.step.row.check == 0) sent z.step.response ≡ sent_reply w.layer (w.step.row.check == 0) sent w.step.response =
+      ap (λ (c : Completion). sent_reply c (z.step.row.check == 0) sent z.step.response) second.layer
+      ∙ ap (λ (row : Row). sent_reply w.layer (row.check == 0) sent z.step.response) second.row
+      ∙ ap (sent_reply w.layer (w.step.row.check == 0) sent) (second.response refl) in
       record {
         response = λ free. ap (λ (r : Reply). r.response) same;
         row = first.row;
@@ -155,28 +156,28 @@ module _ (indices : ℕ → Bool) (objects : Public → Bool) where
         layer = ap (λ (r : Reply). r.after) same;
       }
 
-  sending_alike : (x y : Seen) → CompletesAlike s false x y → (buffer : List ℕ) (locality : ℕ) (sent : Option Sent) → sent_reads s x locality sent ≡ false → CompletesAlike s (is_saved x buffer) (sending_after x buffer locality sent) (sending_after y buffer locality sent)
-  sending_alike x y alike buffer locality (Some sent) free =
-      effect_alike (is_saved x buffer) x y (passed x.layer x.step.after (sent_event sent locality)) (passed y.layer y.step.after (sent_event sent locality)) alike
-      (second_alike x y alike (sent_event sent locality) free) sent
-  sending_alike x y alike buffer locality None free = answered_alike (is_saved x buffer) x y (reply_after x buffer) (reply_after y buffer) alike (reply_alike x y alike buffer)
+  sending_alike : (x y : Seen) → CompletesAlike s false x y → (buffer : List ℕ) (locality : ℕ) (random : List ℕ) (sent : Option Sent) → sent_reads s x locality random sent ≡ false → CompletesAlike s (is_saved x buffer) (sending_after x buffer locality random sent) (sending_after y buffer locality random sent)
+  sending_alike x y alike buffer locality random (Some sent) free =
+      effect_alike (is_saved x buffer) x y (passed x.layer x.step.after (sent_event sent locality random)) (passed y.layer y.step.after (sent_event sent locality random)) alike
+      (second_alike x y alike (sent_event sent locality random) free) sent
+  sending_alike x y alike buffer locality random None free = answered_alike (is_saved x buffer) x y (reply_after x buffer) (reply_after y buffer) alike (reply_alike x y alike buffer)
 
   -- ---- what comes after a command
 
-  done_alike : (x y : Seen) → CompletesAlike s false x y → (buffer : List ℕ) (locality : ℕ) (asked : Option (List ℕ)) → reads_after s x buffer locality ≡ false → CompletesAlike s (is_saved x buffer) (done_after x buffer locality asked) (done_after y buffer locality asked)
-  done_alike x y alike buffer locality (Some context) free =
+  done_alike : (x y : Seen) → CompletesAlike s false x y → (buffer : List ℕ) (locality : ℕ) (random : List ℕ) (asked : Option (List ℕ)) → reads_after s x buffer locality random ≡ false → CompletesAlike s (is_saved x buffer) (done_after x buffer locality random asked) (done_after y buffer locality random asked)
+  done_alike x y alike buffer locality random (Some context) free =
       subst (λ (opened : Result Object ContextFault). CompletesAlike s (is_saved x buffer) (loaded_after x (opened_after x context)) (loaded_after y opened)) (opened_alike x y alike context)
       (loaded_alike (is_saved x buffer) x y alike (opened_after x context))
-  done_alike x y alike buffer locality None free =
+  done_alike x y alike buffer locality random None free =
       let starts : Bool = starts_secret s x.step.after x.layer buffer x.step.response in
-      subst (λ (sent : Option Sent). CompletesAlike s (is_saved x buffer) (sending_after x buffer locality (sent_after x buffer)) (sending_after y buffer locality sent))
-      (sent_behind_alike x y alike buffer (or_left starts (sent_reads s x locality (sent_after x buffer)) free))
-      (sending_alike x y alike buffer locality (sent_after x buffer) (or_right starts (sent_reads s x locality (sent_after x buffer)) free))
+      subst (λ (sent : Option Sent). CompletesAlike s (is_saved x buffer) (sending_after x buffer locality random (sent_after x buffer)) (sending_after y buffer locality random sent))
+      (sent_behind_alike x y alike buffer (or_left starts (sent_reads s x locality random (sent_after x buffer)) free))
+      (sending_alike x y alike buffer locality random (sent_after x buffer) (or_right starts (sent_reads s x locality random (sent_after x buffer)) free))
 
-  behind_alike : (x y : Seen) → CompletesAlike s false x y → (buffer : List ℕ) (locality : ℕ) → reads_after s x buffer locality ≡ false → CompletesAlike s (is_saved x buffer) (behind x buffer locality) (behind y buffer locality)
-  behind_alike x y alike buffer locality free =
-      subst (λ (asked : Option (List ℕ)). CompletesAlike s (is_saved x buffer) (done_after x buffer locality (asked_after x buffer)) (done_after y buffer locality asked)) (asked_alike x y alike buffer)
-      (done_alike x y alike buffer locality (asked_after x buffer) free)
+  behind_alike : (x y : Seen) → CompletesAlike s false x y → (buffer : List ℕ) (locality : ℕ) (random : List ℕ) → reads_after s x buffer locality random ≡ false → CompletesAlike s (is_saved x buffer) (behind x buffer locality random) (behind y buffer locality random)
+  behind_alike x y alike buffer locality random free =
+      subst (λ (asked : Option (List ℕ)). CompletesAlike s (is_saved x buffer) (done_after x buffer locality random (asked_after x buffer)) (done_after y buffer locality random asked)) (asked_alike x y alike buffer)
+      (done_alike x y alike buffer locality random (asked_after x buffer) free)
 
   -- ---- an event
 
@@ -190,7 +191,7 @@ module _ (indices : ℕ → Bool) (objects : Public → Bool) where
   with_alike c r t differ (Given buffer locality elapsed random) also same free none =
       subst (λ (e : PlainEvent). CompletesAlike s (is_saving s c r (Given buffer locality elapsed random)) (completed_with c r (Given buffer locality elapsed random)) (completed_with c t e)) (same_command buffer locality elapsed random also same)
       (behind_alike (passed c r (Given buffer locality elapsed random)) (passed c t (Given buffer locality elapsed random))
-      (passed_alike c r t differ (Given buffer locality elapsed random) (Given buffer locality elapsed random) refl free false) buffer locality none)
+      (passed_alike c r t differ (Given buffer locality elapsed random) (Given buffer locality elapsed random) refl free false) buffer locality random none)
   with_alike c r t differ Cycled (Given buffer locality elapsed random) same free none = absurd cc
   with_alike c r t differ Cycled Cycled same free none = passed_alike c r t differ Cycled Cycled same free false
   with_alike c r t differ Cycled (Placed object) same free none = absurd cc

@@ -10,7 +10,6 @@ use Rattle.tpm_actions_capability.specs.Elements.{object_element, object_element
 use Rattle.tpm_actions_capability.specs.declared.element.Element.{Element}
 use Rattle.tpm_bytes.specs.Numbers.{numbers_below}
 use Rattle.tpm_bytes.specs.Reading.{number_at}
-use Rattle.tpm_bytes.specs.Writing.{sized_text}
 use Rattle.tpm_bytes.specs.declared.cursor.Short.{Short}
 use Rattle.tpm_completion.specs.Answer.{is_refusal, success}
 use Rattle.tpm_completion.specs.Capability.{asked_at, capability_told, command_elements, handles_told, told_of}
@@ -18,7 +17,7 @@ use Rattle.tpm_completion.specs.Command.{Command, plain_command}
 use Rattle.tpm_completion.specs.Completion.{forgotten, sequences_kept, session_context, session_kept}
 use Rattle.tpm_completion.specs.Context.{names_session, token_at, names_sequence}
 use Rattle.tpm_completion.specs.Handles.{is_in_state, session_shown, sessions_shown}
-use Rattle.tpm_completion.specs.Hashing.{hash_row, hash_text, hierarchy_at, ticket_hierarchy, ticket_text}
+use Rattle.tpm_completion.specs.Hashing.{hash_row, hierarchy_at, ticket_hierarchy}
 use Rattle.tpm_completion.specs.Listing.{element, listing}
 use Rattle.tpm_completion.specs.Properties.{active_count, attribute_if, count_elements, counter_count, identity_elements, index_count, is_counter, limit_elements, lockout_elements, object_count, permanent_attributes, property_elements, session_count, startup_attributes, values_set}
 use Rattle.tpm_completion.specs.Reply.{capability_asked, command_reply, listed, load_asked, or_reply, plain_reply, probed, replied, reply, reply_by, row_served, save_asked, served, stands}
@@ -30,7 +29,7 @@ use Rattle.tpm_completion.specs.declared.completion.Completion.{Completion}
 use Rattle.tpm_completion.specs.declared.context.Token.{Token}
 use Rattle.tpm_containers.specs.Slots.{at_place}
 use Rattle.tpm_context.specs.Context.{context_text}
-use Rattle.tpm_edge_secrecy.proofs.Contexts.{context_alike, same_bind, same_object, secrets_alike, sequence_context_alike, sequence_opened_alike}
+use Rattle.tpm_edge_secrecy.proofs.Contexts.{context_alike, same_bind, same_object, sequence_context_alike, sequence_opened_alike}
 use Rattle.tpm_edge_secrecy.proofs.Sequences.{sequence_alike, ticketed_alike}
 use Rattle.tpm_edge_secrecy.specs.Layer.{LayerAnswersAlike, LayerForgetsAlike, LayerSavesAlike, RepliesAlike, SetAlike, command_saves, handle_saves, has_secret, saves_object, saves_secret}
 use Rattle.tpm_lockout.specs.Tries.{is_locked}
@@ -41,7 +40,6 @@ use Rattle.tpm_nv.specs.declared.head.Head.{Head}
 use Rattle.tpm_object.specs.declared.object.Object.{Object}
 use Rattle.tpm_record.specs.Objects.{object_at}
 use Rattle.tpm_record.specs.Record.{Record}
-use Rattle.tpm_record.specs.declared.hierarchy.Secrets.{Secrets}
 use Rattle.tpm_record.specs.rows.Rows.{all_read, parameter}
 use Rattle.tpm_row_secrecy.proofs.CapabilityRows.{object_same, of_places, session_same}
 use Rattle.tpm_row_secrecy.proofs.Each.{is_some_of, place_of_each, places}

@@ -3,3 +3,5 @@ pub mod Layer
 pub mod Completed
 pub mod Opened
 pub mod Sequences
+mod SessionEntries
+mod NoSecretKeys

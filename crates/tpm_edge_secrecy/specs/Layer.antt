@@ -4,7 +4,7 @@
 -- (TPMA_PERMANENT).
 use Rattle.std.specs.Int.{w32}
 use Rattle.std.specs.Option.{option_map_or}
-use Rattle.std.specs.Prelude.{Bool, Err, List, None, Ok, Option, Result, Some, [], false, is_some, length, ℕ, ◌&&◌, ◌==◌, ◌||◌, ◌∷◌, ◌≡◌}
+use Rattle.std.specs.Prelude.{Bool, Err, List, None, Ok, Option, Result, Some, [], false, if◌then◌else◌, is_some, length, ℕ, ◌&&◌, ◌==◌, ◌||◌, ◌∷◌, ◌≡◌}
 use Rattle.tpm_bytes.specs.Reading.{number_at}
 use Rattle.tpm_bytes.specs.declared.cursor.Short.{Short}
 use Rattle.tpm_completion.specs.Answer.{is_refusal}
@@ -16,13 +16,17 @@ use Rattle.tpm_completion.specs.Loading.{context_asked, object_opened}
 use Rattle.tpm_completion.specs.Properties.{values_set}
 use Rattle.tpm_completion.specs.Reply.{reply}
 use Rattle.tpm_completion.specs.Saving.{Reply, next_number}
-use Rattle.tpm_completion.specs.Sending.{HmacStart, hmac_start_in, sent_for}
+use Rattle.tpm_auth.specs.Entries.{session_of}
+use Rattle.tpm_completion.specs.Sending.{EventComplete, HmacStart, event_complete_in, hmac_start_in, sent_for}
+use Rattle.tpm_completion.specs.SequenceRows.{Named, named_in}
 use Rattle.tpm_completion.specs.declared.completion.Completion.{Completion}
 use Rattle.tpm_completion.specs.declared.sending.Sent.{Sent}
 use Rattle.tpm_object.specs.declared.object.Object.{Object}
 use Rattle.tpm_record.specs.Objects.{object_at}
 use Rattle.tpm_record.specs.Record.{Record}
-use Rattle.tpm_row_secrecy.specs.Secrecy.{DifferInSecrets, Secrecy, has_secret_data, of_data, unless, without_secrets}
+use Rattle.tpm_row_secrecy.specs.Secrecy.{DifferInSecrets, Secrecy, has_secret_data, has_secret_key, has_secret_value, of_data, unless, without_secrets}
+use Rattle.tpm_session.specs.declared.session.Session.{Session}
+use Rattle.tpm_types_command.specs.AuthEntry.{Entry}
 use Rattle.tpm_secrecy.specs.Tells.{EventsAlike, is_reading}
 use Rattle.tpm_step.specs.step.Events.{Cycled, Given, Placed, PlainEvent}
 use Rattle.tpm_step.specs.declared.event.Row.{Row}
@@ -85,20 +89,22 @@ starts_secret s r c buffer response =
     && (is_refusal 0x143 response && command_starts s r c (authorized_command buffer))
 
 -- whether the command that the layer sends to the device reads secret data
-abbrev pub sent_reads : Secrecy → (first : Seen) → (locality : ℕ) → Option Sent → Bool
-sent_reads s first locality (Some sent) =
-    is_reading s first.step.after (sent_event sent locality)
-sent_reads s first locality None = false
+abbrev pub sent_reads : Secrecy → (first : Seen) → (locality : ℕ) → (random : List ℕ) → Option Sent
+    → Bool
+sent_reads s first locality random (Some sent) =
+    is_reading s first.step.after (sent_event sent locality random)
+sent_reads s first locality random None = false
 
 -- whether the layer reads secret data after the device executed a command
-abbrev pub reads_after : Secrecy → (first : Seen) → (buffer : List ℕ) → (locality : ℕ) → Bool
-reads_after s first buffer locality =
+abbrev pub reads_after : Secrecy → (first : Seen) → (buffer : List ℕ) → (locality : ℕ)
+    → (random : List ℕ) → Bool
+reads_after s first buffer locality random =
     starts_secret s first.step.after first.layer buffer first.step.response
-    || sent_reads s first locality (sent_after first buffer)
+    || sent_reads s first locality random (sent_after first buffer)
 
 abbrev pub layer_reads : Secrecy → Completion → Record → PlainEvent → Bool
 layer_reads s c r (Given buffer locality elapsed random) =
-    reads_after s (passed c r (Given buffer locality elapsed random)) buffer locality
+    reads_after s (passed c r (Given buffer locality elapsed random)) buffer locality random
 layer_reads s c r Cycled = false
 layer_reads s c r (Placed object) = false
 
@@ -106,6 +112,51 @@ layer_reads s c r (Placed object) = false
 abbrev pub is_reading_with : Secrecy → (completes : Bool) → Completion → Record → PlainEvent → Bool
 is_reading_with s completes c r event =
     is_reading s r event || (completes && layer_reads s c r event)
+
+-- ---- HMACs that the layer checks
+
+-- whether the HMAC key of an entry that names this session contains a secret: the session's key, or
+-- the authorization value of the entity that the entry authorizes on the device, if there is one
+abbrev pub key_is_secret : Secrecy → Record → Option Handle → Session → Bool
+key_is_secret s r (Some handle) x = has_secret_key s x.binding || has_secret_value s r handle
+key_is_secret s r None x = has_secret_key s x.binding
+
+abbrev pub entry_is_secret : Secrecy → Record → Option Handle → Entry → Bool
+entry_is_secret s r handle e =
+    option_map_or (key_is_secret s r handle) (session_of r e) false
+
+-- whether the layer checks the HMAC of a TPM2_HMAC_Start, of a TPM2_EventSequenceComplete, or of a
+-- command on a sequence object, with a key that contains a secret
+abbrev pub start_is_secret : Secrecy → Record → Result HmacStart Refused → Bool
+start_is_secret s r (Ok start) = entry_is_secret s r (Some start.handle) start.entry
+start_is_secret s r (Err e) = false
+
+abbrev pub event_is_secret : Secrecy → Record → Result EventComplete Refused → Bool
+event_is_secret s r (Ok event) = entry_is_secret s r (Some event.pcr) event.entry
+event_is_secret s r (Err e) = false
+
+abbrev pub named_is_secret : Secrecy → Record → Result Named Refused → Bool
+named_is_secret s r (Ok named) = entry_is_secret s r None named.entry
+named_is_secret s r (Err e) = false
+
+-- whether the layer checks the HMAC of a command with a key that contains a secret. The command is
+-- HMAC_Start (15B), EventSequenceComplete (185), SequenceUpdate (15C) or SequenceComplete (13E)
+abbrev pub command_is_secret : Secrecy → Record → Completion → Result Command Short → Bool
+command_is_secret s r c (Ok command) =
+    if command.code == 0x15b then start_is_secret s r (hmac_start_in c command.parameters)
+    else (if command.code == 0x185 then
+    event_is_secret s r (event_complete_in c command.parameters)
+    else (if command.code == 0x15c then named_is_secret s r (named_in c command.parameters)
+    else (if command.code == 0x13e then named_is_secret s r (named_in c command.parameters)
+    else false)))
+command_is_secret s r c (Err e) = false
+
+-- whether the layer checks the HMAC of a buffer, which the device refused with COMMAND_CODE (143),
+-- with a key that contains a secret
+abbrev pub hmac_is_secret : Secrecy → Record → Completion → (buffer response : List ℕ) → Bool
+hmac_is_secret s r c buffer response =
+    r.fixed.started
+    && (is_refusal 0x143 response && command_is_secret s r c (authorized_command buffer))
 
 -- ---- what the layer reads of a device
 
@@ -151,11 +202,13 @@ LayerLoadsAlike =
     × (object_opened one c context ≡ object_opened other c context)
 
 -- If two devices differ only in secrets, the layer sends the same command to both, unless it starts
--- a sequence with a secret key.
+-- a sequence with a secret key, or checks an HMAC with a key that contains a secret. It checks no
+-- HMAC if the command is authorized by a password.
 abbrev pub LayerSendsAlike : Type 0
 LayerSendsAlike =
     (s : Secrecy) (one other : Record) (c : Completion) (buffer response : List ℕ)
     → DifferInSecrets s one other → starts_secret s one c buffer response ≡ false
+    → hmac_is_secret s one c buffer response ≡ false
     → sent_for one c buffer response ≡ sent_for other c buffer response
 
 -- After an event, the layer forgets the same contexts for a device and for the device without its

@@ -1,9 +1,8 @@
 -- A command draws at most as many random bytes as it was given, with or without the completing
--- layer. A command that loads the context of an object, or for which the layer sends a command to
--- the device, draws none.
-use Rattle.std.proofs.Common.{◌≡◌, ◌≤◌, ◌&&◌, ℕ, zero, suc, Bool, true, false, List, [], ◌∷◌, ◌++◌, length, Option, Some, None, Result, Ok, Err, refl, subst, ap, get_or, replicate, if◌then◌else◌}
+-- layer. The device draws none for a command that loads the context of an object, or for which the
+-- layer sends a command to the device; the command that the layer sends may draw some.
+use Rattle.std.proofs.Common.{◌≡◌, ◌≤◌, ◌&&◌, ℕ, zero, suc, Bool, true, false, List, [], ◌∷◌, ◌++◌, length, Option, Some, None, Result, Ok, Err, refl, subst, ap, get_or, if◌then◌else◌}
 use native.Mathlib.Omega.{arith}
-use Rattle.std.proofs.lemmas.List.{length-replicate}
 use Rattle.std.specs.Int.{w32, to_be_bytes}
 use Rattle.std.proofs.lemmas.Bool.{false≢true}
 use Rattle.std.proofs.lemmas.Slice.Eq.{bytes_eq-Decides}
@@ -56,24 +55,24 @@ loads_within can first (Err fault) seen random few is =
     omega (arith, few, same)
 
 pub sends_within : (can : Bool) (first : Seen) (buffer random : List ℕ) (locality : ℕ) (sent : Option Sent) (seen : Seen)
-    → length random ≡ 256 → first.drawn ≤ length random → Sends can first buffer locality sent seen → seen.drawn ≤ length random
-sends_within can first buffer random locality (Some sent) seen all few (second, passes, is) =
+    → first.drawn ≤ length random → Sends can first buffer locality random sent seen → seen.drawn ≤ length random
+sends_within can first buffer random locality (Some sent) seen few (second, passes, is) =
     let same : seen.drawn ≡ second.drawn = ap (λ (s : Seen). s.drawn) is in
-    let most = no_more_drawn can first.layer first.step.after sent.command locality 0 (replicate 256 0) second passes in
-    omega (arith, same, most, all, length-replicate {A = ℕ} 256 0)
-sends_within can first buffer random locality None seen all few is =
+    let most = no_more_drawn can first.layer first.step.after sent.command locality 0 random second passes in
+    omega (arith, same, most)
+sends_within can first buffer random locality None seen few is =
     let same : seen.drawn ≡ first.drawn = ap (λ (s : Seen). s.drawn) is in
     omega (arith, few, same)
 
 pub behind_within : (can : Bool) (first : Seen) (buffer random : List ℕ) (locality : ℕ) (asked : Option (List ℕ)) (seen : Seen)
-    → length random ≡ 256 → first.drawn ≤ length random → Behind can first buffer locality asked seen → seen.drawn ≤ length random
-behind_within can first buffer random locality (Some context) seen all few loads = loads_within can first (opened_after first context) seen random few loads
-behind_within can first buffer random locality None seen all few sends = sends_within can first buffer random locality (sent_after first buffer) seen all few sends
+    → first.drawn ≤ length random → Behind can first buffer locality random asked seen → seen.drawn ≤ length random
+behind_within can first buffer random locality (Some context) seen few loads = loads_within can first (opened_after first context) seen random few loads
+behind_within can first buffer random locality None seen few sends = sends_within can first buffer random locality (sent_after first buffer) seen few sends
 
 asks_within : (can : Bool) (layer : Completion) (old : Record) (buffer : List ℕ) (locality elapsed : ℕ) (random : List ℕ) (seen : Seen)
     → AsksFirst can layer old buffer locality elapsed random seen → seen.drawn ≤ length random
 asks_within can layer old buffer locality elapsed random seen (first, passes, behind) =
-    behind_within can first buffer random locality (asked_after first buffer) seen passes.executes.happens.2 (no_more_drawn can layer old buffer locality elapsed random first passes) behind
+    behind_within can first buffer random locality (asked_after first buffer) seen (no_more_drawn can layer old buffer locality elapsed random first passes) behind
 
 pub if_within : (can completes : Bool) (layer : Completion) (old : Record) (buffer : List ℕ) (locality elapsed : ℕ) (random : List ℕ) (seen : Seen)
     → CompletesIf can completes layer old (Given buffer locality elapsed random) seen → seen.drawn ≤ length random
@@ -84,8 +83,8 @@ if_within can true layer old buffer locality elapsed random seen completes =
 pub draws_within : (can : Bool) (layer : Completion) (old : Record) (c : Command) (seen : Seen) → Executed can layer old c seen → seen.drawn ≤ length c.random
 draws_within can layer old c seen executed = if_within can c.completes layer old c.buffer c.locality c.elapsed c.random seen executed
 
--- ---- a command that loads the context of an object, or for which the layer sends a command, draws
--- none
+-- ---- the device draws no random bytes for a command that loads the context of an object, or for
+-- which the layer sends a command
 
 -- a response that reports success is not a refusal: the third byte of its response code is 0, not 1
 framed_success : (tag : ℕ) (body : List ℕ) → is_refusal 0x143 (framed tag 0 body) ≡ true → ⊥

@@ -1,5 +1,5 @@
 -- Random bytes that a command did not draw affect neither the command nor the completing layer.
-use Rattle.std.proofs.Common.{◌≡◌, ◌≤◌, ◌-◌, ℕ, Bool, true, false, List, [], ◌++◌, length, replicate, take, Option, Some, None, refl, subst, sym, ap, ◌∙◌}
+use Rattle.std.proofs.Common.{◌≡◌, ◌≤◌, ◌-◌, ℕ, Bool, true, false, List, ◌++◌, length, replicate, take, Option, Some, None, refl, subst, sym, ap, ◌∙◌}
 use native.Mathlib.Omega.{arith}
 use Rattle.std.proofs.lemmas.List.{length-append, length-replicate, length-take-le}
 use Rattle.tpm_record.specs.Record.{Record}
@@ -63,12 +63,12 @@ kept seen random = zeros_behind seen.drawn random
 
 -- replacing undrawn random bytes by zeros does not change the device's first execution of a command
 sends_first : (layer : Completion) (old : Record) (first : Seen) (buffer : List ℕ) (locality elapsed : ℕ) (random : List ℕ) (sent : Option Sent) (seen : Seen)
-    → sent ≡ sent_after first buffer → Passes false layer old (Given buffer locality elapsed random) first → Sends false first buffer locality sent seen
+    → sent ≡ sent_after first buffer → Passes false layer old (Given buffer locality elapsed random) first → Sends false first buffer locality random sent seen
     → Passes false layer old (Given buffer locality elapsed (kept seen random)) first
 sends_first layer old first buffer locality elapsed random (Some sent) seen given passes sends =
     let all : length random ≡ 256 = passes.executes.happens.2 in
     let few : seen.drawn ≤ length random =
-    sends_within false first buffer random locality (Some sent) seen all (no_more_drawn false layer old buffer locality elapsed random first passes) sends in
+    sends_within false first buffer random locality (Some sent) seen (no_more_drawn false layer old buffer locality elapsed random first passes) sends in
     passes_anyhow layer old buffer locality elapsed random (kept seen random) first passes
     (sent_draws_none layer old buffer locality elapsed random first sent passes (sym given)) (zeros_many seen.drawn random few all)
 sends_first layer old first buffer locality elapsed random None seen given passes is =
@@ -77,21 +77,42 @@ sends_first layer old first buffer locality elapsed random None seen given passe
     (passes_again layer old buffer locality elapsed random first passes)
 
 first_again : (layer : Completion) (old : Record) (first : Seen) (buffer : List ℕ) (locality elapsed : ℕ) (random : List ℕ) (asked : Option (List ℕ)) (seen : Seen)
-    → asked ≡ asked_after first buffer → Passes false layer old (Given buffer locality elapsed random) first → Behind false first buffer locality asked seen
+    → asked ≡ asked_after first buffer → Passes false layer old (Given buffer locality elapsed random) first → Behind false first buffer locality random asked seen
     → Passes false layer old (Given buffer locality elapsed (kept seen random)) first
 first_again layer old first buffer locality elapsed random (Some context) seen given passes loads =
     let all : length random ≡ 256 = passes.executes.happens.2 in
     let few : seen.drawn ≤ length random =
-    behind_within false first buffer random locality (Some context) seen all (no_more_drawn false layer old buffer locality elapsed random first passes) loads in
+    behind_within false first buffer random locality (Some context) seen (no_more_drawn false layer old buffer locality elapsed random first passes) loads in
     passes_anyhow layer old buffer locality elapsed random (kept seen random) first passes
     (asked_draws_none layer old buffer locality elapsed random first context passes (sym given)) (zeros_many seen.drawn random few all)
 first_again layer old first buffer locality elapsed random None seen given passes sends =
     sends_first layer old first buffer locality elapsed random (sent_after first buffer) seen refl passes sends
 
+-- replacing undrawn random bytes by zeros does not change the effect of the command that the layer
+-- sends
+sends_again : (first : Seen) (buffer : List ℕ) (locality : ℕ) (random : List ℕ) (sent : Option Sent) (seen : Seen)
+    → Sends false first buffer locality random sent seen → Sends false first buffer locality (kept seen random) sent seen
+sends_again first buffer locality random (Some sent) seen (second, passes, is) =
+    let same : seen.drawn ≡ second.drawn = ap (λ (s : Seen). s.drawn) is in (
+      second,
+      subst (λ (n : ℕ). Passes false first.layer first.step.after (Given sent.command locality 0 (zeros_behind n random)) second) (sym same)
+          (passes_again first.layer first.step.after sent.command locality 0 random second passes),
+      is,
+    )
+sends_again first buffer locality random None seen is = is
+
+behind_again : (first : Seen) (buffer : List ℕ) (locality : ℕ) (random : List ℕ) (asked : Option (List ℕ)) (seen : Seen)
+    → Behind false first buffer locality random asked seen → Behind false first buffer locality (kept seen random) asked seen
+behind_again first buffer locality random (Some context) seen loads = loads
+behind_again first buffer locality random None seen sends = sends_again first buffer locality random (sent_after first buffer) seen sends
+
 asks_again : (layer : Completion) (old : Record) (buffer : List ℕ) (locality elapsed : ℕ) (random : List ℕ) (seen : Seen)
     → AsksFirst false layer old buffer locality elapsed random seen → AsksFirst false layer old buffer locality elapsed (kept seen random) seen
-asks_again layer old buffer locality elapsed random seen (first, passes, behind) =
-    (first, first_again layer old first buffer locality elapsed random (asked_after first buffer) seen refl passes behind, behind)
+asks_again layer old buffer locality elapsed random seen (first, passes, behind) = (
+  first,
+  first_again layer old first buffer locality elapsed random (asked_after first buffer) seen refl passes behind,
+  behind_again first buffer locality random (asked_after first buffer) seen behind,
+)
 
 executed_again : (completes : Bool) (layer : Completion) (old : Record) (buffer : List ℕ) (locality elapsed : ℕ) (random : List ℕ) (seen : Seen)
     → CompletesIf false completes layer old (Given buffer locality elapsed random) seen

@@ -49,21 +49,21 @@ loads_record : (first : Seen) (content : Result Object ContextFault) (seen : See
 loads_record first (Ok object) seen is (refused, places) = content_record refused first object seen is places
 loads_record first (Err fault) seen is same = subst (λ (s : Seen). IsRecord s.step.after) (sym same) is
 
-sends_record : (first : Seen) (buffer : List ℕ) (locality : ℕ) (sent : Option Sent) (seen : Seen) → IsRecord first.step.after
-    → Sends false first buffer locality sent seen → IsRecord seen.step.after
-sends_record first buffer locality (Some sent) seen is (second, passes, same) =
+sends_record : (first : Seen) (buffer : List ℕ) (locality : ℕ) (random : List ℕ) (sent : Option Sent) (seen : Seen) → IsRecord first.step.after
+    → Sends false first buffer locality random sent seen → IsRecord seen.step.after
+sends_record first buffer locality random (Some sent) seen is (second, passes, same) =
     subst (λ (s : Seen). IsRecord s.step.after) (sym same) passes.executes.is_record
-sends_record first buffer locality None seen is same = subst (λ (s : Seen). IsRecord s.step.after) (sym same) is
+sends_record first buffer locality random None seen is same = subst (λ (s : Seen). IsRecord s.step.after) (sym same) is
 
-behind_record : (first : Seen) (buffer : List ℕ) (locality : ℕ) (asked : Option (List ℕ)) (seen : Seen)
-    → IsRecord first.step.after → Behind false first buffer locality asked seen → IsRecord seen.step.after
-behind_record first buffer locality (Some context) seen is loads = loads_record first (opened_after first context) seen is loads
-behind_record first buffer locality None seen is sends = sends_record first buffer locality (sent_after first buffer) seen is sends
+behind_record : (first : Seen) (buffer : List ℕ) (locality : ℕ) (random : List ℕ) (asked : Option (List ℕ)) (seen : Seen)
+    → IsRecord first.step.after → Behind false first buffer locality random asked seen → IsRecord seen.step.after
+behind_record first buffer locality random (Some context) seen is loads = loads_record first (opened_after first context) seen is loads
+behind_record first buffer locality random None seen is sends = sends_record first buffer locality random (sent_after first buffer) seen is sends
 
 asks_record : (c : Completion) (old : Record) (buffer : List ℕ) (locality elapsed : ℕ) (random : List ℕ) (seen : Seen)
     → AsksFirst false c old buffer locality elapsed random seen → IsRecord seen.step.after
 asks_record c old buffer locality elapsed random seen (first, passes, behind) =
-    behind_record first buffer locality (asked_after first buffer) seen passes.executes.is_record behind
+    behind_record first buffer locality random (asked_after first buffer) seen passes.executes.is_record behind
 
 completes_record : (c : Completion) (old : Record) (event : PlainEvent) (seen : Seen) → Completes false c old event seen → IsRecord seen.step.after
 completes_record c old (Given buffer locality elapsed random) seen is = asks_record c old buffer locality elapsed random seen is

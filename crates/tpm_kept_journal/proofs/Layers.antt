@@ -5,7 +5,7 @@ use Rattle.std.proofs.lemmas.Bool.{cases_lt}
 use Rattle.std.proofs.lemmas.List.{get_or_past, length-map}
 use Rattle.std.proofs.lemmas.List.Elements.{All-map, All-set}
 use Rattle.tpm_bytes.specs.Numbers.{numbers_below}
-use Rattle.tpm_bytes.specs.Reading.{number_at, ◌>>=◌}
+use Rattle.tpm_bytes.specs.Reading.{number_at}
 use Rattle.tpm_bytes.specs.declared.cursor.Short.{Short}
 use Rattle.std.specs.Int.{w32}
 use Rattle.tpm_context.specs.declared.fault.ContextFault.{ContextFault}
@@ -245,25 +245,25 @@ content_fine : (first : Seen) (content : Result Object ContextFault) → IsFine 
 content_fine first (Ok object) is = placed_fine first.layer (next_handle first.step.after.objects) is
 content_fine first (Err fault) is = is
 
-sending_fine : (first : Seen) (buffer : List ℕ) (locality : ℕ) (sent : Option Sent) → IsFine first.layer → IfSome sent IsSent
-    → IsFine (sending_after first buffer locality sent).layer
-sending_fine first buffer locality (Some sent) is valid =
-    let second : Seen = passed first.layer first.step.after (sent_event sent locality) in
-    sent_reply_fine second.layer (second.step.row.check == 0) sent.work second.step.response
-    (passed_fine first.layer first.step.after (sent_event sent locality) is) valid
-sending_fine first buffer locality None is valid =
+sending_fine : (first : Seen) (buffer : List ℕ) (locality : ℕ) (random : List ℕ) (sent : Option Sent) → IsFine first.layer → IfSome sent IsSent
+    → IsFine (sending_after first buffer locality random sent).layer
+sending_fine first buffer locality random (Some sent) is valid =
+    let second : Seen = passed first.layer first.step.after (sent_event sent locality random) in
+    sent_reply_fine second.layer (second.step.row.check == 0) sent second.step.response
+    (passed_fine first.layer first.step.after (sent_event sent locality random) is) valid
+sending_fine first buffer locality random None is valid =
     reply_fine first.step.after first.layer buffer first.step.response (first.step.row.check == 0) is
 
-done_fine : (first : Seen) (buffer : List ℕ) (locality : ℕ) (asked : Option (List ℕ)) → IsFine first.layer
-    → IsFine (done_after first buffer locality asked).layer
-done_fine first buffer locality (Some context) is = content_fine first (opened_after first context) is
-done_fine first buffer locality None is =
-    sending_fine first buffer locality (sent_after first buffer) is (sent_is first.step.after first.layer buffer first.step.response)
+done_fine : (first : Seen) (buffer : List ℕ) (locality : ℕ) (random : List ℕ) (asked : Option (List ℕ)) → IsFine first.layer
+    → IsFine (done_after first buffer locality random asked).layer
+done_fine first buffer locality random (Some context) is = content_fine first (opened_after first context) is
+done_fine first buffer locality random None is =
+    sending_fine first buffer locality random (sent_after first buffer) is (sent_is first.step.after first.layer buffer first.step.response is)
 
 with_fine : (c : Completion) (old : Record) (event : PlainEvent) → IsFine c → IsFine (completed_with c old event).layer
 with_fine c old (Given buffer locality elapsed random) is =
     let first : Seen = passed c old (Given buffer locality elapsed random) in
-    done_fine first buffer locality (asked_after first buffer) (passed_fine c old (Given buffer locality elapsed random) is)
+    done_fine first buffer locality random (asked_after first buffer) (passed_fine c old (Given buffer locality elapsed random) is)
 with_fine c old Cycled is = passed_fine c old Cycled is
 with_fine c old (Placed object) is = passed_fine c old (Placed object) is
 

@@ -8,12 +8,12 @@ use Rattle.tpm_completion.specs.Answer.{is_refusal, refusal}
 use Rattle.tpm_completion.specs.Command.{authorized_command, plain_command}
 use Rattle.tpm_completion.specs.Completed.{behind, completed, done_after, loaded_after, passed, sending_after}
 use Rattle.tpm_completion.specs.Completion.{forgotten}
-use Rattle.tpm_completion.specs.Execution.{Seen, asked_after, opened_after, sent_after}
+use Rattle.tpm_completion.specs.Execution.{Seen, asked_after, opened_after, sent_after, sent_effect}
 use Rattle.tpm_completion.specs.Loading.{context_asked, object_context_in}
 use Rattle.tpm_completion.specs.Sending.{sent_for, sent_in}
 use Rattle.tpm_completion.specs.declared.completion.Completion.{Completion}
 use Rattle.tpm_completion.specs.declared.sending.Sent.{Sent}
-use Rattle.tpm_journal.specs.Command.{Command, entry_of, given, padded}
+use Rattle.tpm_journal.specs.Command.{Command, entry_of, padded}
 use Rattle.tpm_journal.specs.draw_laws.Bytes.{AgreeOnDrawn, zeros_behind}
 use Rattle.tpm_journal.proofs.draw_laws.Executions.{draws_alike, steps_alike}
 use Rattle.tpm_journal.proofs.draw_laws.Fronts.{front_kept}
@@ -98,8 +98,8 @@ module _ (c : Completion) (old : Record) (buffer : List ℕ) (locality elapsed :
   passed_anyhow other none as_long =
       passed_alike other (as_long, ap (λ (n : ℕ). take n other) none ∙ ap (λ (n : ℕ). take n random) (sym none))
 
--- ---- a command that loads the context of an object, or for which the layer sends a command, draws
--- no random bytes
+-- ---- the device draws no random bytes for a command that loads the context of an object, or for
+-- which the layer sends a command
 
 -- A success does not look like the refusal 0x143: the third byte of its response code is 0, and not
 -- 1.
@@ -172,41 +172,58 @@ module _ (c : Completion) (old : Record) (buffer : List ℕ) (locality elapsed :
   few_content (Err fault) = few_drawn c old buffer locality elapsed random
 
   -- A command that the layer sends draws at most as many random bytes as are available.
-  few_sending : (sent : Option Sent) → (sending_after first buffer locality sent).drawn ≤ length random
-  few_sending (Some sent) =
-      omega (arith, all, few_drawn first.layer first.step.after sent.command locality 0 (replicate 256 0), length-replicate {A = ℕ} 256 0)
+  few_sending : (sent : Option Sent) → (sending_after first buffer locality random sent).drawn ≤ length random
+  few_sending (Some sent) = few_drawn first.layer first.step.after sent.command locality 0 random
   few_sending None = few_drawn c old buffer locality elapsed random
 
-  few_behind : (asked : Option (List ℕ)) → (done_after first buffer locality asked).drawn ≤ length random
+  few_behind : (asked : Option (List ℕ)) → (done_after first buffer locality random asked).drawn ≤ length random
   few_behind (Some context) = few_content (opened_after first context)
   few_behind None = few_sending (sent_after first buffer)
 
   -- Replacing random bytes that the whole command does not draw by zeros does not change the
   -- device's effect.
   sending_again : (sent : Option Sent) → sent_after first buffer ≡ sent
-      → passed c old (Given buffer locality elapsed (zeros_behind (sending_after first buffer locality sent).drawn random)) ≡ first
+      → passed c old (Given buffer locality elapsed (zeros_behind (sending_after first buffer locality random sent).drawn random)) ≡ first
   sending_again None is = passed_again c old buffer locality elapsed random first.drawn refl all
   sending_again (Some sent) is =
-      let n : ℕ = (sending_after first buffer locality (Some sent)).drawn in
+      let n : ℕ = (sending_after first buffer locality random (Some sent)).drawn in
       passed_anyhow c old buffer locality elapsed random (zeros_behind n random)
       (sent_draws_none c old buffer locality elapsed random sent is)
       (zeros_many n random (few_sending (Some sent)) all)
 
   first_again : (asked : Option (List ℕ)) → asked_after first buffer ≡ asked
-      → passed c old (Given buffer locality elapsed (zeros_behind (done_after first buffer locality asked).drawn random)) ≡ first
+      → passed c old (Given buffer locality elapsed (zeros_behind (done_after first buffer locality random asked).drawn random)) ≡ first
   first_again None is = sending_again (sent_after first buffer) refl
   first_again (Some context) is =
-      let n : ℕ = (done_after first buffer locality (Some context)).drawn in
+      let n : ℕ = (done_after first buffer locality random (Some context)).drawn in
       passed_anyhow c old buffer locality elapsed random (zeros_behind n random)
       (asked_draws_none c old buffer locality elapsed random context is)
       (zeros_many n random (few_behind (Some context)) all)
+
+  -- Replacing random bytes that the whole command does not draw by zeros does not change the effect
+  -- of the command that the layer sends.
+  sent_again : (sent : Option Sent)
+      → sending_after first buffer locality (zeros_behind (sending_after first buffer locality random sent).drawn random) sent
+      ≡ sending_after first buffer locality random sent
+  sent_again None = refl
+  sent_again (Some sent) =
+      ap (λ (s : Seen). sent_effect first s sent)
+      (passed_again first.layer first.step.after sent.command locality 0 random (sending_after first buffer locality random (Some sent)).drawn refl all)
+
+  done_again : (asked : Option (List ℕ))
+      → done_after first buffer locality (zeros_behind (done_after first buffer locality random asked).drawn random) asked
+      ≡ done_after first buffer locality random asked
+  done_again None = sent_again (sent_after first buffer)
+  done_again (Some context) = refl
 
   pub completed_again : (completes : Bool) (n : ℕ) → n ≡ (completed completes c old (Given buffer locality elapsed random)).drawn
       → completed completes c old (Given buffer locality elapsed (zeros_behind n random)) ≡ completed completes c old (Given buffer locality elapsed random)
   completed_again false n is = passed_again c old buffer locality elapsed random n is all
   completed_again true n is =
       ap (λ (m : ℕ). completed true c old (Given buffer locality elapsed (zeros_behind m random))) is
-      ∙ ap (λ (f : Seen). behind f buffer locality) (first_again (asked_after first buffer) refl)
+      ∙ ap (λ (f : Seen). behind f buffer locality (zeros_behind (done_after first buffer locality random (asked_after first buffer)).drawn random))
+      (first_again (asked_after first buffer) refl)
+      ∙ done_again (asked_after first buffer)
 
   pub completed_few : (completes : Bool) → (completed completes c old (Given buffer locality elapsed random)).drawn ≤ length random
   completed_few false = few_drawn c old buffer locality elapsed random

@@ -15,7 +15,7 @@ use Rattle.tpm_record.specs.Record.{Record}
 use Rattle.tpm_record.specs.declared.hierarchy.Hierarchies.{Hierarchies}
 use Rattle.tpm_record.specs.rows.Rows.{all_read, parameter}
 use Rattle.tpm_sequence.specs.Authorization.{is_authorized}
-use Rattle.tpm_sequence.specs.Sequence.{hmac_sequence, object_updated, sequence_updated}
+use Rattle.tpm_sequence.specs.Sequence.{hmac_sequence}
 use Rattle.tpm_sequence.specs.Sequence.{object_of as sequence_object}
 use Rattle.tpm_sequence_text.specs.Slot.{IsSequenceObject}
 use Rattle.tpm_step.proofs.history.AuthReadings.{parameter_then}
@@ -29,18 +29,18 @@ use Rattle.tpm_types.specs.declared.rc.ResponseCode.TheVariants as code
 use Rattle.tpm_types.specs.declared.refused.Refused.{Refused}
 use Rattle.tpm_types.specs.Handle.{numbered}
 use Rattle.tpm_completion.specs.Answer.{is_refusal}
-use Rattle.tpm_completion.specs.Authorizing.{absent_refused, entries_at, handle_at, only_entry, password_refused, sequence_named, two_entries}
+use Rattle.tpm_auth.specs.Entries.{is_password}
+use Rattle.tpm_completion.specs.Authorizing.{absent_refused, entries_at, handle_at, only_entry, password_refused, sequence_named}
 use Rattle.tpm_completion.specs.Command.{Command, authorized_command, plain_command}
-use Rattle.tpm_completion.specs.Hashing.{hierarchy_at}
 use Rattle.tpm_completion.specs.Saving.{Reply, refused}
-use Rattle.tpm_completion.specs.Sending.{HmacStart, accepted_only, digests_text, event_complete_sent, hmac_start_in, hmac_start_sent, key_hash, keyed_sequence, sent_by, sent_for, sent_in, sent_reply, start_sent, start_work}
-use Rattle.tpm_completion.specs.SequenceReply.{asked_reply, authorized_reply, bare_reply, flush_handle, flush_reply, needs_password, row_reply, sequence_reply, unsent_reply}
-use Rattle.tpm_completion.specs.SequenceRows.{Named, complete_row, completion_text, flushed, full_refused, hash_start_row, mode_refused, sequence_in, started_sequence, update_row}
+use Rattle.tpm_completion.specs.Sending.{HmacStart, accepted_only, complete_sent, event_complete_in, event_complete_sent, hmac_start_in, hmac_start_sent, key_hash, keyed_sequence, sent_by, sent_for, sent_in, sent_reply, start_sent, start_work, unless_password, update_sent, work_reply}
+use Rattle.tpm_completion.specs.SequenceReply.{asked_reply, authorized_reply, bare_reply, flush_handle, flush_reply, needs_entry, password_reply, row_reply, sequence_reply, unsent_reply}
+use Rattle.tpm_completion.specs.SequenceRows.{Named, complete_row, completed_in, flushed, full_refused, hash_start_row, named_in, sequence_in, started_sequence, update_row, updated_in}
 use Rattle.tpm_completion.specs.Sequences.{free_slot, in_slot, slot_of}
 use Rattle.tpm_completion.specs.declared.completion.Completion.{Completion}
 use Rattle.tpm_completion.specs.declared.sending.Sent.{Sent}
 use Rattle.tpm_completion.specs.declared.sending.Work.{Work}
-use Rattle.tpm_completion.specs.declared.sending.Work.TheVariants.{Ends, Starts}
+use Rattle.tpm_completion.specs.declared.sending.Work.TheVariants.{Completes, Ends, Starts, Updates}
 use Rattle.tpm_kept_journal.proofs.Fine.{IsFine, LeavesFine, choice, in_slot_is, with_sequence_fine, without_sequence_fine}
 use Rattle.tpm_kept_journal.proofs.Widths.{event_is, hash_is, hmac_is, object_is, updated_is}
 
@@ -99,9 +99,9 @@ bare_fine : (c : Completion) (command : Command) → IsFine c → MayLeaveFine (
 bare_fine c command is =
     let refusal : Option Reply = Some (refused c 0x125) in
     either (command.code == 0x186) (Some (row_reply c (hash_start_row c command.parameters)))
-    (cond (needs_password command.code) refusal None)
+    (cond (needs_entry command.code) refusal None)
     (row_reply_fine c (hash_start_row c command.parameters) is (hash_start_fine c command.parameters is))
-    (either (needs_password command.code) refusal None is tt)
+    (either (needs_entry command.code) refusal None is tt)
 
 -- ---- commands with sessions
 
@@ -113,49 +113,59 @@ ok_or_fits P None fault is = tt
 abbrev IsNamed : Named → Type 0
 IsNamed named = IsSequenceObject named.object
 
-named_fine : (c : Completion) (text : List ℕ) → IsFine c → IfOk (sequence_in c text) IsNamed
-unfolding sequence_in
+named_fine : (c : Completion) (text : List ℕ) → IsFine c → IfOk (named_in c text) IsNamed
+unfolding named_in
 named_fine c text is =
     ok_bind IsNamed (handle_at 1 text) _ (λ handle.
     ok_bind IsNamed (sequence_named c 1 code.ReferenceH0 handle.0) _ (λ slot.
     ok_then IsSequenceObject IsNamed (ok_or (in_slot c slot) (absent_refused code.ReferenceH0)) _
     (ok_or_fits IsSequenceObject (in_slot c slot) (absent_refused code.ReferenceH0) (in_slot_is c slot is)) (λ object one.
     ok_bind IsNamed (entries_at handle.1) _ (λ entries.
-    ok_bind IsNamed (only_entry entries.0) _ (λ entry.
-    ok_bind IsNamed (refused_if (not (is_authorized object entry.hmac)) (password_refused 1)) _ (λ wrong. one))))))
+    ok_bind IsNamed (only_entry entries.0) _ (λ entry. one)))))
+
+sequence_fine : (c : Completion) (text : List ℕ) → IsFine c → IfOk (sequence_in c text) IsNamed
+unfolding sequence_in
+sequence_fine c text is =
+    ok_then IsNamed IsNamed (named_in c text) _ (named_fine c text is) (λ named valid.
+    ok_bind IsNamed (refused_if (not (is_authorized named.object named.entry.hmac)) (password_refused 1)) _ (λ wrong. valid))
+
+-- Updating a valid sequence object leaves it valid.
+updated_fine : (named : Named) → IsNamed named → IfOk (updated_in named) IsSequenceObject
+unfolding updated_in
+updated_fine named valid =
+    ok_bind IsSequenceObject (parameter 1 (buffer_at data_limit named.parameters)) _ (λ bytes.
+    ok_bind IsSequenceObject (all_read bytes.1) _ (λ ended. updated_is named.object bytes.0 valid))
 
 update_fine : (c : Completion) (text : List ℕ) → IsFine c → IfOk (update_row c text) LeavesFine
 unfolding update_row
 update_fine c text is =
-    ok_then IsNamed LeavesFine (sequence_in c text) _ (named_fine c text is) (λ named valid.
-    ok_bind LeavesFine (parameter 1 (buffer_at data_limit named.parameters)) _ (λ bytes.
-    ok_bind LeavesFine (all_read bytes.1) _ (λ ended.
-    with_sequence_fine c named.slot (object_updated named.object bytes.0) is (updated_is named.object bytes.0 valid))))
+    ok_then IsNamed LeavesFine (sequence_in c text) _ (sequence_fine c text is) (λ named valid.
+    ok_then IsSequenceObject LeavesFine (updated_in named) _ (updated_fine named valid) (λ object one.
+    with_sequence_fine c named.slot object is one))
 
 complete_fine : (h : Hierarchies) (c : Completion) (text : List ℕ) → IsFine c → IfOk (complete_row h c text) LeavesFine
 unfolding complete_row
 complete_fine h c text is =
     ok_bind LeavesFine (sequence_in c text) _ (λ named.
-    ok_bind LeavesFine (parameter 1 (buffer_at data_limit named.parameters)) _ (λ bytes.
-    ok_bind LeavesFine (parameter 2 (hierarchy_at bytes.1)) _ (λ asked.
-    ok_bind LeavesFine (all_read asked.1) _ (λ ended.
-    ok_bind LeavesFine (ok_or (completion_text h asked.0 (sequence_updated named.object.sequence bytes.0)) (mode_refused 1)) _ (λ answer.
-    without_sequence_fine c named.slot is)))))
+    ok_bind LeavesFine (completed_in h named) _ (λ answer.
+    without_sequence_fine c named.slot is))
 
-unsent_fine : (c : Completion) (sent : Option (Result Sent Refused)) → IsFine c → MayLeaveFine (unsent_reply c sent)
-unsent_fine c (Some (Ok sent)) is = tt
-unsent_fine c (Some (Err e)) is = is
-unsent_fine c None is = tt
+password_fine : (r : Record) (c : Completion) (command : Command) → IsFine c → MayLeaveFine (password_reply r c command)
+password_fine r c command is =
+    let complete : Option Reply = Some (row_reply c (complete_row r.fixed.hierarchies c command.parameters)) in
+    either (command.code == 0x15c) (Some (row_reply c (update_row c command.parameters))) (cond (command.code == 0x13e) complete None)
+    (row_reply_fine c (update_row c command.parameters) is (update_fine c command.parameters is))
+    (either (command.code == 0x13e) complete None
+    (row_reply_fine c (complete_row r.fixed.hierarchies c command.parameters) is (complete_fine r.fixed.hierarchies c command.parameters is)) tt)
+
+unsent_fine : (c : Completion) (other : Option Reply) (sent : Option (Result Sent Refused)) → IsFine c → MayLeaveFine other → MayLeaveFine (unsent_reply c other sent)
+unsent_fine c other (Some (Ok sent)) is fine = tt
+unsent_fine c other (Some (Err e)) is fine = is
+unsent_fine c other None is fine = fine
 
 authorized_fine : (r : Record) (c : Completion) (command : Command) → IsFine c → MayLeaveFine (authorized_reply r c command)
 authorized_fine r c command is =
-    let complete : Option Reply = Some (row_reply c (complete_row r.fixed.hierarchies c command.parameters)) in
-    let unsent : Option Reply = unsent_reply c (sent_by r c command.code command.parameters) in
-    either (command.code == 0x15c) (Some (row_reply c (update_row c command.parameters))) (cond (command.code == 0x13e) complete unsent)
-    (row_reply_fine c (update_row c command.parameters) is (update_fine c command.parameters is))
-    (either (command.code == 0x13e) complete unsent
-    (row_reply_fine c (complete_row r.fixed.hierarchies c command.parameters) is (complete_fine r.fixed.hierarchies c command.parameters is))
-    (unsent_fine c (sent_by r c command.code command.parameters) is))
+    unsent_fine c (password_reply r c command) (sent_by r c command.code command.parameters) is (password_fine r c command is)
 
 -- ---- the whole answer
 
@@ -195,6 +205,8 @@ sequence_reply_fine r c buffer response is =
 -- The layer puts only a valid sequence object into a slot.
 abbrev IsWork : Work → Type 0
 IsWork (Starts slot object) = IsSequenceObject object
+IsWork (Updates slot object) = IsSequenceObject object
+IsWork (Completes slot answer) = Unit {0}
 IsWork (Ends slot digests) = Unit {0}
 
 abbrev pub IsSent : Sent → Type 0
@@ -229,49 +241,63 @@ hmac_start_is : (r : Record) (c : Completion) (text : List ℕ) → IfOk (hmac_s
 unfolding hmac_start_sent
 hmac_start_is r c text = ok_then IsStart IsSent (hmac_start_in c text) _ (start_within c text) (λ start is. start_is r start is)
 
-event_complete_is : (c : Completion) (text : List ℕ) → IfOk (event_complete_sent c text) IsSent
+event_complete_is : (r : Record) (c : Completion) (text : List ℕ) → IfOk (event_complete_sent r c text) IsSent
 unfolding event_complete_sent
-event_complete_is c text =
-    ok_bind IsSent (handle_at 1 text) _ (λ pcr.
-    ok_bind IsSent (handle_at 2 pcr.1) _ (λ handle.
-    ok_bind IsSent (sequence_named c 2 code.ReferenceH1 handle.0) _ (λ slot.
-    ok_bind IsSent (ok_or (in_slot c slot) (absent_refused code.ReferenceH1)) _ (λ object.
-    ok_bind IsSent (entries_at handle.1) _ (λ entries.
-    ok_bind IsSent (two_entries entries.0) _ (λ both.
-    ok_bind IsSent (refused_if (not (is_authorized object both.1.hmac)) (password_refused 2)) _ (λ wrong.
-    ok_bind IsSent (parameter 1 (buffer_at data_limit entries.1)) _ (λ bytes.
-    ok_bind IsSent (all_read bytes.1) _ (λ ended.
-    ok_bind IsSent (ok_or (digests_text (sequence_updated object.sequence bytes.0)) (mode_refused 2)) _ (λ digests. tt))))))))))
+event_complete_is r c text = ok_bind IsSent (event_complete_in c text) _ (λ event. tt)
+
+update_is : (r : Record) (named : Named) → IsNamed named → IfOk (update_sent r named) IsSent
+unfolding update_sent
+update_is r named valid = ok_then IsSequenceObject IsSent (updated_in named) _ (updated_fine named valid) (λ object one. one)
+
+complete_is : (r : Record) (named : Named) → IfOk (complete_sent r named) IsSent
+unfolding complete_sent
+complete_is r named = ok_bind IsSent (completed_in r.fixed.hierarchies named) _ (λ answer. tt)
 
 abbrev MayBeSent : Option (Result Sent Refused) → Type 0
 MayBeSent result = IfSome result (λ r. IfOk r IsSent)
 
-sent_by_is : (r : Record) (c : Completion) (number : ℕ) (text : List ℕ) → MayBeSent (sent_by r c number text)
-sent_by_is r c number text =
+unless_is : (sends : Named → Result Sent Refused) (found : Result Named Refused) → IfOk found IsNamed
+    → ((named : Named) → IsNamed named → IfOk (sends named) IsSent) → MayBeSent (unless_password sends found)
+unless_is sends (Ok named) valid all = choice MayBeSent (is_password named.entry) None (Some (sends named)) tt (all named valid)
+unless_is sends (Err e) valid all = tt
+
+sent_by_is : (r : Record) (c : Completion) (number : ℕ) (text : List ℕ) → IsFine c → MayBeSent (sent_by r c number text)
+sent_by_is r c number text is =
     let start : Option (Result Sent Refused) = Some (hmac_start_sent r c text) in
-    let complete : Option (Result Sent Refused) = Some (event_complete_sent c text) in
-    choice MayBeSent (number == 0x15b) start (cond (number == 0x185) complete None) (hmac_start_is r c text)
-    (choice MayBeSent (number == 0x185) complete None (event_complete_is c text) tt)
+    let event : Option (Result Sent Refused) = Some (event_complete_sent r c text) in
+    let update : Option (Result Sent Refused) = unless_password (update_sent r) (named_in c text) in
+    let complete : Option (Result Sent Refused) = unless_password (complete_sent r) (named_in c text) in
+    choice MayBeSent (number == 0x15b) start (cond (number == 0x185) event (cond (number == 0x15c) update (cond (number == 0x13e) complete None))) (hmac_start_is r c text)
+    (choice MayBeSent (number == 0x185) event (cond (number == 0x15c) update (cond (number == 0x13e) complete None)) (event_complete_is r c text)
+    (choice MayBeSent (number == 0x15c) update (cond (number == 0x13e) complete None)
+    (unless_is (update_sent r) (named_in c text) (named_fine c text is) (λ named valid. update_is r named valid))
+    (choice MayBeSent (number == 0x13e) complete None
+    (unless_is (complete_sent r) (named_in c text) (named_fine c text is) (λ named valid. complete_is r named)) tt)))
 
 accepted_is : (result : Option (Result Sent Refused)) → MayBeSent result → IfSome (accepted_only result) IsSent
 accepted_is (Some (Ok sent)) is = is
 accepted_is (Some (Err e)) is = tt
 accepted_is None is = tt
 
-sent_in_is : (r : Record) (c : Completion) (command : Result Command Short) → IfSome (sent_in r c command) IsSent
-sent_in_is r c (Ok command) = accepted_is (sent_by r c command.code command.parameters) (sent_by_is r c command.code command.parameters)
-sent_in_is r c (Err e) = tt
+sent_in_is : (r : Record) (c : Completion) (command : Result Command Short) → IsFine c → IfSome (sent_in r c command) IsSent
+sent_in_is r c (Ok command) is = accepted_is (sent_by r c command.code command.parameters) (sent_by_is r c command.code command.parameters is)
+sent_in_is r c (Err e) is = tt
 
-pub sent_is : (r : Record) (c : Completion) (buffer response : List ℕ) → IfSome (sent_for r c buffer response) IsSent
+pub sent_is : (r : Record) (c : Completion) (buffer response : List ℕ) → IsFine c → IfSome (sent_for r c buffer response) IsSent
 unfolding sent_for
-sent_is r c buffer response =
+sent_is r c buffer response is =
     choice (λ (sent : Option Sent). IfSome sent IsSent) (r.fixed.started && is_refusal 0x143 response) (sent_in r c (authorized_command buffer)) None
-    (sent_in_is r c (authorized_command buffer)) tt
+    (sent_in_is r c (authorized_command buffer) is) tt
 
 -- ---- the answer after the command that is sent
 
-pub sent_reply_fine : (c : Completion) (accepted : Bool) (work : Option Work) (response : List ℕ) → IsFine c → IfSome work IsWork → LeavesFine (sent_reply c accepted work response)
-sent_reply_fine c true (Some (Starts slot object)) response is valid = with_sequence_fine c slot object is valid
-sent_reply_fine c true (Some (Ends slot digests)) response is valid = without_sequence_fine c slot is
-sent_reply_fine c true None response is valid = is
-sent_reply_fine c false work response is valid = is
+work_reply_fine : (c : Completion) (sent : Sent) (work : Option Work) (response : List ℕ) → IsFine c → IfSome work IsWork → LeavesFine (work_reply c sent work response)
+work_reply_fine c sent (Some (Starts slot object)) response is valid = with_sequence_fine c slot object is valid
+work_reply_fine c sent (Some (Updates slot object)) response is valid = with_sequence_fine c slot object is valid
+work_reply_fine c sent (Some (Completes slot answer)) response is valid = without_sequence_fine c slot is
+work_reply_fine c sent (Some (Ends slot digests)) response is valid = without_sequence_fine c slot is
+work_reply_fine c sent None response is valid = is
+
+pub sent_reply_fine : (c : Completion) (accepted : Bool) (sent : Sent) (response : List ℕ) → IsFine c → IsSent sent → LeavesFine (sent_reply c accepted sent response)
+sent_reply_fine c true sent response is valid = work_reply_fine c sent sent.work response is valid
+sent_reply_fine c false sent response is valid = is

@@ -7,6 +7,7 @@ from __future__ import annotations
 from dataclasses import dataclass
 from typing import TYPE_CHECKING
 
+from tpmsim.compare import sequence_entries
 from tpmsim.device import Unsupported
 from tpmsim.model.completion import Asked, asked_of, CONTEXT_LOAD, CONTEXT_SAVE, names_session
 from tpmsim.model.completion import numbers_of
@@ -40,12 +41,14 @@ class Contexts:
 
     def __init__(self, translation: Translation) -> None:
         self.translation, self.kept = translation, dict[bytes, Kept]()
+        # The latest command on sequences that was translated, if it has an HMAC session.
+        self.sent: sequence_entries.Sent | None = None
 
     def command(self, buffer: bytes) -> bytes:
         """Returns the command for the other TPM; a command without contexts is returned unchanged.
         Raises Unsupported for a context from elsewhere, because no context works on both TPMs.
         """
-        asked = asked_of(buffer)
+        asked, self.sent = asked_of(buffer), None
         if code_of(buffer) in HANDLES:
             return self.on_sequences(buffer)
         if asked is None:
@@ -60,13 +63,19 @@ class Contexts:
         return command(CONTEXT_LOAD, self.kept[asked.parameters].text)
 
     def on_sequences(self, buffer: bytes) -> bytes:
-        """Returns a command on sequences with the other TPM's handles."""
-        end = HEADER_BYTES + 4 * HANDLES[code_of(buffer)]
+        """Returns a command on sequences with the other TPM's handles, and with the HMAC of its
+        session.
+        """
+        count = HANDLES[code_of(buffer)]
+        end = HEADER_BYTES + 4 * count
         if len(buffer) < end:
             return buffer
         handles = (int.from_bytes(buffer[at : at + 4], "big") for at in range(HEADER_BYTES, end, 4))
-        there = b"".join(number(self.translation.handle(it), 4) for it in handles)
-        return buffer[:HEADER_BYTES] + there + buffer[end:]
+        there = [self.translation.handle(it) for it in handles]
+        self.sent = sequence_entries.sent(self.translation, buffer, there)
+        text = b"".join(number(it, 4) for it in there)
+        made = buffer[:HEADER_BYTES] + text + buffer[end:]
+        return sequence_entries.with_entry(made, count, self.sent.use) if self.sent else made
 
     def note(self, buffer: bytes, here: bytes, there: bytes) -> None:
         """Notes a command that both TPMs have executed, with its two responses."""

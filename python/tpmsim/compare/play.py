@@ -185,6 +185,7 @@ class Comparison:
         if codes[0] != codes[1]:
             self.differ(name, asked, "code", *map(code_word, codes))
         if asked is None:
+            self.note_session(name, not codes[0], not codes[1], response)
             self.note_context(event, response)
             return
         if isinstance(prepared, bytes):
@@ -204,6 +205,20 @@ class Comparison:
             self.flush(there.handle)
             if asked.code == CC.NV_DefineSpace:
                 self.other.execute(self.translation.undefining(there))
+
+    def note_session(self, name: str, is_here: bool, is_there: bool, response: bytes) -> None:
+        """Notes the new nonce or the end of the HMAC session in a command on sequences. `is_here`
+        and `is_there` say which device accepted the command.
+        """
+        sent = self.translation.contexts.sent
+        if sent is None:
+            return
+        if is_there and not sent.received(response):
+            self.differ(name, None, "hmac", "right", "wrong")
+        if sent.ends and is_here:
+            self.translation.sessions.pop(self.translation.handles.pop(sent.here, 0), None)
+            if not is_there:
+                self.flush(sent.session.handle)
 
     def note_context(self, event: Executed, response: bytes) -> None:
         """Notes the context that a command saved or loaded, if any."""

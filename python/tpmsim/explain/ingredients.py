@@ -4,12 +4,12 @@ from dataclasses import dataclass
 from typing import Callable, Iterator, NamedTuple
 
 from tpmsim.explain.past import Begun, Since
-from tpmsim.explain.reason import Fact, Scene
-from tpmsim.explain.words import attribute_words, bytes_words, handle_words
-from tpmsim.model.general import Command
+from tpmsim.explain.reason import Client, Fact, Scene
+from tpmsim.explain.words import attribute_words, bytes_words, command_words, handle_words
+from tpmsim.model.general import Command, read_area
 from tpmsim.model.policy_state import Session
 from tpmsim.standard import CC, DECRYPT, digest, Entry, Fields, frames, handle_kinds, HASH_WORDS
-from tpmsim.standard import number, policy, sessions, Short
+from tpmsim.standard import HEADER_BYTES, number, policy, sessions, Short
 
 
 def joined(*parts: bytes) -> bytes:
@@ -80,9 +80,29 @@ class Use:
         return self.scene.command
 
     @property
+    def code_words(self) -> str:
+        return self.code.name
+
+    @property
+    def buffer(self) -> bytes:
+        return self.scene.buffer
+
+    @property
+    def handles(self) -> list[int]:
+        return self.command.handles
+
+    @property
+    def entries(self) -> list[Entry]:
+        return self.command.entries or []
+
+    @property
     def authorized(self) -> int:
         assert self.handle is not None
         return self.handle
+
+    @property
+    def authorized_words(self) -> str:
+        return handle_words(self.authorized)
 
     @property
     def is_policy(self) -> bool:
@@ -169,26 +189,93 @@ class Use:
         return " and ".join(words)
 
 
+@dataclass
+class ClientUse(Use):
+    """The use of a session in a client's command on sequences. The completing layer checked its
+    HMAC, and sent the command of the scene instead. `entry` is that of the client's command.
+    `handle` is the key or the PCR that the entry authorizes, or None if the entry authorizes a
+    sequence.
+    """
+
+    client: Client
+
+    @property
+    def code_words(self) -> str:
+        return command_words(self.client.use.code)
+
+    @property
+    def buffer(self) -> bytes:
+        return self.client.buffer
+
+    @property
+    def entries_at(self) -> int:
+        return HEADER_BYTES + 4 * len(self.client.use.names)
+
+    @property
+    def handles(self) -> list[int]:
+        places = range(HEADER_BYTES, self.entries_at, 4)
+        return [int.from_bytes(self.buffer[at : at + 4], "big") for at in places]
+
+    @property
+    def entries(self) -> list[Entry]:
+        return read_area(Fields(self.buffer[self.entries_at :]))
+
+    @property
+    def authorized_words(self) -> str:
+        return super().authorized_words if self.handle is not None else self.sequence_words
+
+    @property
+    def sequence_words(self) -> str:
+        return f"the sequence {self.handles[0]:08x}"
+
+    @property
+    def auth_value(self) -> bytes:
+        return super().auth_value if self.handle is not None else self.client.use.auth_value
+
+    @property
+    def takes_value(self) -> bool:
+        # The session may have ended with the command that the layer sent.
+        return not self.is_bound_now
+
+    def right(self) -> Ingredients:
+        it, algorithm = self.client.use, self.session.algorithm
+        return Ingredients(
+            *(algorithm, self.session.key, it.auth_value, algorithm, number(it.code, 4), it.names),
+            *(it.parameters, self.entry.nonce, self.session.nonce_tpm, ()),
+            number(self.entry.attributes, 1),
+        )
+
+    def value_words(self) -> str:
+        if self.handle is not None:
+            return super().value_words()
+        return f"in the key: that of {self.sequence_words}"
+
+
 def use_of(scene: Scene, place: int) -> Use | None:
     """Returns the use of a session in the entry at a position; None if the entry is a password."""
     for at, entry, handle in scene.command.places:
-        if at == place and entry.handle in scene.model.sessions:
-            session = scene.model.sessions[entry.handle]
-            return Use(scene, place, entry, handle, session, scene.past.sessions.get(entry.handle))
+        if at != place:
+            continue
+        begun, client = scene.past.sessions.get(entry.handle), scene.client
+        if client is not None:
+            given = client.use.entry, handle, client.use.session, begun
+            return ClientUse(scene, place, *given, client)
+        if entry.handle in scene.model.sessions:
+            return Use(scene, place, entry, handle, scene.model.sessions[entry.handle], begun)
     return None
 
 
 def facts(use: Use) -> list[Fact]:
     right = use.right()
     since = use.begun.nonces[-1].line if use.begun and use.begun.nonces else 0
-    names = zip(use.command.handles, right.names)
+    names = zip(use.handles, right.names)
     return [
         Fact("hash", HASH_WORDS[right.algorithm]),
         Fact("session key", bytes_words(right.session_key) + key_words(use)),
         Fact("authValue", f"{bytes_words(use.auth_value)}; {use.value_words()}"),
         Fact("key", right.key.hex() or "empty"),
         Fact("commandCode", right.code.hex()),
-        *(Fact(f"Name of {handle_words(handle)}", name.hex()) for handle, name in names),
+        *(Fact(f"Name of {handle_words(it)}", name.hex() or "empty") for it, name in names),
         Fact("parameters as sent", right.parameters.hex() or "empty"),
         Fact("cpHash", right.cp_hash.hex()),
         Fact("nonceCaller", right.newer.hex() or "empty"),

@@ -10,13 +10,14 @@ from tpmsim.explain import accepted, dissection, entries, general, ingredients, 
 from tpmsim.explain.contexts import Contexts
 from tpmsim.explain.dissection import Field
 from tpmsim.explain.past import Past
-from tpmsim.explain.reason import Fact, OfLayer, Reason, Scene, WANTED
+from tpmsim.explain.reason import Client, Fact, OfLayer, Reason, Scene, WANTED
 from tpmsim.model import image as images
 from tpmsim.model.completion import asked_of, Completed, Completion, CONTEXT_LOAD, CONTEXT_SAVE
 from tpmsim.model.contexts import INTEGRITY
 from tpmsim.model.general import Command
 from tpmsim.model.machine import Model, Outcome
 from tpmsim.model.object_rules import Object
+from tpmsim.model.sequence_sessions import SessionUse
 from tpmsim.records import goes_on, Opened, opened, TRACE
 from tpmsim.records.marks import sum_of
 from tpmsim.standard import HEADER_BYTES, lines, policy
@@ -235,7 +236,7 @@ class Watched:
             return outcome
 
         done = self.layer.execute(self.model, told, execute, self.place)
-        sent = self.judged() if done.sent is not None else None
+        sent = self.judged_sent(buffer, done.use) if done.sent is not None else None
         event = self.event = events[0]
         event.completes = True
         if not done.did:
@@ -249,12 +250,29 @@ class Watched:
             self.note_sent(event, sent)
         return event
 
+    def judged_sent(self, buffer: bytes, use: SessionUse | None) -> Event:
+        """Returns the event of the command that the layer sent for the client's command in
+        `buffer`. `use` is the session of which the layer checked the HMAC, if there is one.
+        """
+        event = self.now
+        if use is not None:
+            event.scene.client = Client(buffer, use)
+            if not event.refused:
+                event.entries = list(entry_facts(event.scene)) if self.examines else []
+                self.past.accepted_buffers[buffer] = self.line
+        return self.judged()
+
+    @property
+    def examines(self) -> bool:
+        """Whether the event of this line is examined as a whole."""
+        return self.is_whole or self.line == self.at
+
     @staticmethod
     def note_sent(event: Event, sent: Event) -> None:
         """Notes what is known about the command that the layer sent, such as why the device refused
         it. Offsets in that command's buffer are left out.
         """
-        event.notes = sent.notes
+        event.notes, event.entries = sent.notes, sent.entries
         if event.refused:
             event.reason = sent.reason
         for reason in filter(None, (*event.notes, event.reason)):
@@ -299,7 +317,7 @@ class Watched:
         plain, event = Model.plain_parameters(self.model, command), self.now
         event.scene.plain = plain
         event.notes = accepted.before(event.scene)
-        if self.is_whole or self.line == self.at:
+        if self.examines:
             event.entries = list(entry_facts(event.scene))
         return plain
 
@@ -427,7 +445,7 @@ class Play(Watched):
 def entry_facts(scene: Scene) -> Iterator[tuple[int, list[Fact]]]:
     for place, entry, _ in scene.command.places:
         use = ingredients.use_of(scene, place)
-        if use is not None and entry.hmac and entry.demand != policy.PASSWORD:
+        if use is not None and use.entry.hmac and entry.demand != policy.PASSWORD:
             found = ingredients.facts(use)
             found.append(Fact("HMAC", use.right().hmac.hex(), WANTED))
             yield place, found

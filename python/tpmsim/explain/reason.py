@@ -16,6 +16,7 @@ from tpmsim.model.machine import Model
 from tpmsim.model.nv_commands import Index
 from tpmsim.model.object_rules import Object
 from tpmsim.model.policy_state import Session
+from tpmsim.model.sequence_sessions import SessionUse
 from tpmsim.standard import CC, frames, HEADER_BYTES, is_policy, NUMBERED, nv, values
 
 # The sentence for each check, and its location in docs/table. tests/table_rules.py writes the file.
@@ -79,12 +80,23 @@ class Reason:
         self.add(SLIP, words)
 
 
+@dataclass(frozen=True)
+class Client:
+    """A client's command for which the completing layer sent another command to the device. `use`
+    is the session in its first entry, whose HMAC the layer checked.
+    """
+
+    buffer: bytes
+    use: SessionUse
+
+
 @dataclass
 class Scene:
     """A command, and the model of the device before that command. `refused` is the response code,
     such as VALUE/p1, and `elapsed` is in milliseconds. `known` is the command, if it passed the
     general checks, and `plain` its decrypted parameters, if its entries were accepted. `tried`
-    contains the values of `--try`, and `operands` those of the refusal.
+    contains the values of `--try`, and `operands` those of the refusal. `client` is the client's
+    command, if the completing layer sent this one with the client's session.
     """
 
     model: Model
@@ -100,6 +112,7 @@ class Scene:
     plain: bytes | None = None
     tried: tuple[bytes, ...] = ()
     operands: dict[str, Any] = field(default_factory=dict)
+    client: Client | None = None
 
     @property
     def command(self) -> Command:

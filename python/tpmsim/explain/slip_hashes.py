@@ -13,7 +13,7 @@ from tpmsim.explain.slip import other_hash, Slip
 from tpmsim.explain.words import ALGORITHMS, handle_words
 from tpmsim.model.machine import Model
 from tpmsim.model.object_rules import loaded, Object
-from tpmsim.standard import CC, digest, digest_bytes, frames, HEADER_BYTES, name_of, number
+from tpmsim.standard import digest, digest_bytes, frames, HEADER_BYTES, name_of, number
 from tpmsim.standard import NUMBERED, nv, objects, sized
 
 
@@ -50,6 +50,17 @@ def names(use: Use) -> Iterator[Slip]:
     for handle in of_handles:
         yield from made_otherwise(use, handle)
     yield from names_of_others(use, handles)
+    yield from sequence_handles(use)
+
+
+def sequence_handles(use: Use) -> Iterator[Slip]:
+    """Yields a cpHash with the handle of a sequence."""
+    right = use.right().names
+    those = [at for at, name in zip(use.handles, right) if not name]
+    if those:
+        texts = (name or name_of(at) for at, name in zip(use.handles, right))
+        words = f"the handle of the sequence {those[0]:08x}; a sequence has an empty Name"
+        yield name_slip("handle as Name", words, tuple(texts))
 
 
 def groups(handles: list[int]) -> list[list[int]]:
@@ -138,8 +149,8 @@ def parameters(use: Use) -> Iterator[Slip]:
     yield from plain_parameters(use)
     yield from whole_buffers(use)
     for code in NUMBERED.values():
-        if code != use.code:
-            words = f"cpHash has the command code of {code.name}, and this is {use.code.name}"
+        if number(code, 4) != use.right().code:
+            words = f"cpHash has the command code of {code.name}, and this is {use.code_words}"
             yield Slip.of("another command code", words, code=number(code, 4))
 
 
@@ -170,7 +181,7 @@ def blank_entries(use: Use) -> Iterator[tuple[str, list[frames.Entry]]]:
     """Yields the entries with the placeholders that a caller may use for an HMAC while it computes
     the HMAC: in all entries, or only in its own entry.
     """
-    entries, size = use.command.entries or [], digest_bytes(use.session.algorithm)
+    entries, size = use.entries, digest_bytes(use.session.algorithm)
     sizes = ("zeros", None), (f"{size} zeros", size), ("empty", 0)
     for (what, most), is_alone in product(sizes, (False, True)):
         whose = "its own HMAC" if is_alone else "its HMACs"
@@ -185,11 +196,12 @@ def with_zeros(entry: frames.Entry, size: int | None) -> frames.Entry:
 
 
 def texts_of_buffer(use: Use) -> Iterator[tuple[str, bytes]]:
-    command, buffer, code = use.command, use.scene.buffer, CC(use.code)
+    right = use.right()
+    code, parameters = int.from_bytes(right.code, "big"), right.parameters
     for words, entries in blank_entries(use):
-        yield words, frames.buffer_of(code, command.handles, entries, command.parameters)
-    rest = b"".join(map(name_of, command.handles)) + command.parameters
+        yield words, frames.buffer_of(code, use.handles, entries, parameters)
+    rest = b"".join(map(name_of, use.handles)) + parameters
     words = "without its authorization area"
-    yield words, buffer[:HEADER_BYTES] + rest
+    yield words, use.buffer[:HEADER_BYTES] + rest
     for tag in (frames.SESSIONS, frames.NO_SESSIONS):
         yield words, frames.HEADER.pack(tag, HEADER_BYTES + len(rest), code) + rest

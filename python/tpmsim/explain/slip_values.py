@@ -22,10 +22,10 @@ def value_slip(name: str, words: str, value: bytes, is_paired: bool = True) -> S
 
 
 def auth_values(use: Use) -> Iterator[Slip]:
-    if use.handle is None:
+    if use.handle is None and not use.takes_value:
         yield from values_put_in(use)
         return
-    value, said = use.auth_value, handle_words(use.handle)
+    value, said = use.auth_value, use.authorized_words
     if use.takes_value and value:
         yield left_out(use)
     if not use.takes_value and value:
@@ -46,7 +46,7 @@ def auth_values(use: Use) -> Iterator[Slip]:
 
 
 def left_out(use: Use) -> Slip:
-    said = handle_words(use.authorized)
+    said = use.authorized_words
     if use.was_bound:
         lapsed = f"the binding to {said} has lapsed, {use.lapse_words()}"
         return value_slip("binding lapsed", f"the authValue was left out; {lapsed}", b"")

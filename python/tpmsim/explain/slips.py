@@ -57,7 +57,7 @@ def found(use: Use) -> Found:
     search = Search(use)
     explained = search.found
     explained.told = search.told()
-    line = use.scene.past.accepted_buffers.get(use.scene.buffer)
+    line = use.scene.past.accepted_buffers.get(use.buffer)
     is_past = any(name == "old nonceTPM" for name, _ in explained.told)
     if line is not None and (is_past or not explained.told):
         words = (

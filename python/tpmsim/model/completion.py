@@ -14,6 +14,7 @@ from tpmsim.model.completion_properties import Counts, properties
 from tpmsim.model.general import Refusal
 from tpmsim.model.machine import Model, Outcome, PLACE_BITS, SESSIONS
 from tpmsim.model.object_rules import Object
+from tpmsim.model.sequence_sessions import SessionUse
 from tpmsim.model.sequences import NO_SEQUENCES, SequenceObject, Slots
 from tpmsim.model.state_text import Layer
 from tpmsim.standard import CC, Fields, frames, is_session, number, RH_NULL, Short, sized, TRANSIENT
@@ -68,10 +69,6 @@ TOKEN, BETWEEN = b"tpmsim 1", 26
 
 LAST_SEQUENCE = 2**64 - 1
 
-# The random bytes for a command that the layer sends to the device. Such a command draws none of
-# them.
-NOT_RANDOM = bytes(256)
-
 Execute = Callable[[bytes, int, bytes, int], Outcome]
 # Places an object in the device. Returns its handle, or None if no slot is free.
 Place = Callable[[Object], int | None]
@@ -81,13 +78,15 @@ Place = Callable[[Object], int | None]
 class Completed:
     """The final outcome of a command, the outcome that the device alone gave, and what the layer
     did, if anything. `sent` is the outcome of the command that the layer sent to the device, if it
-    sent one.
+    sent one, and `use` is the session in the first entry of the client's command, if the layer
+    checked the HMAC of that entry.
     """
 
     outcome: Outcome
     own: Outcome
     did: str = ""
     sent: Outcome | None = None
+    use: SessionUse | None = None
 
 
 @dataclass(frozen=True)
@@ -171,10 +170,10 @@ class Completion:
         """
         own = execute(*event)
         self.forget(device)
-        buffer, locality, _, _ = event
+        buffer, locality, random, _ = event
 
         def send(command: bytes) -> Outcome:
-            sent = execute(command, locality, NOT_RANDOM, 0)
+            sent = execute(command, locality, random, 0)
             self.forget(device)
             return sent
 
@@ -211,16 +210,25 @@ class Completion:
             return Completed(refused(own, refusal.name), own, "the parameters are refused")
         if found is None:
             return None
-        sent = None
         if isinstance(found, sequence_commands.Sent):
-            sent = send(found.command)
-            if sent.refused:
-                outcome = Outcome(sent.response, own.row, sent.refused)
-                words = f"the device refuses the layer's TPM2_{found.code.name}"
-                return Completed(outcome, own, words, sent)
-            found = found.done
+            return self.sent(found, own, send(found.command))
         self.sequences = found.slots
-        return Completed(Outcome(found.response, own.row), own, found.words, sent)
+        return Completed(Outcome(found.response, own.row), own, found.words)
+
+    def sent(self, found: sequence_commands.Sent, own: Outcome, sent: Outcome) -> Completed:
+        """Returns the answer to a command on sequence objects after the device executed the command
+        that the layer sent.
+        """
+        if sent.refused:
+            outcome = Outcome(sent.response, own.row, sent.refused)
+            words = f"the device refuses the layer's TPM2_{found.code.name}"
+            return Completed(outcome, own, words, sent, found.use)
+        done, words = found.done(sent.response), found.work.words
+        self.sequences = done.slots
+        if found.use is not None:
+            by = f"session {found.use.entry.handle:08x}"
+            words += f", and the device accepts the layer's TPM2_{found.code.name} by {by}"
+        return Completed(Outcome(done.response, own.row), own, words, sent, found.use)
 
     def reply(self, device: Model, buffer: bytes, own: Outcome, place: Place) -> Completed:
         stands, asked = Completed(own, own), asked_of(buffer)

@@ -1,11 +1,12 @@
 """The commands on sequence objects, which the completing layer answers (TPM 2.0 Library, Part 3,
 sections 17 and 28.4). For two of these commands, the layer sends another command to the device:
-TPM2_HMAC with empty data for HMAC_Start, and TPM2_PCR_Extend for EventSequenceComplete.
+TPM2_HMAC with empty data for HMAC_Start, and TPM2_PCR_Extend for EventSequenceComplete. If an HMAC
+session authorizes SequenceUpdate or SequenceComplete, the layer sends TPM2_GetRandom of no bytes.
 """
 
 from __future__ import annotations
 
-from dataclasses import dataclass
+from dataclasses import dataclass, replace
 from typing import Callable, TYPE_CHECKING
 
 from tpmsim.model.completion_rows import ticketed
@@ -14,11 +15,12 @@ from tpmsim.model.hash_states import HmacState
 from tpmsim.model.nv_commands import BUFFER_BYTES
 from tpmsim.model.object_commands import OBJECTS
 from tpmsim.model.parameters import Parameters
+from tpmsim.model.sequence_sessions import is_hmac_session, nonce_in, SessionUse
 from tpmsim.model.sequences import EventSequence, GENERATED, HashSequence, HmacSequence
 from tpmsim.model.sequences import Sequence, SequenceObject, SEQUENCES, Slots
 from tpmsim.standard import ALG_NULL, CC, CONTINUE_SESSION, DIGEST_BYTES, Entry, Fields
 from tpmsim.standard import first_byte, frames, HASHES, KEYEDHASH, number, RH_NULL, RS_PW, SHA1
-from tpmsim.standard import SHA256, Short, sized, TRANSIENT
+from tpmsim.standard import SHA256, Short, sized, TRANSIENT, trimmed
 from tpmsim.standard.handle_kinds import PRIMARY_HIERARCHIES
 
 if TYPE_CHECKING:
@@ -35,6 +37,10 @@ COMMANDS = {
 
 # The handles of sequence objects follow those of the device's transient objects.
 HANDLES = [TRANSIENT << 24 | OBJECTS + slot for slot in range(SEQUENCES)]
+
+
+# The parameter of TPM2_GetRandom that requests no bytes.
+NO_BYTES = number(0, 2)
 
 
 class Wrong(Refusal):
@@ -55,12 +61,41 @@ class Done:
 
 
 @dataclass(frozen=True)
+class Work:
+    """What an authorized command does: the parameters of its response, the sequence objects after
+    the command, a text that says what the layer did, and the handle in the response, if any.
+    """
+
+    parameters: bytes
+    slots: Slots
+    words: str
+    handle: bytes = b""
+
+    def done(self, *entries: bytes) -> Done:
+        """Returns the command's response, which has these entries."""
+        response = frames.success(self.parameters, list(entries), self.handle)
+        return Done(response, self.slots, self.words)
+
+
+@dataclass(frozen=True)
 class Sent:
-    """A command that the layer sends to the device, and what is done if the device accepts it."""
+    """A command that the layer sends to the device, what is done if the device accepts it, and the
+    number of entries of the client's command. `use` is the session in the client's first entry, if
+    that entry is a session's and the session exists.
+    """
 
     code: CC
     command: bytes
-    done: Done
+    work: Work
+    entries: int
+    use: SessionUse | None = None
+
+    def done(self, response: bytes) -> Done:
+        """Returns what is done after the device returned this response."""
+        first = frames.entry_answer()
+        if self.use is not None:
+            first = self.use.answer(self.work.parameters, nonce_in(response))
+        return self.work.done(first, *[frames.entry_answer()] * (self.entries - 1))
 
 
 @dataclass(frozen=True)
@@ -104,8 +139,8 @@ class Asked:
     parsed in this order. Each method raises Wrong at the first fault.
     """
 
-    def __init__(self, device: Model, slots: Slots, fields: Fields) -> None:
-        self.device, self.slots, self.fields = device, slots, fields
+    def __init__(self, device: Model, slots: Slots, code: int, fields: Fields) -> None:
+        self.device, self.slots, self.code, self.fields = device, slots, code, fields
 
     def handle(self, place: int) -> int:
         try:
@@ -125,14 +160,16 @@ class Asked:
         return found
 
     def entries(self, count: int) -> list[Entry]:
-        """Returns the entries, which must be exactly one password for each of `count` handles."""
+        """Returns the entries, of which there must be exactly `count`. Each is a password; the first
+        one may be an HMAC session instead.
+        """
         try:
             entries = read_area(self.fields)
         except Refusal as refusal:
             words = "the authorization area is malformed"
             raise Wrong(refusal.name, refusal.check, words) from None
         for place, entry in enumerate(entries[:count], 1):
-            check_password(place, entry)
+            check_entry(place, entry)
         if len(entries) < count:
             raise missing()
         if len(entries) > count:
@@ -141,7 +178,8 @@ class Asked:
         return entries
 
     def authorize(self, found: Named, place: int, entry: Entry) -> None:
-        if not found.held.is_authorized(entry.hmac):
+        """Checks a password. The HMAC of a session is checked after the parameters."""
+        if entry.handle == RS_PW and not found.held.is_authorized(entry.hmac):
             words = f"the password is not that of {found.words}"
             raise Wrong(f"BAD_AUTH/s{place}", "G9", words)
 
@@ -152,35 +190,69 @@ class Asked:
     def without(self, found: Named) -> Slots:
         return with_slot(self.slots, found.slot, None)
 
-    def started(self, auth: bytes, sequence: Sequence, slot: int) -> tuple[Slots, bytes, str]:
-        """Returns the slots with a new sequence object, the object's handle, and a text that
-        describes it.
-        """
-        held = SequenceObject.of(auth, sequence)
+    def started(self, auth: bytes, sequence: Sequence) -> Work:
+        """Returns the work of putting a new sequence object into a free slot."""
+        slot, held = free_slot(self.slots), SequenceObject.of(auth, sequence)
         words = f"{held.words} {HANDLES[slot]:08x} starts"
-        return with_slot(self.slots, slot, held), number(HANDLES[slot], 4), words
+        return Work(b"", with_slot(self.slots, slot, held), words, number(HANDLES[slot], 4))
+
+    def use(self, entry: Entry, names: list[bytes], auth_value: bytes) -> SessionUse | None:
+        """Returns the use of the session in an entry; None if there is no such session."""
+        session = self.device.sessions.get(entry.handle)
+        if session is None:
+            return None
+        given = self.code, tuple(names), self.fields.data, auth_value
+        return SessionUse(replace(session), entry, *given)
+
+    def sent(
+        self, code: CC, handle: int, entry: Entry, names: list[bytes], parameters: bytes, work: Work
+    ) -> Sent:
+        """Returns a command for the device. The entry authorizes its only handle, as it authorizes
+        the first handle of the client's command. `names` are the Names of the client's handles.
+        """
+        value = key_value(self.device, entry, handle)
+        use, count = self.use(entry, names, value), len(names)
+        if use is not None:
+            own = replace(use, code=code, names=(names[0],), parameters=parameters)
+            entry = use.entry_for(own)
+        command = frames.buffer_of(code, [handle], [entry], parameters)
+        return Sent(code, command, work, count, use)
+
+    def worked(self, found: Named, entry: Entry, work: Work) -> Done | Sent:
+        """Returns what is done for a command on the sequence object of its only handle. For a
+        session, the layer sends the device a command that does nothing with the same session.
+        """
+        if entry.handle == RS_PW:
+            return work.done(frames.entry_answer())
+        use = self.use(entry, [b""], trimmed(found.held.auth))
+        if use is not None:
+            own = replace(use, code=CC.GetRandom, names=(), parameters=NO_BYTES, auth_value=b"")
+            entry = use.entry_for(own)
+        command = frames.buffer_of(CC.GetRandom, [], [entry], NO_BYTES)
+        return Sent(CC.GetRandom, command, work, 1, use)
+
+
+def key_value(device: Model, entry: Entry, handle: int) -> bytes:
+    """Returns the authorization value that the key of a session's HMAC contains."""
+    is_there = entry.handle in device.sessions
+    return device.auth_value(handle) if is_there and device.uses_auth_value(entry, handle) else b""
 
 
 def missing() -> Wrong:
-    return Wrong("AUTH_MISSING", "G7", "a password is missing")
+    return Wrong("AUTH_MISSING", "G7", "an entry is missing")
 
 
-def check_password(place: int, entry: Entry) -> None:
+def check_entry(place: int, entry: Entry) -> None:
     if max(len(entry.nonce), len(entry.hmac)) > MOST_NONCE_OR_HMAC:
         raise Wrong(f"SIZE/s{place}", "G8", f"entry {place} is too long")
-    if entry.handle != RS_PW:
-        words = f"entry {place} is not a password, and only passwords authorize sequences"
-        raise Wrong(f"HANDLE/s{place}", "G8", words)
+    if entry.handle != RS_PW and not (place == 1 and is_hmac_session(entry.handle)):
+        kinds = "a password or an HMAC session" if place == 1 else "a password"
+        raise Wrong(f"HANDLE/s{place}", "G8", f"entry {place} is not {kinds}")
     if entry.attributes & frames.RESERVED:
         raise Wrong(f"RESERVED_BITS/s{place}", "G8", f"entry {place} has a reserved bit")
     if entry.attributes & ~CONTINUE_SESSION:
-        words = f"entry {place} has an attribute that a password cannot have"
+        words = f"entry {place} has an attribute other than continueSession"
         raise Wrong(f"ATTRIBUTES/s{place}", "G8", words)
-
-
-def done_with(parameters: bytes, passwords: int, handle: bytes = b"") -> bytes:
-    """Returns the response to a command that passwords authorized."""
-    return frames.success(parameters, [frames.entry_answer()] * passwords, handle)
 
 
 # The commands. A fault of a parameter raises a plain Refusal.
@@ -192,8 +264,8 @@ def hash_sequence_start(asked: Asked) -> Done:
     algorithm = parameters.next().one_of(2, (ALG_NULL, *HASHES), "HASH")
     parameters.end()
     sequence: Sequence = HashSequence.of(algorithm) if algorithm != ALG_NULL else EventSequence()
-    slots, handle, words = asked.started(auth, sequence, free_slot(asked.slots))
-    return Done(frames.success(b"", handle=handle), slots, words)
+    work = asked.started(auth, sequence)
+    return Done(frames.success(b"", handle=work.handle), work.slots, work.words)
 
 
 def hmac_start(asked: Asked) -> Sent:
@@ -203,10 +275,9 @@ def hmac_start(asked: Asked) -> Sent:
     auth = parameters.next().sized(DIGEST_BYTES)
     algorithm = parameters.next().one_of(2, (ALG_NULL, *HASHES), "HASH")
     parameters.end()
-    sequence = keyed(asked.device, handle, algorithm)
-    slots, answer, words = asked.started(auth, sequence, free_slot(asked.slots))
-    done = Done(done_with(b"", 1, answer), slots, words)
-    return sent(CC.HMAC, handle, entry, sized(b"") + number(algorithm, 2), done)
+    work = asked.started(auth, keyed(asked.device, handle, algorithm))
+    given = sized(b"") + number(algorithm, 2)
+    return asked.sent(CC.HMAC, handle, entry, [asked.device.name(handle)], given, work)
 
 
 def keyed(device: Model, handle: int, algorithm: int) -> Sequence:
@@ -222,26 +293,22 @@ def keyed(device: Model, handle: int, algorithm: int) -> Sequence:
     return HmacSequence(HmacState.of_key(chosen, key.sensitive.data))
 
 
-def sent(code: CC, handle: int, entry: Entry, parameters: bytes, done: Done) -> Sent:
-    """Returns a command with one handle. Its entry is the one that authorized the handle in the
-    client's command.
-    """
-    return Sent(code, frames.buffer_of(code, [handle], [entry], parameters), done)
-
-
-def sequence_update(asked: Asked) -> Done:
+def sequence_update(asked: Asked) -> Done | Sent:
     found = asked.named(1)
-    asked.authorize(found, 1, *asked.entries(1))
+    (entry,) = asked.entries(1)
+    asked.authorize(found, 1, entry)
     parameters = asked.parameters
     data = parameters.next().sized(BUFFER_BYTES)
     parameters.end()
     slots = with_slot(asked.slots, found.slot, found.held.after(data))
-    return Done(done_with(b"", 1), slots, f"{len(data)} bytes are added to {found.words}")
+    work = Work(b"", slots, f"{len(data)} bytes are added to {found.words}")
+    return asked.worked(found, entry, work)
 
 
-def sequence_complete(asked: Asked) -> Done:
+def sequence_complete(asked: Asked) -> Done | Sent:
     found = asked.named(1)
-    asked.authorize(found, 1, *asked.entries(1))
+    (entry,) = asked.entries(1)
+    asked.authorize(found, 1, entry)
     parameters = asked.parameters
     data = parameters.next().sized(BUFFER_BYTES)
     hierarchy = parameters.next().one_of(4, PRIMARY_HIERARCHIES, "VALUE")
@@ -252,7 +319,7 @@ def sequence_complete(asked: Asked) -> Done:
     if isinstance(sequence, HmacSequence) or sequence.beginning == GENERATED:
         hierarchy = RH_NULL
     answer = ticketed(asked.device, hierarchy, sequence.state.digest)
-    return Done(done_with(answer, 1), asked.without(found), f"{found.words} ends")
+    return asked.worked(found, entry, Work(answer, asked.without(found), f"{found.words} ends"))
 
 
 def event_sequence_complete(asked: Asked) -> Sent:
@@ -267,8 +334,8 @@ def event_sequence_complete(asked: Asked) -> Sent:
         raise Wrong("MODE/h2", "A1", f"{found.words} ends with TPM2_SequenceComplete")
     values = (SHA1, sequence.sha1.digest), (SHA256, sequence.sha256.digest)
     digests = frames.digests(*values)
-    done = Done(done_with(digests, 2), asked.without(found), f"{found.words} ends")
-    return sent(CC.PCR_Extend, pcr, own, digests, done)
+    work = Work(digests, asked.without(found), f"{found.words} ends")
+    return asked.sent(CC.PCR_Extend, pcr, own, [asked.device.name(pcr), b""], digests, work)
 
 
 AUTHORIZED: dict[int, Callable[[Asked], Done | Sent]] = {
@@ -307,5 +374,5 @@ def served(device: Model, slots: Slots, buffer: bytes, refused: str | None) -> D
     if is_plain and code in AUTHORIZED:
         raise missing()
     if is_plain and code == HASH_SEQUENCE_START:
-        return hash_sequence_start(Asked(device, slots, fields))
-    return AUTHORIZED[code](Asked(device, slots, fields)) if code in AUTHORIZED else None
+        return hash_sequence_start(Asked(device, slots, code, fields))
+    return AUTHORIZED[code](Asked(device, slots, code, fields)) if code in AUTHORIZED else None

@@ -3,29 +3,35 @@ bytes that the command requested, and the nonces of its sessions. So logs of oth
 contain only commands and responses, can be replayed.
 """
 
+from tpmsim.model.sequence_commands import AUTHORIZED, HMAC_START
 from tpmsim.model.state import SECRET_BYTES
 from tpmsim.standard import CC, Fields, frames, HEADER_BYTES, NUMBERED, Short
 
 # The number of random bytes that a command draws before the nonces, and that no response shows.
-HIDDEN = {CC.Clear: 3 * SECRET_BYTES}
+HIDDEN: dict[int, int] = {CC.Clear: 3 * SECRET_BYTES}
 
 
 def drawn_of(buffer: bytes, response: bytes, size: int) -> bytes:
     """Returns `size` random bytes; bytes that the response does not show are zeros."""
     try:
-        shown = shown_in(NUMBERED.get(int.from_bytes(buffer[6:10], "big")), Fields(response))
+        shown = shown_in(int.from_bytes(buffer[6:HEADER_BYTES], "big"), Fields(response))
     except Short:
         shown = b""
     return shown[:size].ljust(size, b"\0")
 
 
-def shown_in(code: CC | None, fields: Fields) -> bytes:
+def answers_handle(code: int) -> bool:
+    """Whether a successful response to a command has a handle."""
+    return NUMBERED[code].answers_handle if code in NUMBERED else code == HMAC_START
+
+
+def shown_in(code: int, fields: Fields) -> bytes:
     """Returns the random bytes that a response shows."""
     tag = fields.number(2)
     fields.take(HEADER_BYTES - 2)
-    if code is None or not fields.data:
+    if not fields.data or code not in NUMBERED and code not in AUTHORIZED:
         return b""
-    if code.answers_handle:
+    if answers_handle(code):
         fields.number(4)
     parameters = Fields(fields.take(fields.number(4)) if tag == frames.SESSIONS else fields.data)
     drawn = bytes(HIDDEN.get(code, 0))

@@ -7,7 +7,6 @@ from typing import Callable, Iterable
 
 from tpmsim.standard import aes
 from tpmsim.standard.aes_tables import encrypt_block
-from tpmsim.standard.commands import CC
 from tpmsim.standard.frames import number, SHA1, SHA256, XOR
 
 HASHES = {SHA1: hashlib.sha1, SHA256: hashlib.sha256}
@@ -66,12 +65,12 @@ def session_key(algorithm: int, auth_value: bytes, nonce_tpm: bytes, nonce_calle
     return kdfa(algorithm, auth_value, b"ATH", nonce_tpm, nonce_caller, size)
 
 
-def command_hash(algorithm: int, code: CC, names: Iterable[bytes], parameters: bytes) -> bytes:
+def command_hash(algorithm: int, code: int, names: Iterable[bytes], parameters: bytes) -> bytes:
     """Returns cpHash (18.7), over the handles' Names and the parameters as sent."""
     return digest(algorithm, number(code, 4) + b"".join(names) + parameters)
 
 
-def response_hash(algorithm: int, code: CC, parameters: bytes) -> bytes:
+def response_hash(algorithm: int, code: int, parameters: bytes) -> bytes:
     """Returns rpHash (18.8), over the response parameters as sent, encrypted or not."""
     return digest(algorithm, number(SUCCESS, 4) + number(code, 4) + parameters)
 
