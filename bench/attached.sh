@@ -1,9 +1,9 @@
 #!/bin/sh
 # Compares a device in a folder, used through the module for libtss2, with swtpm on a socket: whole runs of
-# tpm2-tools, and commands in one long-running process, both with each value of the device's option `force`. Also
-# measures the opening of a long journal. Needs python3, a C compiler, Debian's tpm2-tools, libtss2-dev, swtpm and
-# swtpm-tools, and the requirements of hosts/build.sh. DISK is a folder on a disk, /var/tmp by default. Not part of
-# the gate.
+# tpm2-tools, and commands in one long-running process, both with each value of the device's option `force`.
+# Also measures the time to open a long journal. Needs python3, a C compiler, Debian's tpm2-tools, libtss2-dev,
+# swtpm and swtpm-tools, and the requirements of hosts/build.sh. DISK is a folder on a disk, /var/tmp by
+# default. Not part of the gate.
 #
 #   bench/attached.sh [ROUNDS]
 set -eu

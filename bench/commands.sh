@@ -38,8 +38,8 @@ run_under() {
     callgrind_annotate --threshold=100 "$folder/calls"
 }
 
-# counts COMMAND COUNT: prints four counts of instructions: all instructions; those of the device; and of
-# these, those for hashing and ciphers, and those for clearing and copying.
+# counts COMMAND COUNT: prints four counts of instructions: all instructions; those of the device; and, among
+# the device's instructions, those for hashing and ciphers and those for clearing and copying.
 counts() {
     script "$1" "$2" >"$folder/script"
     run_under >"$folder/all"

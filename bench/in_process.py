@@ -150,7 +150,8 @@ def hash_sequence(handle: int) -> str:
 
 
 def sequence_row() -> Row:
-    """Returns the row of a hash sequence. In libtpmsim, the completing layer serves sequences."""
+    """Returns the row of a hash sequence. In libtpmsim, the completing layer implements sequences.
+    """
     ours = f"layered {hash_sequence(SEQUENCE)}"
     tells = {"tpms": f"time {hash_sequence(SEQUENCE_OF_LIBTPMS)}", "sim": ours, "still": ours}
     return Row("HashSequenceStart, SequenceUpdate of 1,024 bytes and SequenceComplete", 500, tells)

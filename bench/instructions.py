@@ -1,4 +1,5 @@
-"""Counts the instructions of each row of in_process.py, on libtpms and on libtpmsim, and prints a table:
+"""Counts the instructions for each row of in_process.py, on libtpms and on libtpmsim, and prints a
+table:
 
     tools/python.sh bench/instructions.py PROGRAM FOLDER
 
@@ -25,13 +26,14 @@ CALLGRIND = (
     " --zero-before=time_session --dump-after=time_commands --dump-after=time_session"
 )
 
-# A line of callgrind_annotate: a count, and a function or the words for the total.
+# A line of callgrind_annotate's output: a count, followed by a function or by the words for the
+# total.
 LINE = re.compile(r"^ *([0-9,]+) \([0-9. ]+%\) +(.*)$", re.MULTILINE)
 DIGESTS = re.compile(r":<?(sha1|sha2|tpm_aes|tpm_hash_state)::|libcrypto")
 
 
 def counted(path: Path) -> tuple[int, int]:
-    """Returns two counts of instructions in a file of callgrind: all instructions, and those
+    """Returns two counts of instructions in one of callgrind's files: all instructions, and those
     outside digests and ciphers.
     """
     words = "callgrind_annotate", "--threshold=100", str(path)

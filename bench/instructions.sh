@@ -1,8 +1,8 @@
 #!/bin/sh
-# Counts the instructions of the eleven measurements of in_process.sh, for the library and for libtpms. Prints each
-# count with and without the instructions for digests and ciphers. Needs valgrind, python3, a C compiler, Debian's
-# libtpms-dev and libssl-dev, and the library in dist/. in_process.c contains the devices, and instructions.py
-# evaluates the counts. Not part of the gate.
+# Counts the instructions for the eleven measurements of in_process.sh, with the library and with libtpms.
+# Prints each count with and without the instructions for digests and ciphers. Needs valgrind, python3, a C
+# compiler, Debian's libtpms-dev and libssl-dev, and the library in dist/. in_process.c contains the devices,
+# and instructions.py evaluates the counts. Not part of the gate.
 set -eu
 
 top=$(CDPATH='' cd "$(dirname "$0")/.." && pwd -P)
@@ -14,7 +14,7 @@ trap 'rm -rf "$folder"' EXIT
 # uses one repeated instruction, which callgrind counts once for each byte.
 export GLIBC_TUNABLES=glibc.cpu.x86_rep_stosb_threshold=1000000:glibc.cpu.x86_rep_movsb_threshold=1000000
 
-# callgrind must see the calls of `execute`.
+# -fno-inline ensures that callgrind sees the calls of `execute`.
 cc -std=c11 -O2 -fno-inline -Wall -Wextra -Werror -I"$dist" -o "$folder/in_process" "$top/bench/in_process.c" \
     "$dist/libtpmsim.a" -ltpms -lcrypto
 "$top/tools/python.sh" "$top/bench/instructions.py" "$folder/in_process" "$folder"

@@ -18,8 +18,8 @@ from dataclasses import dataclass
 from pathlib import Path
 
 ROUNDS = 15
-# The numbers of repetitions of a task in one process: a command, or the opening of a device, which
-# takes 400 times as long.
+# How often a process repeats a task: executing a command, or opening a device, which takes 400
+# times as long.
 COMMANDS, OPENINGS = 1000, 20
 # The numbers of commands before the opening. After 1,500 commands the journal has almost its
 # maximum size; a few commands later, the library restarts it.

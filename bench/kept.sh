@@ -1,9 +1,9 @@
 #!/bin/sh
-# Measures a device in a folder as tpm2-tools use it, and prints a table: one tool that uses the module for
-# libtss2, a command in a long-running process, and opening the device after few and after many commands. If the
-# machine does other work, processor time and instructions vary less than elapsed time. Needs python3, valgrind,
-# a C compiler, Debian's tpm2-tools and libtss2-dev, and what hosts/build.sh needs. DISK is a folder on a disk,
-# /var/tmp by default. Not part of the gate.
+# Measures a device in a folder in the way in which tpm2-tools use it, and prints a table: the cost of one tool
+# that uses the module for libtss2, of a command in a long-running process, and of opening the device after few
+# and after many commands. If other programs run on the machine, processor time and instructions vary less than
+# elapsed time. Needs python3, valgrind, a C compiler, Debian's tpm2-tools and libtss2-dev, and what
+# hosts/build.sh needs. DISK is a folder on a disk, /var/tmp by default. Not part of the gate.
 #
 #   bench/kept.sh [ROUNDS]
 set -eu

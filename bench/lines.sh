@@ -1,8 +1,8 @@
 #!/bin/sh
-# Measures script lines with GetRandom commands in words, and with the same commands in hex: the time of a million
-# lines of each kind, as the fastest of ten alternating runs; the instructions of a line; and the number of
-# allocations, which must not grow with the script. Needs GNU time, valgrind, and rt if tpmsim is not built yet.
-# Not part of the gate.
+# Measures script lines with GetRandom commands in words, and with the same commands in hex: the time for a
+# million lines of each kind, as the fastest of ten alternating runs; the instructions per line; and the number
+# of allocations, which must not grow with the script. Needs GNU time, valgrind, and rt if tpmsim is not built
+# yet. Not part of the gate.
 set -eu
 
 top=$(CDPATH='' cd "$(dirname "$0")/.." && pwd -P)
@@ -10,20 +10,21 @@ program=$(cd "$top" && . tools/lib/program.sh) || exit 1
 folder=$(mktemp -d)
 trap 'rm -rf "$folder"' EXIT
 
-# seconds KIND: prints the time of one run of the script of this kind.
+# seconds KIND: prints the time of one run of the script with lines of this kind.
 seconds() {
     /usr/bin/time -f '%e' -o "$folder/figure" "$program" run "$folder/$1" >"$folder/answers.$1"
     cat "$folder/figure"
 }
 
-# instructions KIND LINES: prints the number of instructions of a script of LINES lines.
+# instructions KIND LINES: prints the number of instructions that the program executes for a script of LINES
+# lines.
 instructions() {
     "$top/bench/script.sh" "$2" "$1" >"$folder/script"
     valgrind --tool=callgrind --callgrind-out-file=/dev/null \
         "$program" run "$folder/script" 2>&1 >/dev/null | sed -n 's/.*Collected : \([0-9]*\).*/\1/p'
 }
 
-# allocations KIND LINES: prints the number of allocations of a script of LINES lines.
+# allocations KIND LINES: prints the number of allocations that the program makes for a script of LINES lines.
 allocations() {
     "$top/bench/script.sh" "$2" "$1" >"$folder/script"
     valgrind "$program" run "$folder/script" 2>&1 >/dev/null |

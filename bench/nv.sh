@@ -1,7 +1,8 @@
 #!/bin/sh
-# Counts the instructions of TPM2_NV_Read, TPM2_NV_Write and TPM2_NV_Increment with 1, 32 and 64 NV indices. It
-# runs a short and a long script under callgrind and subtracts the counts, so that the start and the end of the
-# program are not counted. Needs valgrind, python3, and rt if tpmsim is not built yet. Not part of the gate.
+# Counts the instructions that TPM2_NV_Read, TPM2_NV_Write and TPM2_NV_Increment execute with 1, 32 and 64 NV
+# indices. It runs a short and a long script under callgrind and subtracts the counts, so that the start and
+# the end of the program are not counted. Needs valgrind, python3, and rt if tpmsim is not built yet. Not part
+# of the gate.
 #
 # The device's instructions are those of `Machine::execute_into` and of everything that it calls. The other
 # instructions read the script and print the responses.
@@ -36,7 +37,7 @@ counts() {
         END { print all + 0, device + 0 }'
 }
 
-# measure COMMAND SIZE INDICES NAME: prints the number of instructions of one command.
+# measure COMMAND SIZE INDICES NAME: prints the number of instructions that one command executes.
 measure() {
     short=$(counts "$1" "$2" "$3" 500)
     long=$(counts "$1" "$2" "$3" 1500)

@@ -14,7 +14,7 @@ trap 'rm -rf "$folder"' EXIT
 # uses one repeated instruction, which callgrind counts once for each byte.
 limits=glibc.cpu.x86_rep_stosb_threshold=1000000:glibc.cpu.x86_rep_movsb_threshold=1000000
 
-# counts COMMAND BINDING COUNT: prints two counts of instructions: those of the device, and of these, those
+# counts COMMAND BINDING COUNT: prints two counts of instructions: those of the device and, among these, those
 # for hashing.
 counts() {
     "$top/tools/python.sh" "$top/bench/commands.py" session "$@" >"$folder/script"
@@ -35,7 +35,7 @@ counts() {
         END { print device + 0, hashes + 0 }'
 }
 
-# measure COMMAND BINDING: prints the numbers of instructions of one command.
+# measure COMMAND BINDING: prints both numbers of instructions for one command.
 measure() {
     short=$(counts "$1" "$2" 100)
     long=$(counts "$1" "$2" 300)

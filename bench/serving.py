@@ -36,7 +36,9 @@ def received(client, size):
 
 
 def round_trip(client):
-    """Returns the microseconds of one command and its response: the minimum of five series."""
+    """Returns the time of one command and its response, in microseconds: the minimum of five
+    series.
+    """
     took = []
     for _ in range(5):
         start = time.perf_counter()

@@ -1,8 +1,8 @@
 #!/bin/sh
 # Measures `tpmsim serve`: the time from its start with the image of a full device to its first response; its
-# memory; a round trip of TPM2_GetRandom, compared with that of a loop in C that only reads and writes the same
-# number of bytes; and the number of reads for a thousand commands that are sent at once. Needs python3, a C
-# compiler, strace, and rt if tpmsim is not built yet. Not part of the gate.
+# memory; the round-trip time of TPM2_GetRandom, compared with that of a loop in C that only reads and writes
+# the same number of bytes; and the number of reads for a thousand commands that are sent at once. Needs
+# python3, a C compiler, strace, and rt if tpmsim is not built yet. Not part of the gate.
 set -eu
 
 top=$(CDPATH='' cd "$(dirname "$0")/.." && pwd -P)

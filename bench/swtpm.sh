@@ -4,8 +4,8 @@
 #
 #   bench/swtpm.sh [STATES]    STATES is the folder of the states, /dev/shm by default
 #
-# All processes run on one processor. If the machine does other work, `chrt -f 10 bench/swtpm.sh` gives it
-# priority.
+# All processes run on one processor. If other programs run on the machine, `chrt -f 10 bench/swtpm.sh` gives
+# the script priority.
 #
 # $ATTACHED is the folder of `hosts/build.sh libtpms`; if it is not set, the script makes one. $OTHERS may name
 # folders of other versions of the library. The script measures these versions in the same run.

@@ -52,7 +52,7 @@ def start(version):
 
 
 def hand_over():
-    """Sets platformAuth to a random value. From TPM2_Startup until then, platformAuth is empty."""
+    """Sets platformAuth, which is empty after TPM2_Startup, to a random value."""
     global platform_auths
     platform_auths += 1
     value = hashlib.sha256(b"platform %d" % platform_auths).digest()

@@ -36,8 +36,8 @@ def value_behind(pcr, measurements):
 
 
 def policy_of(measurements):
-    """Returns the authPolicy: the policy digest that TPM2_PolicyPCR results in after these
-    measurements.
+    """Returns the authPolicy: the policy digest after TPM2_PolicyPCR with the PCR values that
+    result from these measurements.
     """
     values = b"".join(value_behind(pcr, measurements) for _, pcrs in CHOSEN for pcr in pcrs)
     values_digest = digest(SHA256, values)

@@ -36,7 +36,9 @@ def load_key():
 
 
 def unlock(outcome, handle):
-    """Unseals with a policy session, which succeeds if the PCRs have the values of the enrolment."""
+    """Unseals with a policy session. This succeeds if the PCRs have the same values as at
+    enrolment.
+    """
     session = tpm.policy("TPM2_StartAuthSession of a policy session")
     tpm("TPM2_PolicyPCR of PCR 0, 4 and 11").pcrs(session, CHOSEN)
     if outcome == "SUCCESS":

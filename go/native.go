@@ -43,7 +43,7 @@ func (it *native) isThere() bool { return it.holder.private_ != nil }
 
 func (it *native) free() { C.tpmsim_free(&it.holder) }
 
-// isOfHeader reports whether the linked library has the version of the header.
+// isOfHeader reports whether the linked library has the same version as the header.
 func isOfHeader() bool { return C.tpmsim_version() == C.TPMSIM_VERSION_NUMBER }
 
 func (it *native) manufacture(random *[randomBytes]byte) error {
@@ -94,7 +94,8 @@ func (it *native) stateText() []byte {
 	return text[:C.tpmsim_snapshot(&it.holder, front(text), C.size_t(len(text)))]
 }
 
-// front returns a pointer to the first of these bytes. The pointer is never nil.
+// front returns a pointer to the first byte of a slice. The pointer is never nil, even if the slice
+// is empty.
 func front(bytes []byte) *C.uint8_t {
 	if len(bytes) == 0 {
 		bytes = []byte{0}

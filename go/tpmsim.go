@@ -77,7 +77,7 @@ func WithSeed(seed []byte) Option {
 	return func(it *opening) { it.seed = append([]byte{}, seed...) }
 }
 
-// WithImage opens the device of an image that Save made, in the state after a power cycle.
+// WithImage opens the device from an image that Save made, in the state after a power cycle.
 func WithImage(image []byte) Option {
 	return func(it *opening) { it.image = append([]byte{}, image...) }
 }
@@ -297,8 +297,8 @@ func (tpm *TPM) Wait(duration time.Duration) error {
 	return nil
 }
 
-// Save returns the image, which contains everything that the device keeps without power. WithImage
-// opens it.
+// Save returns the image, which contains everything that the device keeps while it has no power.
+// WithImage opens it.
 func (tpm *TPM) Save() ([]byte, error) {
 	return tpm.written((*native).image)
 }

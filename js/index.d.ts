@@ -64,7 +64,8 @@ export interface Meaning {
   /** The code's name without TPM_RC_, such as `AUTH_FAIL`. */
   name: string;
   place: "" | "handle" | "parameter" | "session";
-  /** The number of the handle, parameter or session, from 1, or 0 if there is none. */
+  /** The number of the handle, parameter or session, from 1; 0 if the code refers to none of
+   * these. */
   number: number;
 }
 
@@ -77,17 +78,17 @@ export class Device {
   execute(command: Uint8Array, event?: Event): Answer;
   /** Executes a command in words, such as `GetRandom 4`. */
   do(line: string, event?: Event): Answer;
-  /** Plays a script line by line, while its events are iterated over. Throws BadLine at an invalid
-   * line. */
+  /** Plays a script line by line, as the caller iterates over its events. Throws BadLine at an
+   * invalid line. */
   play(script: string | Uint8Array): Generator<PlayedCommand | PlayedPower, void, undefined>;
   /** Power-cycles the device, which then expects TPM2_Startup. */
   powerCycle(): void;
-  /** Returns the image, which contains everything that the device keeps without power, including its
-   * secrets. */
+  /** Returns the image, which contains everything that the device keeps while it has no power,
+   * including its secrets. */
   save(): Uint8Array;
-  /** Returns everything that the device keeps without power, except its clock. */
+  /** Returns everything that the device keeps while it has no power, except its clock. */
   kept(): Uint8Array;
-  /** Replaces the device with that of an image, in the state after a power cycle. If it throws
+  /** Replaces the device with the one in an image, in the state after a power cycle. If it throws
    * BadImage, nothing changes. */
   open(image: Uint8Array): void;
   /** Returns the state text: the whole state of the device, with its sessions and secrets. */
@@ -147,7 +148,7 @@ export class BadState extends Error {
 export class BadLine extends Error {
   private constructor();
   fault: string;
-  /** The column of the fault, counted from 1, or 0 if it has none. */
+  /** The column of the fault, counted from 1, or 0 if the fault has no column. */
   column: number;
   /** What is expected at that column, such as `u16`. */
   wanted: string;

@@ -2,8 +2,8 @@
 # themselves: `--help` lists the subcommands, the options, and the kind of each option's value, as
 # in `--image <FILE>`; `tpmsim lines` lists the names of commands.
 
-# Each of the following functions reads a help text. They print its subcommands, the options in its
-# indented lines, the kind of an option's value, and the kind of the first argument.
+# Each of the following functions reads a help text. In this order, they print its subcommands, the
+# options in its indented lines, the kind of an option's value, and the kind of the first argument.
 _tpmsim_subcommands() { sed -n '/^Commands:/,/^$/s/^  \([a-z][a-z-]*\) .*/\1/p'; }
 _tpmsim_options() { grep '^  ' | grep -oE '(^|[ [|])--[a-z][a-z0-9-]*' | grep -oE -- '--.*' | sort -u; }
 _tpmsim_after() { sed -n "s/.*$1[ =]<\{0,1\}\([A-Z][A-Z_]*\).*/\1/p" | head -n 1; }

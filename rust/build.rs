@@ -7,7 +7,8 @@ use std::env;
 use std::path::{Path, PathBuf};
 use std::process::exit;
 
-/// Returns the kind of library in a folder, static or dynamic, or nothing if there is none.
+/// Returns the kind of library in a folder, static or dynamic, or nothing if the folder has no
+/// library.
 fn kind_in(folder: &Path) -> Option<&'static str> {
     let has = |name: &str| folder.join(name).exists();
     if has("libtpmsim.a") {

@@ -1,7 +1,7 @@
 #!/bin/sh
 # Builds the contents of dist/aarch64, for Linux on ARM64: the program, libtpmsim.a, libtpmsim.so.0 and PROVED,
-# which contains the version of the kit and the checksums of the sources and of these three files; then the
-# files of hosts/shared.sh. The crates of the program and of the library are proved for ARM64, which the
+# which contains the version of the kit and the checksums of the sources and of these three files. Then builds
+# the files of hosts/shared.sh. The crates of the program and of the library are proved for ARM64, which the
 # prover's verdict confirms. The crates that they use were proved for x86-64.
 #
 # All crates that these two use must have been built here by `rt ci`, and no source may be newer. tools/build.sh
@@ -47,7 +47,7 @@ link_program() (
         program.o heap.o arguments.o errors.o environment.o descriptors.o && "${prefix}strip" --strip-unneeded tpmsim
 ) >>"$log" 2>&1
 
-# Makes the archive and the shared object, as tools/library.sh does.
+# Makes the archive and the shared object in the same way as tools/library.sh.
 link_library() (
     mkdir "$work/objects" && cd "$work/objects" && "${prefix}ar" x ../exports.a && cp ../heap.o . &&
         "${prefix}ar" rcsD ../libtpmsim.a ./*.o &&

@@ -31,7 +31,7 @@ size() {
     find "$root/usr" -type f -printf '%s\n' | awk '{ sum += int(($1 + 1023) / 1024) } END { print sum }'
 }
 
-# Prints packaging/control with its placeholders replaced by the facts of this package.
+# Prints packaging/control with its placeholders replaced with the data of this package.
 control() {
     sed -e "s|@VERSION@|$version|" -e "s|@MAINTAINER@|$maintainer|" -e "s|@SIZE@|$(size)|" \
         -e "s|@PURPOSE@|$purpose|" -e "s|@ARCHITECTURE@|$architecture|" packaging/control

@@ -1,5 +1,5 @@
 #!/bin/sh
-# Copies the program that `rt ci` proved and built here to dist/, and writes its lines of dist/PROVED: the
+# Copies the program that `rt ci` proved and built here to dist/, and writes its lines in dist/PROVED: the
 # version of the kit, and the checksums of the sources and of the program. Needs `rt`. tools/library.sh builds
 # the library, hosts/shared.sh builds the C host for other languages, and tools/web.sh builds the module for web
 # pages.

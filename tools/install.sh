@@ -30,7 +30,8 @@ fail() {
     exit 1
 }
 
-# packages_of_python: prints the folder in PREFIX where python3 looks for packages, or nothing if there is none.
+# packages_of_python: prints the folder in PREFIX where python3 looks for packages, or nothing if it looks
+# nowhere in PREFIX.
 packages_of_python() {
     python3 -c '
 import site, sys

@@ -7,7 +7,8 @@ does the same with only `rt ci`. `tools/measure.py WORDS..` measures another com
 figures and writes nothing. If `taskset` limits the processors, the figures are stored separately
 from those for all processors. Runs only on Linux.
 
-`tools/measure.py --wrong REFUSED TRIED` stores how many wrong bodies outside the gate were refused.
+`tools/measure.py --wrong REFUSED TRIED` stores how many of the wrong bodies that the gate does not
+try were refused.
 """
 
 import json

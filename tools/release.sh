@@ -1,7 +1,7 @@
 #!/bin/sh
-# Makes a release of the last commit, and prints a list of its parts: the tag vVERSION; and in a folder the
-# package for Debian, the sources, dist/PROVED, the version's section of CHANGELOG.md, and SHA256SUMS with the
-# checksums of these files. It uploads nothing.
+# Makes a release of the last commit, and prints a list of its parts. A release consists of the tag vVERSION
+# and a folder with these files: the package for Debian, the sources, dist/PROVED, the version's section of
+# CHANGELOG.md, and SHA256SUMS with the checksums of the other files. It uploads nothing.
 #
 #   tools/release.sh [FOLDER]   in FOLDER; by default in out/vVERSION
 #

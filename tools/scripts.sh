@@ -9,7 +9,7 @@
 #
 #   tools/scripts.sh                   all tests
 #   tools/scripts.sh --shipped         only the tests of the files in dist/
-#   tools/scripts.sh --built           only the tests of programs that were built here and have other bytes
+#   tools/scripts.sh --built           only the tests of programs that were built here and differ from dist/
 #   tools/scripts.sh pcr_extend files  the tests with these names
 #   tools/scripts.sh 'nv/*' 'torn*'    the tests in tests/nv, and those whose names begin with torn
 #   JOBS=1 tools/scripts.sh            one test after another, instead of one on each processor
@@ -20,7 +20,7 @@
 # shell test whose name begins with lists_ is run only with tpmsim_lists. A shell test whose name begins with
 # library_ or attached_ is run with dist/libtpmsim.a. All other shell tests are run with the other programs.
 # NAME.out is the expected standard output, NAME.err the expected standard error (no file: empty), and NAME.status
-# the expected status (no file: 0). If there is a NAME.trace, a further test runs NAME.tpm as
+# the expected status (no file: 0). If there is a NAME.trace, another test runs NAME.tpm as
 # `PROGRAM run --trace NAME.tpm` and expects NAME.trace as standard output. A shell test that cannot run here ends
 # with status 77, and prints one line with the reason. Such a test is counted as skipped, like a test whose program
 # is missing. Results are printed in the order of programs and of tests, regardless of which test ends first. The

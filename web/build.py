@@ -1,6 +1,6 @@
 #!/usr/bin/env python3
 """Builds dist/tpmsim.html: one file with the page of web/page, the proved module dist/tpmsim.wasm,
-and the contents of the repository's tables. The same sources make the same bytes.
+and the contents of the repository's tables. The same sources always result in the same bytes.
 
     web/build.py             writes dist/tpmsim.html
     web/build.py --check     compares it with the present one; the status is 1 if they differ

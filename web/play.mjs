@@ -42,7 +42,7 @@ export class Module {
         this.grow(end);
     }
 
-    /** @param {number} end the least size that the memory then has, in bytes */
+    /** @param {number} end the minimum size of the memory afterwards, in bytes */
     grow(end) {
         const pages = Math.ceil((end - this.calls.memory.buffer.byteLength) / 65536);
         if (pages > 0) this.calls.memory.grow(pages);

@@ -67,7 +67,7 @@ static inline uint32_t number_at(const uint8_t *bytes, unsigned size) {
     return number;
 }
 
-/* Ends the program if a condition that should always hold does not hold. */
+/* Ends the program if a condition that should always be true is false. */
 static inline void need(int holds, const char *what) {
     if (holds) return;
     fprintf(stderr, "%s\n", what);
@@ -156,7 +156,7 @@ static inline void must(tpm *it, uint32_t code, const uint32_t *handles, const b
 #define BY_PASSWORD(given)                                                                         \
     &(by) { .session = PASSWORD, .value = given }
 
-/* Removes the sized buffer at the beginning of the parameters, and returns it. */
+/* Removes the first sized buffer from the parameters, and returns it. */
 static inline text take_buffer(tpm *it) {
     text buffer = {0};
     const size_t size = number_at(it->parameters, 2);
@@ -165,7 +165,7 @@ static inline text take_buffer(tpm *it) {
     return buffer;
 }
 
-/* Appends a selection of PCRs of the SHA-256 bank: bit N selects PCR N. */
+/* Appends a selection of PCRs in the SHA-256 bank: bit N selects PCR N. */
 static inline void put_selection(text *to, uint32_t pcrs) {
     put(to, "\0\0\0\1\0\013\3", 7);
     for (unsigned at = 0; at < 3; at++) put_number(to, pcrs >> 8 * at & 0xff, 1);

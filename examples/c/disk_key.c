@@ -10,7 +10,7 @@ static const char passphrase[] = "kept in a drawer";
 /* The digests of the two branches, as TPM2_PolicyOR needs them. */
 static text branches;
 
-/* Satisfies the first branch: PCRs 7 and 11 have their present values, and the caller knows the
+/* Satisfies the first branch: PCRs 7 and 11 have their current values, and the caller knows the
  * PIN. */
 static void by_pin(tpm *it, uint32_t session) {
     text pcrs = {0};
@@ -30,7 +30,7 @@ static int either(tpm *it, uint32_t session) {
     return send_command(it, 0x171, HANDLES(session), NULL, &branches);
 }
 
-/* Returns the digest of the policy, for the present values of the PCRs. */
+/* Returns the digest of the policy, for the current values of the PCRs. */
 static text make_policy(tpm *it) {
     put_number(&branches, 2, 4);
     uint32_t trial = start_session(it, TRIAL);

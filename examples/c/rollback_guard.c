@@ -23,7 +23,7 @@ static int at_most(tpm *it, uint32_t session, uint32_t version) {
     return send_command(it, 0x149, HANDLES(INDEX, INDEX, session), BY_PASSWORD(""), &parameters);
 }
 
-/* Prints the key of a version, or the reason for the refusal. */
+/* Prints the key that is sealed for a version, or the reason for the refusal. */
 static void tell_key(tpm *it, const char *what, uint32_t version) {
     const uint32_t trial = start_session(it, TRIAL);
     need(at_most(it, trial, version), "a trial session refuses");

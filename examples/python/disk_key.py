@@ -11,7 +11,7 @@ CHOSEN = [(SHA256, [7, 11])]
 
 
 def policy_of(tpm: Caller) -> str:
-    """Returns the policy in words, for the present values of the PCRs."""
+    """Returns the policy in words, for the current values of the PCRs."""
     seven, eleven = tpm.call("PCR_Read", pcrSelectionIn=CHOSEN)["pcrValues"]
     return f"""
 either

@@ -20,7 +20,7 @@ def policy_of(tpm: Caller, index: int, version: int) -> str:
 
 
 def unseal(tpm: Caller, index: int, version: int) -> str:
-    """Returns the key of a version, or the reason for the refusal."""
+    """Returns the key that is sealed for a version, or the reason for the refusal."""
     words = policy_of(tpm, index, version)
     parent = tpm.create_primary(storage_key())
     made = tpm.create(parent, sealed(attributes=HERE, auth_policy=digest_of(words)), data=KEY)

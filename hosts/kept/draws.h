@@ -19,7 +19,7 @@ struct draws {
 };
 
 /* Initializes the random bytes. If `size` is 0, they come from the system; otherwise they are the
- * passed 1 to 256 bytes, repeated to 256. */
+ * passed 1 to 256 bytes, which are repeated to fill 256. */
 void draws_begin(struct draws *draws, const uint8_t *told, size_t size);
 
 void draws_end(struct draws *draws);

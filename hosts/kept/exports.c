@@ -8,8 +8,7 @@
 
 _Static_assert((int)TPMSIM_KEPT_REASON_SIZE == (int)REASON_ROOM, "each sentence fits");
 
-/* Returns the number that stands for the result of a call. If the call failed, also writes the
- * reason to `text`. */
+/* Returns the result code of a call. If the call failed, also writes the reason to `text`. */
 static uint8_t number_of(bool is_done, const struct reason *reason, char text[REASON_ROOM]) {
     if (is_done) return TPMSIM_DONE;
     memcpy(text, reason->text, strlen(reason->text) + 1);

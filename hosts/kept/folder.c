@@ -41,8 +41,8 @@ static bool set_mode_by_path(const char *path) {
 }
 
 /* Sets the mode of the new folder, because the umask may have removed bits. Opening the folder
- * follows no link and needs no /proc. If the umask denies the folder to its own user, it cannot be
- * opened, and the path is used instead. */
+ * follows no link and needs no /proc. If the umask denies the folder to its own user, the folder
+ * cannot be opened, and the path is used instead. */
 static bool set_mode(const char *path) {
     int made = open(path, O_RDONLY | O_DIRECTORY | O_NOFOLLOW | O_CLOEXEC);
     if (made < 0) return errno == EACCES && set_mode_by_path(path);

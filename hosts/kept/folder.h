@@ -12,7 +12,7 @@
 
 struct folder {
     char *path;
-    /* The open folder and the open lock file. -1 stands for none. */
+    /* The descriptors of the folder and of the lock file; -1 if it is not open. */
     int descriptor;
     int lock;
     struct stat lock_status;
@@ -35,25 +35,26 @@ bool is_same_file(const struct stat *one, const struct stat *other);
 bool folder_open(struct folder *folder, const char *path, bool makes, struct reason *reason);
 void folder_close(struct folder *folder);
 
-/* Looks up a name. Returns 1 for a regular file of the user, 0 if the name does not exist, and -1
- * with a reason for anything else. */
+/* Looks up a name. Returns 1 for a regular file of the user, and 0 if the name does not exist.
+ * For anything else, returns -1 and sets `reason`. */
 int folder_look(const struct folder *folder, const char *name, struct stat *status,
                 struct reason *reason);
 
-/* Whether the name still belongs to the file whose status at its opening was `opened`; also
+/* Whether the name still refers to the file that had the status `opened` when it was opened. Also
  * writes the current status. */
 bool folder_has(const struct folder *folder, const char *name, const struct stat *opened,
                 struct stat *status);
 
-/* Opens a file for reading and writing, and writes its status. Returns -1 with the reason. */
+/* Opens a file for reading and writing, and writes its status. On failure, returns -1 and sets
+ * `reason`. */
 int folder_open_file(const struct folder *folder, const char *name, struct stat *status,
                      struct reason *reason);
 
-/* Makes a missing file. Returns -1 with the reason and errno. */
+/* Makes a missing file. On failure, returns -1, and sets `reason` and errno. */
 int folder_make_file(const struct folder *folder, const char *name, struct reason *reason);
 
-/* Waits until no other process holds the lock, and acquires it. Returns false with the reason, or
- * with errno if the file cannot be locked. */
+/* Waits until no other process holds the lock, and acquires it. On failure, returns false and
+ * sets `reason`, or errno if the file cannot be locked. */
 bool folder_lock(struct folder *folder, struct reason *reason);
 void folder_unlock(struct folder *folder);
 

@@ -11,7 +11,8 @@
 /* The size of a buffer for an image, larger than any image. */
 enum { ROOM = 64 * 1024 };
 
-/* Opens the file if the user may read it. Returns -1 with the reason. */
+/* Opens the file if the user may read it. Otherwise returns -1 and sets
+ * `reason`. */
 static int open_file(const char *path, struct reason *reason) {
     struct stat status;
     if (fstatat(AT_FDCWD, path, &status, AT_SYMLINK_NOFOLLOW) != 0) {
@@ -38,7 +39,7 @@ static bool read_device(tpmsim *device, int file, const char *path, uint8_t *roo
     return told == TPMSIM_DONE || refuse_told(reason, path, NULL, told);
 }
 
-/* Returns the bytes of the image in a file, and opens its device. */
+/* Returns the bytes of an image file, and opens the device in it. */
 static uint8_t *open_bytes(tpmsim *device, const char *path, size_t *size, struct reason *reason) {
     int file = open_file(path, reason);
     if (file < 0) return NULL;

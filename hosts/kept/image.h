@@ -4,11 +4,11 @@
 #include "reason.h"
 #include "tpmsim.h"
 
-/* Reads the image in a file that belongs to the user. The caller frees it. Returns NULL with the
- * reason. */
+/* Reads the image from a file that belongs to the user. The caller frees the image. On failure,
+ * returns NULL and sets `reason`. */
 uint8_t *image_read(const char *path, size_t *size, struct reason *reason);
 
-/* Opens the device of the image in a file. */
+/* Opens the device from the image in a file. */
 bool image_open(tpmsim *device, const char *path, struct reason *reason);
 
 #endif

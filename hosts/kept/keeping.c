@@ -43,7 +43,7 @@ static bool reserve(struct keeping *keeping, size_t size, struct reason *reason)
     return true;
 }
 
-/* Describes in a sentence what a task cuts off the journal, if anything. */
+/* If a task cuts something from the journal, describes that in a sentence. */
 static void note_cut(struct keeping *keeping, const tpmsim_ask *ask) {
     char said[128], place[32] = "last whole record";
     if (keeping->size <= ask->cut) return;
@@ -111,7 +111,8 @@ static void remove_new(struct keeping *keeping) {
     errno = error;
 }
 
-/* Writes the new journal file and syncs it. Returns the words for a failure, or NULL. */
+/* Writes the new journal file and syncs it. Returns NULL or, on failure, the words that describe
+ * it. */
 static const char *write_new(struct keeping *keeping, size_t size) {
     if (!transfer_write(keeping->fresh, keeping->buffer, size, 0)) return "cannot be written";
     if (fsync(keeping->fresh) != 0) return "cannot be forced to the disk";
@@ -196,8 +197,7 @@ static bool refuse_damage(struct keeping *keeping, struct reason *reason) {
     return refuse_told(reason, keeping->folder.path, JOURNAL_NAME, told);
 }
 
-/* Sets the reason why a call failed to the keeper's text for the fault, unless a task has set it
- * already. */
+/* Unless a task has already set the reason, sets it to the keeper's text for the fault. */
 static bool refuse_fault(struct keeping *keeping, uint8_t fault, int error, struct reason *reason) {
     char said[128] = "";
     const char *file = fault == TPMSIM_FAULT_LOCK   ? LOCK_NAME

@@ -13,11 +13,12 @@ struct keeping {
     tpmsim_keeper keeper;
     /* The folder. If it has no path, the device is in memory and has no journal file. */
     struct folder folder;
-    /* The open journal, and the new journal file before it is renamed. -1 stands for none. */
+    /* The descriptors of the journal, and of the new journal file before it is renamed; -1 if it is
+     * not open. */
     int journal, fresh;
     struct stat journal_status, fresh_status;
-    /* The number of the current journal file among the files that were opened, from 1 on; and its
-     * size. */
+    /* The number of the current journal file, counted from 1 among the files that were opened; and
+     * its size. */
     uint64_t number, size;
     /* The task that requested the new journal file. */
     tpmsim_ask made;
@@ -26,11 +27,12 @@ struct keeping {
     /* The bytes to write, or the bytes that were read; `read` is their number. */
     uint8_t *buffer;
     size_t buffer_size, read;
-    /* A sentence that describes what the last call cut off the journal; empty if it cut nothing. */
+    /* A sentence that describes what the last call cut from the journal; empty if it cut
+     * nothing. */
     struct reason notice;
 };
 
-/* Makes a keeper, and opens the folder of the options, if they name one. */
+/* Makes a keeper, and opens the folder if the options name one. */
 bool keeping_open(struct keeping *keeping, const struct kept_options *options,
                   struct reason *reason);
 

@@ -21,8 +21,8 @@ static bool tell_now(const struct kept *kept, uint64_t *now_ms, struct reason *r
                   "needs the host's clock, which cannot be read or is before 1970", 0);
 }
 
-/* Provides fresh random bytes. All of them count as drawn until the device reports the number that
- * it drew. */
+/* Provides fresh random bytes. All of them count as drawn until the device reports how many it
+ * drew. */
 static bool renew(struct kept *kept, struct reason *reason) {
     if (!draws_renew(&kept->draws))
         return refuse(reason, keeping_name(&kept->keeping), NULL,
@@ -31,10 +31,10 @@ static bool renew(struct kept *kept, struct reason *reason) {
     return true;
 }
 
-/* Determines the time of a manufacture, restore or power cycle from the host's clock. Also
- * determines a start number for the completing layer that no earlier start had; a power cycle does
- * not use it. The number is combined with the clock, because reproducible runs repeat their random
- * bytes. */
+/* Determines the time of a manufacture, restoration or power cycle from the host's clock. Also
+ * determines a start number for the completing layer, different from those of all earlier starts. A
+ * power cycle does not use the number. The number is combined with the clock, because reproducible
+ * runs repeat their random bytes. */
 static bool tell_start(struct kept *kept, uint64_t *now_ms, uint64_t *start,
                        struct reason *reason) {
     if (!renew(kept, reason) || !tell_now(kept, now_ms, reason)) return false;
@@ -44,7 +44,7 @@ static bool tell_start(struct kept *kept, uint64_t *now_ms, uint64_t *start,
     return true;
 }
 
-/* Completes the call that the keeper has begun with this result, and reports what was cut off the
+/* Completes the call that the keeper has begun with this result, and reports what was cut from the
  * journal. */
 static bool run(struct kept *kept, uint8_t told, struct reason *reason) {
     bool is_done = keeping_run(&kept->keeping, told, reason);

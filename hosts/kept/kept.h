@@ -8,8 +8,9 @@
  * at once: each of them executes the commands that the others have added before it executes its
  * own. The library's keeper decides which task comes next, and keeping.c performs it.
  *
- * A call that fails returns false or NULL, with a sentence that names the path. Only one call at a
- * time may use a `struct kept`. There are no global variables, and no call ends the process. */
+ * A call that fails returns false or NULL, and sets `reason` to a sentence that names the path.
+ * Only one call at a time may use a `struct kept`. There are no global variables, and no call ends
+ * the process. */
 #ifndef KEPT_H
 #define KEPT_H
 #include "reason.h"
@@ -29,8 +30,8 @@ struct kept_options {
      * random bytes. If the size is 0, the system's random bytes are used. */
     const uint8_t *random;
     size_t random_size;
-    /* A value of tpmsim_force, which says when the journal is synced to the disk. This matters if
-     * the host's power may fail. */
+    /* A value of tpmsim_force, which determines when the journal is synced to the disk. This
+     * matters if the host's power may fail. */
     uint8_t force;
     /* The number of past journals to keep in the folder, 0 to PAST_MOST of past.h. */
     unsigned keep;
@@ -40,16 +41,16 @@ struct kept_options {
     bool is_there;
     /* If true, a damaged journal is cut off at its first damage. Otherwise it is refused. */
     bool cuts;
-    /* Called with a sentence when something was cut off a journal; may be NULL. */
+    /* Called with a sentence when something was cut from a journal; may be NULL. */
     void (*tell)(const char *sentence);
 };
 
 struct kept;
 
-/* Opens a device. Returns NULL with the reason. */
+/* Opens a device. On failure, returns NULL and sets `reason`. */
 struct kept *kept_open(const struct kept_options *options, struct reason *reason);
 
-/* Executes a command, and writes its response, as tpmsim_execute does. If this fails, there is no
+/* Like tpmsim_execute, executes a command and writes its response. If this fails, there is no
  * response, and the next call executes the commands in the journal again. */
 bool kept_execute(struct kept *kept, const uint8_t *buffer, size_t size, uint8_t locality,
                   uint8_t response[4096], tpmsim_answered *answered, struct reason *reason);
@@ -61,14 +62,14 @@ bool kept_power(struct kept *kept, struct reason *reason);
 bool kept_snapshot(struct kept *kept, uint8_t text[TPMSIM_STATE_SIZE], size_t *size,
                    struct reason *reason);
 
-/* Replaces the device with that of a state text, for every process that uses it. If the bytes are
- * not a state text, the device is unchanged. */
+/* Replaces the device with the one in a state text, for every process that uses it. If the bytes
+ * are not a state text, the device is unchanged. */
 bool kept_restore(struct kept *kept, const uint8_t *text, size_t size, struct reason *reason);
 
 /* Turns the completing layer on or off for the commands of this process. */
 void kept_complete(struct kept *kept, bool completes);
 
-/* Returns a sentence that describes what the last call cut off the journal; empty if it cut
+/* Returns a sentence that describes what the last call cut from the journal; empty if it cut
  * nothing. */
 const char *kept_notice(const struct kept *kept);
 

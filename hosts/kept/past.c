@@ -13,7 +13,8 @@ static const char *name_of(unsigned number, char name[32]) {
     return name;
 }
 
-/* Returns the lowest number that no past journal has, or `count` if there is none below it. */
+/* Returns the lowest number that no past journal has, or `count` if that number is not below
+ * `count`. */
 static unsigned free_number(const struct folder *folder, unsigned count) {
     struct stat status;
     char name[32];
@@ -25,8 +26,8 @@ static unsigned free_number(const struct folder *folder, unsigned count) {
 }
 
 /* Increments the number of each past journal below the lowest free number, so that journal.1 is
- * free. If the process is killed halfway, a number is free, which the next call uses without losing
- * a journal. */
+ * free. If the process is killed halfway, one number stays free, and the next call uses it without
+ * losing a journal. */
 static bool move_on(const struct folder *folder, unsigned count, struct reason *reason) {
     char name[32], next[32];
     if (count == 1 && unlinkat(folder->descriptor, LAST, 0) != 0 && errno != ENOENT)

@@ -13,10 +13,10 @@ struct reason {
     uint8_t told;
 };
 
-/* Builds the sentence: the subject `about`, a path or a word, followed by `/name` if `name` is
- * not NULL; then `said`; then the system's message for `error`, if it is not 0. Control
- * characters become question marks. Returns false, so that a failing function can return the
- * result. Preserves errno. */
+/* Builds the sentence. It begins with the subject `about`, which is a path or a word, followed
+ * by `/name` if `name` is not NULL. Then it has `said` and, if `error` is not 0, the system's
+ * message for `error`. Control characters become question marks. Returns false, so that a
+ * failing function can return the result. Preserves errno. */
 bool refuse(struct reason *reason, const char *about, const char *name, const char *said,
             int error);
 

@@ -4,7 +4,8 @@
 #include "reason.h"
 #include "tpmsim.h"
 
-/* Returns the rest of a sentence about a journal or an image, to follow its path. */
+/* Returns the rest of a sentence about a journal or an image. The sentence begins with the
+ * path. */
 const char *told_words(uint8_t told);
 
 /* Sets the reason to the words for a return code of the library. Returns false, as `refuse`

@@ -64,7 +64,7 @@ typedef struct tpmsim_kept_options {
     /* The number of past journals to keep in the folder, 0 to 99: journal.1, the newest, to
        journal.99. */
     uint32_t keep;
-    /* A value of tpmsim_force, which says when the journal is synced to the disk. */
+    /* A value of tpmsim_force, which determines when the journal is synced to the disk. */
     uint8_t force;
     /* If not 0, a folder without a device is a fault. Otherwise the folder is made if it is
        missing, and a new device is made in it. */
@@ -76,8 +76,8 @@ typedef struct tpmsim_kept_options {
 /* Opens a device. If that succeeds, the handle's previous device is closed.
 
    TPMSIM_NO_WORD: a number in the options is out of range. TPMSIM_IMAGE_SHORT to
-   TPMSIM_STATE_BODY: the image in the file or in the journal's head is invalid, or the state
-   text in the head is. */
+   TPMSIM_STATE_BODY: the image in the file, or the image or the state text in the journal's head,
+   is invalid. */
 uint8_t tpmsim_kept_open(tpmsim_kept_device *kept, const tpmsim_kept_options *options,
                          char reason[TPMSIM_KEPT_REASON_SIZE]);
 
@@ -96,12 +96,13 @@ uint8_t tpmsim_kept_power(tpmsim_kept_device *kept, char reason[TPMSIM_KEPT_REAS
 uint8_t tpmsim_kept_snapshot(tpmsim_kept_device *kept, uint8_t text[TPMSIM_STATE_SIZE],
                              size_t *size, char reason[TPMSIM_KEPT_REASON_SIZE]);
 
-/* Replaces the device with that of a state text, for every process that uses it. TPMSIM_STATE_SHORT
-   to TPMSIM_STATE_BODY: the bytes are not a state text, and the device is unchanged. */
+/* Replaces the device with the one in a state text, for every process that uses it.
+   TPMSIM_STATE_SHORT to TPMSIM_STATE_BODY: the bytes are not a state text, and the device is
+   unchanged. */
 uint8_t tpmsim_kept_restore(tpmsim_kept_device *kept, const uint8_t *text, size_t size,
                             char reason[TPMSIM_KEPT_REASON_SIZE]);
 
-/* Writes a zero-terminated sentence that describes what the last call cut off the journal. The
+/* Writes a zero-terminated sentence that describes what the last call cut from the journal. The
    sentence is empty if the call cut nothing. */
 void tpmsim_kept_notice(const tpmsim_kept_device *kept, char notice[TPMSIM_KEPT_REASON_SIZE]);
 

@@ -91,13 +91,15 @@ static bool read_word(struct words *words, bool seen[WORDS], const char *text,
     return refuse_word(text, "is none of the words " WORDS_WANTED, reason);
 }
 
-/* Returns false with the reason if `word`, which needs a folder, occurred without state=DIR. */
+/* If `word`, which needs a folder, occurred without state=DIR, returns false and sets
+ * `reason`. */
 static bool has_folder(const bool seen[WORDS], enum word word, struct reason *reason) {
     return !seen[word] || seen[STATE] ||
            refuse(reason, NAMES[word], NULL, "is allowed only with state=DIR", 0);
 }
 
-/* Returns false with the reason if the words turn the completing layer both on and off. */
+/* If the words turn the completing layer both on and off, returns false and sets
+ * `reason`. */
 static bool has_one_layer(const bool seen[WORDS], struct reason *reason) {
     return !seen[COMPLETE] || !seen[DEVICE] ||
            refuse(reason, NAMES[COMPLETE], NULL, "cannot be combined with device", 0);

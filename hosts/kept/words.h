@@ -14,14 +14,14 @@ struct words {
     char *text;
     struct kept_options options;
     uint8_t locality;
-    /* Whether a process flushes the objects and sessions that it loaded when it ends. */
+    /* Whether a process, when it ends, flushes the objects and sessions that it loaded. */
     bool flushes;
     uint8_t random[256];
 };
 
-/* Reads words that are separated by commas; NULL and an empty text contain none. Returns false
- * with the reason if a word is unknown, repeated or excluded by another one, or if memory is
- * exhausted. */
+/* Reads words that are separated by commas; NULL and an empty text contain none. If a word is
+ * unknown, repeated or excluded by another one, or if memory is exhausted, returns false and
+ * sets `reason`. */
 bool words_read(struct words *words, const char *text, struct reason *reason);
 
 void words_free(struct words *words);

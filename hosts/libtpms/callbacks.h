@@ -11,13 +11,14 @@ bool begin_callbacks(void);
 
 enum kept { KEPT, NOT_KEPT, NOT_READ };
 
-/* Reads the state that swtpm stores by this name, if there is one. The caller frees the bytes. */
+/* Reads the state with this name if swtpm has stored one. The caller frees the bytes. */
 enum kept load_state(const char *name, uint8_t **bytes, size_t *size);
 
-/* Makes swtpm store a state by this name. */
+/* Makes swtpm store a state with this name. */
 bool store_state(const char *name, const uint8_t *bytes, size_t size);
 
-/* Returns swtpm's current locality, 0 to 4, or another number if swtpm reports none. */
+/* Returns swtpm's current locality, 0 to 4, or another number if swtpm reports no
+ * locality. */
 uint32_t locality_now(void);
 
 #endif

@@ -61,8 +61,8 @@ bool write_last(void) {
     return !is_behind;
 }
 
-/* Executes a command. If recording was requested, also makes its record. The completing layer takes
-   part if it is on. */
+/* Executes a command, with the completing layer if it is on. If recording was requested, also makes
+   the command's record. */
 static uint8_t run(const uint8_t *buffer, size_t size, uint8_t locality, uint32_t elapsed,
                    const uint8_t *random, uint8_t *response, tpmsim_answered *answered) {
     if (is_recorded())

@@ -20,7 +20,7 @@ tpmsim *the_device(void);
 /* Whether there is a device. */
 bool device_is_on(void);
 
-/* Switches the completing layer on or off, from now on. */
+/* Switches the completing layer on or off for all later commands. */
 void let_device_complete(bool completes);
 
 /* Powers the device on. This starts its completing layer, its clock and its record. */

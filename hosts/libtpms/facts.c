@@ -1,4 +1,4 @@
-/* Facts about this TPM that do not depend on its state. */
+/* Properties of this TPM that do not depend on its state. */
 #include "device.h"
 #include "report.h"
 

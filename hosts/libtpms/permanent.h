@@ -11,13 +11,15 @@
 /* Makes the permanent state of a device; the caller has to free the bytes. */
 bool make_permanent_state(tpmsim *device, struct state *state);
 
-/* Opens the device of a permanent state. The device is in the state after power-on. */
+/* Opens the device from a permanent state. Afterwards the device is in its state after
+ * power-on. */
 bool open_permanent_state(tpmsim *device, const struct state *state);
 
-/* Remembers the image of this device as the stored one. */
+/* Remembers the image of this device as the stored image. */
 void take_as_permanent(tpmsim *device);
 
-/* Whether the stored image has the device's present permanent state, except for the clock. */
+/* Whether the stored image contains the device's current permanent state, except for the
+ * clock. */
 bool is_permanent(tpmsim *device);
 
 /* Makes swtpm store the image of a device. */

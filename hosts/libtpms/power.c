@@ -38,7 +38,8 @@ static bool manufacture(void) {
     return was_manufactured;
 }
 
-/* Opens the device of the permanent state, or makes a new one if there is none. */
+/* Opens the device from the stored permanent state, or makes a new device if there is no such
+ * state. */
 static bool open_permanent(bool *is_to_be_stored) {
     struct state state;
     enum kept kept = find_state(TPMLIB_STATE_PERMANENT, &state);
@@ -63,7 +64,7 @@ static bool resume(const struct state *state) {
     return resume_device(moment.time);
 }
 
-/* Continues the device from the volatile state if there is one, and otherwise powers it on. */
+/* If there is a volatile state, continues the device from it. Otherwise powers the device on. */
 static bool open_volatile(void) {
     struct state state;
     enum kept kept = find_state(TPMLIB_STATE_VOLATILE, &state);

@@ -13,7 +13,7 @@
 
 enum { LINE_BYTES = 512, PREFIX_BYTES = 64 };
 
-/* The descriptor of swtpm's log; -1 if there is none. */
+/* The descriptor of swtpm's log; -1 if swtpm has no log. */
 static int log_descriptor = -1;
 static char log_prefix[PREFIX_BYTES];
 

@@ -7,7 +7,7 @@
 /* Writes a line, formatted like printf. The format has no newline at its end. */
 void report(const char *format, ...) __attribute__((format(printf, 1, 2)));
 
-/* Returns what is wrong with a state, in words, for a return code of the library (tpmsim_told). */
+/* Describes what is wrong with a state, for a return code of the library (tpmsim_told). */
 const char *words_of_told(uint8_t told);
 
 #endif

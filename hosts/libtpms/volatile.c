@@ -1,6 +1,6 @@
 /* A state text and a tail of 41 bytes: the time (8), whether there was a launch (1), and a SHA-256
-   digest (32). The digest covers these fields and the last 32 bytes of the text, which are the
-   digest of the rest of the text. */
+   digest (32). The digest covers these fields and the last 32 bytes of the state text, which are
+   the digest of the bytes before them. */
 #include "volatile.h"
 
 #include "digests.h"
@@ -46,7 +46,7 @@ bool make_volatile_state(tpmsim *device, const struct moment *moment, struct sta
     return true;
 }
 
-/* Opens the device of a volatile state. Returns NULL, or the reason why the state is refused. */
+/* Opens the device from a volatile state. Returns NULL, or the reason why the state is refused. */
 static const char *fault_of(tpmsim *device, const struct state *state, struct moment *moment) {
     size_t size = state->size < TAIL_BYTES ? 0 : state->size - TAIL_BYTES;
     if (is_older_state(state->bytes, state->size))

@@ -9,8 +9,8 @@
 #include <stdint.h>
 #include <tpmsim.h>
 
-/* The time at which the device stopped, and whether a dynamic launch took place, which swtpm asks
- * for. */
+/* The time at which the device stopped, and whether a dynamic launch took place, which swtpm may
+ * ask. */
 struct moment {
     /* The time that the host's clock showed at the last command, in milliseconds. */
     uint64_t time;
@@ -20,7 +20,7 @@ struct moment {
 /* Makes the volatile state of a device; the caller has to free the bytes. */
 bool make_volatile_state(tpmsim *device, const struct moment *moment, struct state *state);
 
-/* Opens the device of a volatile state, which an older version of the library may have made. */
+/* Opens the device from a volatile state, which an older version of the library may have made. */
 bool open_volatile_state(tpmsim *device, const struct state *state, struct moment *moment);
 
 #endif

@@ -8,16 +8,16 @@
 struct board {
     struct device *device;
     bool is_powered;
-    /* Whether a dynamic launch has started, whose code is being hashed. */
+    /* Whether a dynamic launch has started and its code is being hashed. */
     bool is_launching;
     struct digests launched;
 };
 
-/* Each of the following functions returns false with the reason if the device cannot continue. The
- * simulator then ends. */
+/* If the device cannot continue, each of the following functions returns false and sets `reason`.
+ * The simulator then ends. */
 
-/* Executes a command. The response is empty if the power is off, and LOCALITY for a locality above
- * 4. */
+/* Executes a command. The response is empty if the power is off, and is LOCALITY for a locality
+ * above 4. */
 bool board_execute(struct board *board, const uint8_t *buffer, size_t size, uint8_t locality,
                    struct response *response, struct reason *reason);
 

@@ -8,7 +8,7 @@
 
 struct client;
 
-/* Makes a client of a board. Returns NULL if memory is exhausted; the caller then still owns the
+/* Makes a client for a board. Returns NULL if memory is exhausted; the caller then still owns the
  * socket. */
 struct client *client_of(int socket, struct board *board, bool is_of_platform);
 
@@ -18,8 +18,8 @@ int client_socket(const struct client *client);
 bool client_writes(const struct client *client);
 
 /* Reads and writes as much as is possible now. Returns ENDS if the client closed the connection or
-   must be closed, STOPS if it asked to stop the simulator, and FAILS with the reason if a device
-   cannot continue. */
+   must be closed, STOPS if it asked to stop the simulator, and FAILS, after setting `reason`, if a
+   device cannot continue. */
 enum outcome client_go_on(struct client *client, struct reason *reason);
 
 /* Closes the socket. */

@@ -42,7 +42,7 @@ static bool manufacture(struct device *device, struct reason *reason) {
     return told == TPMSIM_DONE || refuse_device(told_words(told), reason);
 }
 
-/* Writes the image, if there is a file for it. */
+/* Writes the image if the device has a file for it. */
 static bool keep(struct device *device, bool always, struct reason *reason) {
     return !device->has_image || image_file_keep(&device->image, &device->handle, always, reason);
 }
@@ -108,8 +108,8 @@ static void tell_line(const char *sentence) {
     fprintf(stderr, "tpmsim-simulator: %s\n", sentence);
 }
 
-/* Writes the path of a device's folder: the named folder, or a folder in it if there are several
- * devices. */
+/* Writes the path of a device's folder: the named folder or, if there are several devices, a folder
+ * in it. */
 static bool name_folder(const struct options *options, unsigned number, char folder[PATH_MAX],
                         struct reason *reason) {
     int size = options->devices == 1 ? snprintf(folder, PATH_MAX, "%s", options->folder)

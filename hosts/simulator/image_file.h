@@ -1,7 +1,7 @@
 /* The file with the image of a device in memory. The file is replaced as a whole: a new one,
    FILE.new, is written next to it, synced to the disk, and renamed. While the file is in use,
-   FILE.lock is locked, as by `tpmsim run --image`, so that only one program at a time uses the
-   image. */
+   FILE.lock is locked, as it is by `tpmsim run --image`, so that only one program at a time
+   uses the image. */
 #ifndef IMAGE_FILE_H
 #define IMAGE_FILE_H
 #include "reason.h"
@@ -21,13 +21,13 @@ struct image_file {
     uint8_t *image;
 };
 
-/* Locks the file. `is_there` reports whether it contains an image. Returns false with the
- * reason. */
+/* Locks the file. Sets `is_there` to whether the file contains an image. On failure, returns
+ * false and sets `reason`. */
 bool image_file_open(struct image_file *file, const char *path, bool *is_there,
                      struct reason *reason);
 
 /* Writes the image if the device's permanent state differs from the last written one, or if
-   `always` is true. Returns false with the reason. */
+   `always` is true. On failure, returns false and sets `reason`. */
 bool image_file_keep(struct image_file *file, tpmsim *device, bool always, struct reason *reason);
 
 void image_file_close(struct image_file *file);

@@ -8,8 +8,8 @@
 #include <sys/socket.h>
 #include <unistd.h>
 
-/* The maximum number of clients that wait to be accepted, and of attempts to find two free
- * ports. */
+/* The maximum number of clients that wait to be accepted, and the maximum number of
+ * attempts to find two free ports. */
 enum { MOST_WAITING = 100, TRIES = 100 };
 
 union address {
@@ -36,7 +36,8 @@ static uint16_t port_of(const union address *address) {
     return ntohs(address->any.sa_family == AF_INET ? address->four.sin_port : address->six.sin6_port);
 }
 
-/* Returns a listening socket, or -1 with errno. Sets `port` to the socket's port. */
+/* Returns a listening socket, and sets `port` to its port. On failure, returns -1 and
+ * sets errno. */
 static int listen_at(const char *text, uint16_t *port) {
     union address address;
     socklen_t size = address_of(text, *port, &address);

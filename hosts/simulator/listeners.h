@@ -6,13 +6,13 @@
 #include <netinet/in.h>
 
 struct listeners {
-    /* Two sockets for each device, one for commands and one for the platform; -1 if it is not open
-     * yet. */
+    /* Two sockets for each device, one for commands and one for the platform; -1 if a socket is
+     * not open yet. */
     int *sockets;
     size_t count;
 };
 
-/* Listens on all ports. Returns false with the reason. */
+/* Listens on all ports. On failure, returns false and sets `reason`. */
 bool listeners_open(struct listeners *listeners, const struct options *options,
                     struct reason *reason);
 

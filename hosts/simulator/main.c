@@ -18,7 +18,8 @@ static bool open_devices(struct board *boards, const struct options *options,
     return true;
 }
 
-/* Ends all devices. Returns false with the reason for the first one that cannot be saved. */
+/* Closes all devices. If a device cannot be saved, returns false, and sets `reason` to the
+ * reason for the first such device. */
 static bool close_devices(struct board *boards, unsigned count, struct reason *reason) {
     bool is_done = true;
     struct reason other;
@@ -29,7 +30,7 @@ static bool close_devices(struct board *boards, unsigned count, struct reason *r
     return is_done;
 }
 
-/* Serves clients until the simulator ends. Then ends the devices, and finally closes all
+/* Serves clients until the simulator ends. Then closes the devices, and finally closes all
  * connections. */
 static bool serve(struct board *boards, const struct options *options,
                   const struct listeners *listeners, struct reason *reason) {

@@ -19,7 +19,8 @@ void record_file_end(struct record_file *record) {
     record->size = 0;
 }
 
-/* Creates the file with the first free number. Returns -1 with errno. */
+/* Creates the file with the first free number. On failure, returns -1 and sets
+ * errno. */
 static int make_file(const char *folder) {
     char path[PATH_MAX];
     for (int number = 1; number <= MOST_FILES; number++) {

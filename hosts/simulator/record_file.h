@@ -17,12 +17,12 @@ struct record_file {
 /* Returns a record for which no file has been started yet. */
 struct record_file record_file_of(const char *folder);
 
-/* Starts a file with the head of a journal. Returns false with the reason. */
+/* Starts a file with the head of a journal. On failure, returns false and sets `reason`. */
 bool record_file_begin(struct record_file *record, const uint8_t *head, size_t size,
                        struct reason *reason);
 
-/* Appends a whole text, or removes it if it was written incompletely. Returns false with the
- * reason. */
+/* Appends a whole text, or removes it if it was written incompletely. On failure, returns false
+ * and sets `reason`. */
 bool record_file_add(struct record_file *record, const uint8_t *text, size_t size,
                      struct reason *reason);
 

@@ -9,9 +9,9 @@
 #include <stdint.h>
 
 enum {
-    /* The parts are a number, a locality, a size, and a command. */
+    /* The maximum size of a request: a number, a locality, a size, and a command. */
     REQUEST_MOST = 4 + 1 + 4 + COMMAND_MOST,
-    /* The parts are a size, a response, and the number that ends each answer. */
+    /* The maximum size of an answer: a size, a response, and the number that ends each answer. */
     ANSWER_MOST = 4 + RESPONSE_MOST + 4
 };
 
@@ -27,8 +27,8 @@ struct answer {
     uint8_t bytes[ANSWER_MOST];
 };
 
-/* Executes a complete request, and writes its answer. Returns FAILS with the reason if the device
- * cannot continue. */
+/* Executes a complete request, and writes its answer. If the device cannot continue, returns FAILS
+ * and sets `reason`. */
 enum outcome request_do(struct board *board, const uint8_t *bytes, bool is_of_platform,
                         struct answer *answer, struct reason *reason);
 

@@ -13,7 +13,7 @@
    after the system refused one; and the maximum number of sockets that are served in one turn. */
 enum { FILES_LEFT = 8, MILLISECONDS_TO_NEXT_TRY = 1000, MOST_IN_A_TURN = 64 };
 
-/* The source of an event: a listener, which has a number, or a client. */
+/* The source of an event: either a listener, which has a number, or a client. */
 struct source {
     struct client *client;
     size_t number;
@@ -72,8 +72,8 @@ static bool has_room(struct server *server) {
     return true;
 }
 
-/* Returns whether too few descriptors are left, which the number of a new socket shows: it is the
- * lowest free number. */
+/* Returns whether too few descriptors are left. The number of a new socket shows this, because it
+ * is the lowest free number. */
 static bool is_one_too_many(int socket) {
     struct rlimit most;
     return getrlimit(RLIMIT_NOFILE, &most) == 0 && most.rlim_cur != RLIM_INFINITY &&

@@ -1,4 +1,5 @@
-/* Serves all clients of all devices, in one thread, until a signal or a client ends it. */
+/* Serves all clients of all devices, in one thread, until a signal or a client ends the
+ * simulator. */
 #ifndef SERVER_H
 #define SERVER_H
 #include "board.h"
@@ -10,13 +11,13 @@ bool server_take_signals(struct reason *reason);
 
 struct server;
 
-/* Makes a server for these boards. There is one board for every two listeners, and all of them must
-   exist as long as the server. Returns NULL with the reason. */
+/* Makes a server for these boards. There is one board for every two listeners. The boards and
+   listeners must exist as long as the server. On failure, returns NULL and sets `reason`. */
 struct server *server_of(const struct listeners *listeners, struct board *boards,
                          struct reason *reason);
 
-/* Serves until a signal or a client ends it. Returns false with the reason if a device cannot
- * continue. */
+/* Serves until a signal or a client ends the simulator. If a device cannot continue, returns false
+ * and sets `reason`. */
 bool server_run(struct server *server, struct reason *reason);
 
 /* Closes all connections of a server, which may be NULL. Only then does the client that stopped the

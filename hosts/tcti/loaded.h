@@ -21,13 +21,13 @@ struct loaded {
 void loaded_begin(struct loaded *loaded);
 
 /* Updates the list after a command: adds what the command loaded or started, and removes what it
- * flushed or ended, and a session that it saved. A saved object or sequence stays loaded. */
+ * flushed or ended and any session that it saved. A saved object or sequence stays loaded. */
 void loaded_follow(struct loaded *loaded, const uint8_t *command, size_t size,
                    const uint8_t *response, size_t response_size);
 
 /* Flushes the remaining objects, sequences and sessions, the latest first. If the device refuses a
- * flush, the object, sequence or session no longer exists. Returns false with the reason if a
- * command was not answered; what is left then stays loaded. */
+ * flush, the object, sequence or session no longer exists. If a command was not answered, returns
+ * false and sets `reason`; whatever is left then stays loaded. */
 bool loaded_flush(struct loaded *loaded, struct kept *kept, uint8_t locality,
                   struct reason *reason);
 

@@ -30,7 +30,7 @@ struct context {
     uint8_t response[RESPONSE_ROOM];
 };
 
-/* Returns the context; NULL if it is not one of this module, or was finalized. */
+/* Returns the context; NULL if it is not a context of this module, or was finalized. */
 static struct context *context_of(TSS2_TCTI_CONTEXT *handed) {
     return handed && TSS2_TCTI_MAGIC(handed) == MAGIC ? (struct context *)handed : NULL;
 }

@@ -7,8 +7,8 @@ import { BadArgument, BadImage, BadJournal, BadState, DeviceEnded } from "./erro
 
 /**
  * The result of a command. `check` is `ok`, or the check that refused the command, such as `G9`;
- * `code` is the command code, or 0 if there is none; `drawn` is the number of random bytes that the
- * command drew, from the first one on.
+ * `code` is the command code, or 0 if the buffer contains none; `drawn` is the number of random
+ * bytes that the command drew, from the first one on.
  * @typedef {{response: Uint8Array, code: number, check: string, drawn: number, trace: string}} Answer
  */
 
@@ -112,7 +112,7 @@ export class Chip {
     return this.#memory.output((at, size) => this.#calls.device_save(this.#device, at, size));
   }
 
-  /** Returns everything that the device keeps without power, except its clock. */
+  /** Returns everything that the device keeps while it has no power, except its clock. */
   kept() {
     return this.#memory.output((at, size) => this.#calls.device_kept(this.#device, at, size));
   }

@@ -158,7 +158,7 @@ export class Device {
   }
 
   /**
-   * Plays a script line by line, while its events are iterated over. At an invalid line, throws
+   * Plays a script line by line, as the caller iterates over its events. At an invalid line, throws
    * BadLine with the number of that line.
    * @param {string | Uint8Array} script
    * @returns {Generator<Played, void, undefined>}
@@ -174,8 +174,8 @@ export class Device {
   }
 
   /**
-   * Returns the image, which contains everything that the device keeps without power, including its
-   * secrets.
+   * Returns the image, which contains everything that the device keeps while it has no power,
+   * including its secrets.
    * @returns {Uint8Array}
    */
   save() {
@@ -183,8 +183,8 @@ export class Device {
   }
 
   /**
-   * Returns everything that the device keeps without power, except its clock. If this has changed,
-   * the image should be saved.
+   * Returns everything that the device keeps while it has no power, except its clock. If this has
+   * changed, the image should be saved again.
    * @returns {Uint8Array}
    */
   kept() {
@@ -192,7 +192,7 @@ export class Device {
   }
 
   /**
-   * Replaces the device with that of an image, in the state after a power cycle. If it throws
+   * Replaces the device with the one in an image, in the state after a power cycle. If it throws
    * BadImage, nothing changes.
    * @param {Uint8Array} image
    */

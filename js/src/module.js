@@ -163,8 +163,8 @@ export class Module {
   }
 
   /**
-   * Returns the line of a script's report about the script's line with this number, with a
-   * newline. It is empty if the script's line is valid.
+   * Returns the line that the report on a script has about the script's line with this number,
+   * including a newline; empty if the script's line is valid.
    * @param {number} number
    * @param {string | Uint8Array} line
    * @param {number} waited milliseconds since the last command

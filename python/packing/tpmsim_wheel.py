@@ -96,7 +96,7 @@ def shipped(machine: str) -> pathlib.Path:
 
 
 def tag(machine: str | None) -> str:
-    """Returns the tag of a wheel, which says for which Python and machine it is."""
+    """Returns the tag of a wheel, which names the Python and the machine that the wheel is for."""
     return f"py3-none-manylinux_{GLIBC[0]}_{GLIBC[1]}_{machine}" if machine else "py3-none-any"
 
 

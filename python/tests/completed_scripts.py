@@ -1,7 +1,7 @@
 """Random commands for a device with the completing layer. They make and flush objects, sequence
-objects and sessions, save and load the contexts of these, and read lists. There are also commands
-on sequence objects, by passwords and by HMAC sessions, and the other commands that the layer
-answers. A few commands have changed bytes, or are sent without the layer.
+objects and sessions, save and load their contexts, and read lists. There are also commands on
+sequence objects, by passwords and by HMAC sessions, and the other commands that the layer answers.
+A few commands have changed bytes, or are sent without the layer.
 """
 
 import random_sessions
@@ -47,7 +47,9 @@ def handle_of(chance):
 
 
 def on_context(chance, code):
-    """Returns TPM2_FlushContext or TPM2_ContextSave, sometimes of a sequence object."""
+    """Returns TPM2_FlushContext or TPM2_ContextSave, sometimes with the handle of a sequence
+    object.
+    """
     handle = chance.choice(HANDLES) if chance.random() < 0.2 else handle_of(chance)
     return command(code, number(handle, 4))
 
@@ -167,8 +169,8 @@ def changed(chance):
 
 
 class Scripts:
-    """Makes the next command of a caller, which depends on the earlier responses. With `changes`
-    some commands change state that survives a power cycle.
+    """Makes a caller's next command, depending on the earlier responses. With `changes`, some
+    commands change state that survives a power cycle.
     """
 
     def __init__(self, chance, changes=False):
@@ -190,7 +192,9 @@ class Scripts:
         return context if self.chance.random() < 0.9 else self.bent_context(context)
 
     def bent_context(self, context):
-        """Returns a context that is extended by a byte, truncated, or has a bit flipped."""
+        """Returns a context after extending it by a byte, truncating it, or flipping one of its
+        bits.
+        """
         size = self.chance.choice((BLOB_AT, len(context)))
         way = self.chance.randrange(3)
         if way == 0:

@@ -59,7 +59,7 @@ class Journal:
         return response
 
     def record(self, buffer, response, locality, elapsed, drawn, completes=False):
-        """Adds a command with its settings, and whether the completing layer was used."""
+        """Adds a command with its settings, and records whether the completing layer was used."""
         sizes = number(len(drawn), 2) + number(len(buffer), 2)
         sums = number(sum_of(drawn + buffer), 8) + number(sum_of(response), 8)
         told = number(locality, 1) + number(completes, 1)

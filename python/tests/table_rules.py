@@ -18,8 +18,8 @@ LIST_OF_CHECKS = re.compile(r"\[the checks of [^\]]*\]\(([^)]*)\)")
 
 
 def plain(text):
-    """Returns a text as one line, with links replaced by their words. In the result, each item of a
-    list ends with a semicolon.
+    """Returns a text as one line, with each link replaced by its link text. In the result, the
+    items of a list are separated by semicolons.
     """
     text = LINK.sub(r"\1", text).replace("`", "")
     text = re.sub(r"\n *- ", "; ", text).replace(":; ", ": ")

@@ -1,4 +1,6 @@
-"""Tests the help of the audit's command line, and its words for refusals that no entry causes."""
+"""Tests the help text of the audit's command line, and the audit's words for refusals that no
+entry causes.
+"""
 
 import contextlib
 import io

@@ -194,7 +194,7 @@ def tpm_session(session, bind):
 
 
 class Faults(unittest.TestCase):
-    """Every exception of the package has one base class."""
+    """All exceptions of the package have the same base class."""
 
     def test_base(self):
         names = set()

@@ -1,5 +1,5 @@
-"""Plays scripts on this device and on a second TPM. The second TPM is a device with different
-seeds, which shows no difference, or another TPM.
+"""Plays scripts on this device and on a second TPM. The second TPM is either another TPM, or a
+device with different seeds, which must show no difference.
 """
 
 import pathlib
@@ -249,7 +249,7 @@ class Sequences(unittest.TestCase):
 
 
 def sequences_that_move(device):
-    """Hashes with a sequence, and makes an HMAC with another; flushes a third one."""
+    """Hashes with one sequence, computes an HMAC with another, and flushes a third."""
     tpm = Caller(device)
     tpm.start_up()
     key = tpm.create_primary(hmac_key(), data=b"key")

@@ -23,8 +23,8 @@ from tpmsim.standard import aes, CC, command, frames, mac, number, RH_LOCKOUT, R
 from tpmsim.standard import SHA256, sized, TRANSIENT
 from tpmsim.standard.objects import Attribute
 
-# Two HMAC keys of a device whose proofs consist of the byte PROOF_BYTE: the first one is without
-# stClear, and the second one has it. Their contexts were computed with `hashlib`, `hmac` and
+# Two HMAC keys of a device whose proofs consist of the byte PROOF_BYTE: the first key lacks
+# stClear, and the second key has it. Their contexts were computed with `hashlib`, `hmac` and
 # `cryptography`. The same contexts are in crates/tpm_context_tests.
 PROOF_BYTE, START, RESETS, RESTARTS = 7, 0x1122334455667788, 3, 5
 PUBLICS = "00100008000b0004044000000005000b0000", "00100008000b0004044400000005000b0000"

@@ -1,4 +1,4 @@
-"""Tests the reasons for single refusals, with their numbers, bytes and values."""
+"""Tests the reasons for individual refusals, with their numbers, bytes and values."""
 
 import random
 import unittest
@@ -92,7 +92,7 @@ def facts_of(reason):
 
 
 class Numbers(unittest.TestCase):
-    """The reasons for single refusals are right. Each was worked out by hand."""
+    """The reasons for individual refusals equal those that were worked out by hand."""
 
     def assert_reason(self, lines, rule, at, words):
         found = last(*lines)

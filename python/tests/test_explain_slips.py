@@ -1,5 +1,5 @@
-"""Makes each common mistake of a caller in random sessions. The explanation reports the mistake. If
-an HMAC is random, the explanation reports no mistake.
+"""Makes each of a caller's common mistakes in random sessions, and checks that the explanation
+reports it. For an HMAC that consists of random bytes, the explanation must report no mistake.
 """
 
 import random
@@ -22,8 +22,8 @@ def other_hash(algorithm):
 
 
 class Case:
-    """A random session on a device, and a command that the session may authorize. `pick` makes all
-    random choices.
+    """A random session on a device, and a command that the session may authorize. `pick` is the
+    source of all random choices.
     """
 
     def __init__(self, seed, bound=None, entity=None, cipher=None):
@@ -139,7 +139,9 @@ class Slips(unittest.TestCase):
         self.assertEqual(self.slips_of(case, prepared), list(wanted), "\n".join(case.device.trace))
 
     def bends(self, case, wanted, prepared=None, **changes):
-        """Checks the mistake reported for a command whose HMAC has these wrong parts."""
+        """Checks the mistake that is reported for a command whose HMAC was computed from these
+        wrong parts.
+        """
         self.refused(case, case.bent(prepared or case.use(), **changes), wanted)
 
     def cases(self, name, **choices):

@@ -41,7 +41,8 @@ def valued(turn):
 
 
 def keyed(**changes):
-    """Returns a change that computes the session key from changed parts, each made from the case.
+    """Returns a change that computes the session key from changed parts. Each part is computed from
+    the case.
     """
 
     def turn(case, it):
@@ -51,7 +52,7 @@ def keyed(**changes):
 
 
 def renamed(turn):
-    """Returns a change of the authorizing entity's Name, wherever it is used."""
+    """Returns a change that replaces the authorizing entity's Name wherever it is used."""
 
     def change(case, it):
         own = case.tpm.name(case.handle)
@@ -291,7 +292,7 @@ OTHERS = (
 
 ROWS = (*VALUES, *KEYS, *NAMES, *HASHED, *REST, *OTHERS)
 
-# Changes of ingredients that no known mistake makes.
+# Changes to ingredients that no known mistake makes.
 NONE = (
     ({}, valued(lambda it: it[::-1] + b"?")),
     ({}, setting(newer=lambda it: it.newer[1:])),
@@ -306,8 +307,8 @@ NONE = (
 IN_ORDER = VALUES, KEYS, NAMES, HASHED, OTHERS, REST
 PLACES = {id(row): place for place, rows in enumerate(IN_ORDER) for row in rows}
 
-# Pairs of mistakes that give the same HMAC as one or two other mistakes, which are reported
-# instead.
+# Pairs of mistakes that result in the same HMAC as one or two other mistakes. The other mistakes
+# are reported instead.
 TOLD_OTHERWISE = {
     frozenset(("nonceCaller left out", "nonceTPM left out")),
     frozenset(("nonceCaller with its size", "nonceTPM with its size")),
@@ -385,8 +386,8 @@ class Turned(unittest.TestCase):
                     self.assertEqual(self.slips_of(case, turn).slips, [name])
 
     def test_two(self):
-        """Makes random pairs of mistakes, neither of which undoes the other. Another test makes two
-        changes to the form of one value.
+        """Makes random pairs of mistakes, neither of which undoes the other. Two changes to the
+        form of one value are tested separately.
         """
         named = 0
         for at, (first, second, choices) in enumerate(pairs_of(70)):

@@ -1,5 +1,5 @@
-"""Tests that records are read as they were written: with images in their heads, with incomplete
-ends, and with responses before or after the commands.
+"""Tests that records are read back as they were written. Some have images in their heads or
+incomplete ends, and responses come before or after the commands.
 """
 
 import contextlib
@@ -191,7 +191,9 @@ class Answers(unittest.TestCase):
             self.assertTrue(output.startswith("line 12: NV_Read: the record is damaged"), output)
 
     def test_another_image(self):
-        """The image of --image must be that of the log. If it is not, a difference is reported."""
+        """The image passed with --image must be the log's own image. If it is not, a difference is
+        reported.
+        """
         journal = journal_with_index()
         text, own = journal.text, bytes.fromhex(journal.text.split(b"\n")[1][2:].decode())
         output, error, status = told(text, own)

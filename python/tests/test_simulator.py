@@ -16,8 +16,8 @@ from tpmsim.caller import Caller
 from tpmsim.device import SimulatorDevice
 from tpmsim.standard import number
 
-# The values of PCR 17 after a launch with the data abc. sha1sum and sha256sum computed them from
-# zeros and the digest of abc.
+# The values of PCR 17 after a launch with the data abc. They were computed with sha1sum and
+# sha256sum, from zeros and the digest of abc.
 LAUNCHED = [
     "ccd5bd41458de644ac34a2478b58ff819bef5acf",
     "589f9ffed4c477966bfb8d41f37895b08c69047df8f911d6f3b57fbe08faee8d",
@@ -62,8 +62,8 @@ class Simulator(unittest.TestCase):
         self.assertEqual(stream.recv(len(answer), socket.MSG_WAITALL), answer)
 
     def test_faults_are_of_one_client(self):
-        """One client vanishes within a request, one never reads, one is slow, and one sends
-        nonsense. The server still serves the other clients.
+        """One client vanishes in the middle of a request, one never reads, one is slow, and one
+        sends nonsense. The server still serves the other clients.
         """
         device = self.started()
         vanishing = self.connection()

@@ -107,8 +107,8 @@ class Explained(unittest.TestCase):
         self.assertIn("began before the log", events[-1].reason.words)
 
     def test_one_head_after_another(self):
-        """A head with the state at the end of the previous log continues that log, with all its
-        knowledge.
+        """If a head contains the state at the end of the previous log, it continues that log, and
+        everything that was known remains known.
         """
         first = before()
         text = first.text
@@ -118,7 +118,7 @@ class Explained(unittest.TestCase):
         self.assertIn("told by", " ".join(map(str, events[-1].reason.facts)))
 
     def test_another_device(self):
-        """If a later head is of another device, only the state in that head is known, and that
+        """If a later head belongs to another device, only the state in that head is known, and that
         device's power is already on.
         """
         text = Journal().play(START).text + gone_on(CODE, READ).text

@@ -179,7 +179,7 @@ class Drawn:
         )
 
     def kdf(self, **changes):
-        """Returns the session key with these changes of its parts."""
+        """Returns the session key that results from these changes to its parts."""
         parts = {
             "algorithm": self.algorithm,
             "key": self.bind_value,

@@ -3,8 +3,8 @@ second implementation of the device, in Python.
 
 `tpmsim.caller` makes commands and reads responses, `tpmsim.device` contains devices that execute
 them, `tpmsim.model` is a device in plain Python, and `tpmsim.audit` audits the log of a device.
-They use `tpmsim.standard`, which contains the numbers, the structures and the computations of the
-standard. Every exception of the package is a `TpmsimError`.
+These packages use `tpmsim.standard`, which contains the numbers, the structures and the
+computations of the standard. Every exception of the package is a `TpmsimError`.
 """
 
 from tpmsim.faults import BadValue, TpmsimError

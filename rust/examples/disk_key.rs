@@ -21,12 +21,12 @@ fn by_pin(tpm: &mut Device, session: u32) -> Result<(), Refusal> {
     send(tpm, 0x18c, &[session], None, &[]).map(|_| ())
 }
 
-/// Satisfies the second branch: TPM2_PolicySecret of the owner.
+/// Satisfies the second branch: TPM2_PolicySecret with the owner's passphrase.
 fn by_passphrase(tpm: &mut Device, session: u32, passphrase: &[u8]) -> Result<(), Refusal> {
     send(tpm, 0x151, &[OWNER, session], Some(By::Password(passphrase)), &[0; 10]).map(|_| ())
 }
 
-/// Executes TPM2_PolicyOR of the branches.
+/// Executes TPM2_PolicyOR with the branches.
 fn either(tpm: &mut Device, session: u32, branches: &[Vec<u8>; 2]) -> Result<(), Refusal> {
     let digests = [vec![0, 0, 0, 2], sized(&branches[0]), sized(&branches[1])].concat();
     send(tpm, 0x171, &[session], None, &digests).map(|_| ())

@@ -32,7 +32,7 @@ fn at_most(tpm: &mut Device, session: u32, version: u64) -> Result<(), Refusal> 
     send(tpm, 0x149, &[INDEX, INDEX, session], Some(By::Password(b"")), &parameters).map(|_| ())
 }
 
-/// Returns the key of a version, or the reason for the refusal.
+/// Returns the key that is sealed for a version, or the reason for the refusal.
 fn key_of(tpm: &mut Device, version: u64) -> Result<String, Refusal> {
     let trial = start_session(tpm, TRIAL)?;
     at_most(tpm, trial, version)?;

@@ -66,7 +66,7 @@ impl Device {
         Device::manufactured(Some(seed), Source::of_seed(seed))
     }
 
-    /// Opens the device of an image, in the state after a power cycle.
+    /// Opens the device from an image, in the state after a power cycle.
     ///
     /// # Errors
     ///
@@ -181,7 +181,7 @@ impl Device {
         self.logged(|| "power".into());
     }
 
-    /// Returns the image, which contains everything that the device keeps without power.
+    /// Returns the image, which contains everything that the device keeps while it has no power.
     /// [`Device::open`] opens it.
     pub fn save(&self) -> Vec<u8> {
         self.native.image()
@@ -245,7 +245,7 @@ impl Device {
         self.log.as_ref().map_or("", Log::text)
     }
 
-    /// Returns a value that contains no device yet.
+    /// Returns a `Device` whose handle contains no device yet.
     fn holding_none(source: Source) -> Device {
         Device { native: Native::empty(), source, locality: 0, elapsed: 0, log: None }
     }

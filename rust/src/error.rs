@@ -13,7 +13,7 @@ pub enum Fault {
     Magic,
     /// The version is unknown.
     Version,
-    /// The length field is not equal to the number of bytes.
+    /// The length field does not match the number of bytes.
     Length,
     /// The last 32 bytes are not the SHA-256 of the bytes before them.
     Digest,

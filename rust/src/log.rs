@@ -39,7 +39,7 @@ impl Log {
     fn bytes(&mut self, word: &str, bytes: &[u8]) {
         self.text.push_str(word);
         for byte in bytes {
-            let _ = write!(self.text, "{byte:02x}"); // a string takes all that is written
+            let _ = write!(self.text, "{byte:02x}"); // writing to a string cannot fail
         }
         self.text.push('\n');
     }

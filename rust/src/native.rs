@@ -120,7 +120,7 @@ impl Native {
 
     /// Makes a new device in this handle. Returns the library's return code.
     pub(crate) fn manufacture(&mut self, random: &[u8; RANDOM_BYTES]) -> u8 {
-        // SAFETY: the handle is one of the library, and `random` points to 256 bytes.
+        // SAFETY: the handle is valid, and `random` points to 256 bytes.
         unsafe { tpmsim_manufacture(&mut self.0, random.as_ptr()) }
     }
 
@@ -138,7 +138,7 @@ impl Native {
         };
         let mut room = [0; RESPONSE_BYTES];
         let mut answered = Answered::default();
-        // SAFETY: the handle is one of the library; `buffer` has the passed size, `random` has 256
+        // SAFETY: the handle is valid; `buffer` has the passed size, `random` has 256
         // bytes and `room` 4,096; and none of these overlap.
         let done = unsafe {
             call(
@@ -162,7 +162,7 @@ impl Native {
 
     /// Power-cycles the device.
     pub(crate) fn power_cycle(&mut self) {
-        // SAFETY: the handle is one of the library.
+        // SAFETY: the handle is valid.
         unsafe { tpmsim_power_cycle(&mut self.0) };
     }
 
@@ -176,7 +176,7 @@ impl Native {
         self.written(tpmsim_snapshot)
     }
 
-    /// Opens the device of an image. Returns the library's return code.
+    /// Opens the device from an image. Returns the library's return code.
     pub(crate) fn open(&mut self, image: &[u8]) -> u8 {
         self.read(tpmsim_open, image)
     }
@@ -190,7 +190,7 @@ impl Native {
     fn written(&self, call: Write) -> Vec<u8> {
         let mut room = vec![0; TEXT_BYTES];
         let holder = std::ptr::addr_of!(self.0) as *mut Holder;
-        // SAFETY: the handle is one of the library, and the two calls of this type do not write to
+        // SAFETY: the handle is valid, and the two calls of this type do not write to
         // it. No other thread uses it, because a `Native` is not `Sync`. `room` has the passed
         // size.
         let size = unsafe { call(holder, room.as_mut_ptr(), room.len()) };
@@ -200,14 +200,14 @@ impl Native {
 
     /// Makes a call that reads a text. Returns the library's return code.
     fn read(&mut self, call: Read, text: &[u8]) -> u8 {
-        // SAFETY: the handle is one of the library, and `text` has the passed size.
+        // SAFETY: the handle is valid, and `text` has the passed size.
         unsafe { call(&mut self.0, text.as_ptr(), text.len()) }
     }
 }
 
 impl Drop for Native {
     fn drop(&mut self) {
-        // SAFETY: the handle is one of the library, and this is its last call.
+        // SAFETY: the handle is valid, and this is its last call.
         unsafe { tpmsim_free(&mut self.0) }
     }
 }

@@ -5,8 +5,8 @@
     fuzz.py PROGRAM --replay FILE      plays a script or a stream that an earlier run saved
 
 A round consists of a random script, an altered script, and a stream. A stream contains connections
-to a served device in consecutive runs, some of which begin with an altered image. A round depends
-only on its seed.
+to a device that is served in consecutive runs. Some of the runs begin with an altered image. A
+round depends only on its seed.
 """
 
 import contextlib
@@ -82,7 +82,7 @@ DEFECTS = (
 class Kind:
     """A kind of input: scripts, altered scripts or streams. `ending` is the suffix of its files.
     `difference` is the function that finds where the results for an input differ. `tried` counts
-    the inputs and their contents.
+    the inputs, what they contain, and those whose results differ.
     """
 
     name: str
@@ -105,7 +105,7 @@ class Kind:
 
 def shrunken(lines, differs):
     """Removes lines from an input, as long as the program and the Python device still differ on the
-    rest. Stops after a limited time. Returns the rest.
+    remaining lines. Stops after a limited time, and returns the remaining lines.
     """
     until = time.monotonic() + SHRINKING_SECONDS
     size, before = len(lines), len(lines)

@@ -52,7 +52,7 @@ def size_of(algorithm):
 
 
 class Writer(random.Random):
-    """Writes random commands for a device whose state the writer knows."""
+    """Generates random commands for a device, and keeps track of the device's state."""
 
     def __init__(self, seed):
         super().__init__(seed)
@@ -236,7 +236,9 @@ class Writer(random.Random):
         return handles, frames.nv_read(self.choice((size, max(0, size - offset), 1)), offset)
 
     def nv_change_auth(self):
-        """Returns a TPM2_NV_ChangeAuth, mostly on an index whose policy a session satisfies now."""
+        """Returns a TPM2_NV_ChangeAuth, usually for an index whose policy a session currently
+        satisfies.
+        """
         told = [it.policy for it in self.device.sessions.values()]
         digests = [it.digest for it in told if it.code == CC.NV_ChangeAuth]
         handle = self.index(lambda it: it.auth_policy in digests)
@@ -282,7 +284,7 @@ class Writer(random.Random):
         return [self.entity(), handle], parameters
 
     def policy_cp_hash(self):
-        """Returns a TPM2_PolicyCpHash, mostly with the cpHash of a command without parameters, or
+        """Returns a TPM2_PolicyCpHash, usually with the cpHash of a command without parameters, or
         with the cpHash that the session already has.
         """
         (handle,), _ = self.told()
@@ -315,7 +317,7 @@ class Writer(random.Random):
         return [handle], frames.sized_list(*branches)
 
     def load(self):
-        """Returns a TPM2_Load of a previously created object, mostly with the right parent."""
+        """Returns a TPM2_Load of a previously created object, usually with the right parent."""
         parent = self.object(lambda it: it.public.is_parent)
         name = self.device.name(parent)
         fitting = [it for it in self.made if it[0] == name or self.happens(0.02)]
@@ -341,7 +343,7 @@ class Writer(random.Random):
         held = [*self.device.objects, *self.device.sessions, 0x80000007, 0x02000000, RH_NULL]
         return [], number(self.choice(held), 4)
 
-    # Commands that change the state that a device keeps without power.
+    # Commands that change the state that a device keeps while it has no power.
 
     def parameters(self):
         """Returns the handle and the parameters of TPM2_DictionaryAttackParameters."""
@@ -349,8 +351,8 @@ class Writer(random.Random):
         return [frames.RH_LOCKOUT], frames.attack_parameters(*numbers)
 
     def capability(self):
-        """Returns a TPM2_GetCapability that mostly lists existing entities, from the first one or
-        from an existing handle on.
+        """Returns a TPM2_GetCapability that usually lists existing entities, beginning with the
+        first one or at an existing handle.
         """
         kinds = 0, 0x40, 1, 2, 2, 3, 0x80, 0x81, 4
         held = [*self.device.objects, *self.device.sessions, *self.device.indices]
@@ -520,8 +522,8 @@ class Writer(random.Random):
         return [line(it) if isinstance(it, bytes) else it for it in self.events]
 
     def code(self):
-        """Returns the code of a supported command. During a lockout, about every tenth command ends
-        the lockout.
+        """Returns the code of a supported command. During a lockout, about every tenth returned
+        command is one that ends the lockout.
         """
         if self.device.lockout.is_locked() and self.happens(0.1):
             return self.choice((CC.DictionaryAttackLockReset, CC.DictionaryAttackParameters))
@@ -552,7 +554,7 @@ class Writer(random.Random):
         return buffer
 
     def startup(self):
-        """Returns a TPM2_Startup, mostly with STATE if a state is saved."""
+        """Returns a TPM2_Startup, usually with STATE if a state is saved."""
         is_saved = self.device.saved == state.Saved.STATE
         kind = state.STATE if is_saved and self.happens(0.7) else state.CLEAR
         return frames.command(CC.Startup, number(kind, 2))

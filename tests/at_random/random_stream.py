@@ -35,7 +35,7 @@ def is_quick(text):
 
 
 class StreamWriter(Writer):
-    """Writes connections to a device whose state the writer knows."""
+    """Generates the bytes of connections to a device, and keeps track of the device's state."""
 
     COMMANDS = {**Writer.COMMANDS, CC.DictionaryAttackParameters: (2, parameters)}
 

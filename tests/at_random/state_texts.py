@@ -1,11 +1,11 @@
-"""Plays the same random events on three devices. The first one, a device of the library, is never
-restored. The second one, also of the library, and the third one, which is the Python device, are
-often restored from the first one's state text:
+"""Plays the same random events on three devices. The first is a device of the library that is
+never restored. The second, also a device of the library, and the third, the Python device, are
+often restored from the state text of the first:
 
     state_texts.py EVENTS [SEED]
 
 TPMSIM_LIBRARY names the shared library. All responses, and the state texts after each event, must
-be the same, byte for byte. An event is a power cycle or a command, which may be refused. A new
+be identical byte for byte. An event is a power cycle or a command, which may be refused. A new
 device begins every thousand events, with the next seed. The program prints the number of compared
 events, and how often a text was restored. At the first difference it ends with status 1.
 """
@@ -21,7 +21,8 @@ from tests.common.outputs import repeated
 
 EVENTS_OF_ONE = 1000
 
-# The probability that a state text is restored after an event. If it is low, errors can add up.
+# The probability that a state text is restored after an event. A low probability lets errors
+# accumulate.
 CHANCES = 1, 0.2, 0.01
 
 

@@ -24,7 +24,7 @@ while read -r word; do
     grep -qF "${word%%=*}" "$kept/words.h" || echo "the module has no word $word"
 done <words
 echo "$(grep -c . sentences) sentences, $(grep -c . words) words"
-# Two messages report what cannot happen. The page docs/ATTACHED.md does not contain them.
+# Two messages report conditions that cannot occur. The page docs/ATTACHED.md does not contain them.
 grep -oh '"\(is\|was\|has\|cannot\|holds\|needs\|wants\) [^"]*"' "$kept"/*.c | tr -d '"' |
     LC_ALL=C sort -u | while read -r sentence; do
         case $sentence in

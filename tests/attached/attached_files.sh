@@ -1,5 +1,5 @@
 # Checks that `hosts/build.sh tcti` produces the same bytes each time, and which names the module exports. If
-# hosts/build.sh does not find something that it needs, it must report that.
+# something that hosts/build.sh needs is missing, it must report that.
 tests=$(cd "$(dirname "$0")/.." && pwd -P)
 . "$tests/common/cases.sh"
 . "$tests/common/library.sh"

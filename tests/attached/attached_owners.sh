@@ -1,5 +1,6 @@
-# Puts files of another user at each path of a device that is kept in a folder. They are refused, and stay
-# unchanged. Only root can give files to another user. The calling program is attached/ask.c.
+# Puts files of another user at each path of a device that is kept in a folder. The device must refuse these
+# files, and leave them unchanged. Only root can give files to another user. The calling program is
+# attached/ask.c.
 tests=$(cd "$(dirname "$0")/.." && pwd -P)
 . "$tests/common/cases.sh"
 . "$tests/common/library.sh"

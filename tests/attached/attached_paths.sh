@@ -1,5 +1,5 @@
-# Puts links, pipes, folders and sockets at the paths of a device that is kept in a folder. They are refused,
-# and stay unchanged. See attached/ask.c.
+# Puts links, pipes, folders and sockets at the paths of a device that is kept in a folder. The device must
+# refuse them, and leave them unchanged. See attached/ask.c.
 tests=$(cd "$(dirname "$0")/.." && pwd -P)
 . "$tests/common/cases.sh"
 . "$tests/common/library.sh"

@@ -1,4 +1,5 @@
-# Tests the module for libtss2. attached/client.c loads it and calls it as libtss2 does.
+# Tests the module for libtss2. attached/client.c loads and calls the module in the same
+# way as libtss2.
 tests=$(cd "$(dirname "$0")/.." && pwd -P)
 . "$tests/common/cases.sh"
 . "$tests/common/library.sh"

@@ -165,8 +165,8 @@ static bool try_one(const struct trial *trial, enum fault kind, const struct val
     return name_of_it != NULL;
 }
 
-/* Repeats a trial with a fault at each call in turn, and prints the calls whose fault did no
- * harm. */
+/* Repeats a trial with a fault at each call in turn, and prints the calls whose fault had no
+ * effect on the result. */
 static void try_all(const struct trial *trial, enum fault kind, const struct values *values) {
     static const char *const labels[] = {"", "fails", "is interrupted", "moves half", "refused"};
     struct outcome outcome;

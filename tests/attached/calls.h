@@ -26,7 +26,7 @@ static unsigned forced, forced_data;
 /* A function that is called for each file or folder that is synced, or NULL. */
 static void (*when_forced)(int file);
 
-/* The number of pages that are mapped at present. */
+/* The number of pages that are currently mapped. */
 static int mapped;
 
 /* Counts a call if it is of a counted kind. Returns whether this call must fail. */

@@ -1,6 +1,6 @@
-/* A client of the module for libtss2. It loads the module's file as libtss2 does, and calls its
- * function Tss2_Tcti_Info. The argument is the module's path. Each line of its output is the result
- * of one call. */
+/* A client of the module for libtss2. It loads the module's file in the same way as libtss2, and
+ * calls the module's function Tss2_Tcti_Info. The argument is the module's path. Each line of its
+ * output is the result of one call. */
 #include "common.h"
 #include <dlfcn.h>
 #include <tss2/tss2_tcti.h>

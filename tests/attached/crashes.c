@@ -2,8 +2,8 @@
  * is lost. With force=power, the device is in one of the states that it had since power came on.
  * `crashes VALUES` kills a process before each system call in turn. Then the host crashes; in half
  * of the runs, another process continues before the crash. `crashes VALUES SECONDS SEED` kills
- * processes at random, makes calls fail and forks children as well, and prints the counts to
- * standard error. VALUES is the file with the expected PCR values. */
+ * processes at random, also makes calls fail and forks children, and prints the counts to standard
+ * error. VALUES is the file with the expected PCR values. */
 #include "disk.h"
 #include <stdatomic.h>
 #include <sys/prctl.h>

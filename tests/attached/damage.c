@@ -6,7 +6,7 @@ enum { EXTENDS = 3 };
 
 static const char FOLDER[] = "state", JOURNAL[] = "state/journal";
 
-/* The bytes of a journal: the original ones, or the present content of the file. */
+/* The bytes of a journal: the original ones, or the current content of the file. */
 struct text {
     uint8_t *bytes;
     size_t size;

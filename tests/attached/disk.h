@@ -10,7 +10,7 @@ enum { FILES = 2, FILE_MOST = 1 << 20 };
 
 struct disk {
     bool has_folder;
-    /* The inode of the journal in the folder on the disk; 0 if there is none. */
+    /* The inode of the journal in the folder on the disk; 0 if the folder has no journal. */
     ino_t journal;
     struct disk_file {
         ino_t inode;
@@ -37,8 +37,8 @@ static inline void remove_state(void) {
     must(access(FOLDER, F_OK) != 0, "there is more in the folder than a state");
 }
 
-/* Returns the entry of a file on the disk. If there is none, returns a free entry, or reuses the
-   entry of a file that is not the journal. */
+/* Returns the entry of a file on the disk. If the file has no entry, returns a free one, or reuses
+   the entry of a file that is not the journal. */
 static inline struct disk_file *disk_file_of(ino_t inode) {
     struct disk_file *free_one = NULL;
     for (int i = 0; i < FILES; i++) {

@@ -89,7 +89,7 @@ static uint32_t hmac(TSS2_TCTI_CONTEXT *context, uint32_t key) {
     return loaded_by(context, command, sizeof command);
 }
 
-/* Sends TPM2_SequenceComplete without data, for TPM_RH_NULL. */
+/* Sends TPM2_SequenceComplete with an empty buffer and TPM_RH_NULL. */
 static void complete(TSS2_TCTI_CONTEXT *context, uint32_t handle) {
     uint8_t command[33] = {0x80, 2, 0, 0, 0, 33, 0, 0, 1, 0x3e, [17] = 9, 0x40, 0, 0, 9};
     uint8_t response[RESPONSE_BYTES];
@@ -98,7 +98,7 @@ static void complete(TSS2_TCTI_CONTEXT *context, uint32_t handle) {
     done(context, command, sizeof command, response);
 }
 
-/* Sends TPM2_EventSequenceComplete without data, for PCR 16. */
+/* Sends TPM2_EventSequenceComplete with an empty buffer, for PCR 16. */
 static void complete_event(TSS2_TCTI_CONTEXT *context, uint32_t handle) {
     uint8_t command[42] = {0x80,      2,         0,    0, 0, 42, 0,           0, 1, 0x85,
                            [13] = 16, [21] = 18, 0x40, 0, 0, 9,  [31] = 0x40, 0, 0, 9};
@@ -197,8 +197,8 @@ static void leave_sequences(const char *label, const char *words) {
     show(label);
 }
 
-/* Ends sequences, with each command that does so. Another client then gets the same handles, which
-   `rm` must not flush. */
+/* Ends sequences with each of the commands that can end them. Another client then gets the same
+   handles, which `rm` must not flush. */
 static void leave_sequences_to_others(void) {
     TSS2_TCTI_CONTEXT *context = begun(RM), *other = begun(NO_RM);
     complete(context, hash(context));

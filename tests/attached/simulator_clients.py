@@ -36,8 +36,8 @@ def served():
 
 
 def refused(idle):
-    """Returns the number of clients that the server has closed without an answer. It must close all
-    clients beyond FILES.
+    """Returns the number of clients whose connections the server has closed without an answer. It
+    must close the connections of all but FILES clients.
     """
     until, closed = time.monotonic() + SECONDS, []
     while len(closed) < len(idle) - FILES and time.monotonic() < until:
@@ -46,14 +46,14 @@ def refused(idle):
 
 
 def changes(tpm, index):
-    """Defines an index. Returns whether the server has then changed its image."""
+    """Defines an index, and returns whether this has changed the server's image."""
     before = IMAGE.read_bytes()
     tpm.define(area(index=index))
     return IMAGE.read_bytes() != before
 
 
 def said(act):
-    """Returns the result of `act`, or a description of its exception."""
+    """Calls `act`. Returns its result, or a description of the exception that it raised."""
     try:
         return act()
     except (DeviceEnded, OSError) as fault:
@@ -61,8 +61,8 @@ def said(act):
 
 
 def connected(address):
-    """Connects a new client, repeatedly until the server accepts it. Returns the number of random
-    bytes that the client then gets.
+    """Tries to connect a new client until the server accepts it. Returns the number of random bytes
+    that the client then gets.
     """
     until = time.monotonic() + SECONDS
     while True:

@@ -26,7 +26,7 @@ from tests.common.shims import Ending, ran, Shim, Turns
 TESTS = pathlib.Path(__file__).resolve().parent.parent
 STARTUP, STARTED = b"do Startup 0\n", b"80010000000a00000000\n"
 
-# Every third token is altered. Each way to alter a token begins one token later than the previous
+# Every third token is altered. Each way to alter a token starts one token later than the previous
 # way.
 EACH = 3
 
@@ -189,7 +189,9 @@ def counted(outcomes):
 
 
 def try_bend(asm, name, bent_lines):
-    """Passes lines that are altered in one way to `tpmsim asm`, and compares the outcomes."""
+    """Passes lines that were all altered in the same way to `tpmsim asm`, and compares the
+    outcomes.
+    """
     want = [wanted(line) for line in bent_lines]
     give = [asm.run(word=line) for line in bent_lines]
     differ = compared(

@@ -66,7 +66,7 @@ script() {
 # shellcheck disable=SC2034 # the tests use it
 startup='cmd 80010000000c000001440000'
 
-# told FILE: prints the lines of a file. Equal consecutive lines are printed once, with their number. The shell
+# told FILE: prints the lines of a file. Consecutive equal lines are printed once, with a count. The shell
 # itself reads a file with few lines, which is faster than starting a program.
 told() {
     [ -s "$1" ] || { printf 'empty'; return; }
@@ -106,7 +106,7 @@ end_line() {
     esac
 }
 
-# told_at_length FILE: like `told`, but for a file with many lines.
+# told_at_length FILE: does the same as `told`, but for a file with many lines.
 told_at_length() {
     awk '
         function tell() {

@@ -1,5 +1,5 @@
-/* Replaces the C library's clock_gettime. Each clock shows the time that is in a file, as seconds
- * and nanoseconds. The environment variable CLOCK names the file. */
+/* Replaces the C library's clock_gettime. Every clock returns the time that is stored in a file, as
+ * seconds and nanoseconds. The environment variable CLOCK names the file. */
 #include <stdio.h>
 #include <stdlib.h>
 #include <time.h>

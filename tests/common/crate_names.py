@@ -148,7 +148,7 @@ class Crates:
         self.read: dict[str, Crate] = {}
 
     def crate(self, name: str) -> "Crate":
-        """Returns the crate with this name. If there is none, the result has no names."""
+        """Returns the crate with this name. If there is no such crate, the result has no names."""
         if name not in self.read:
             self.read[name] = Crate(name, self.folder / name / "src")
         return self.read[name]

@@ -2,10 +2,10 @@
 
     tools/python.sh tests/common/described_commands.py PROGRAM
 
-The test asks the program about each fact of each command. For each kind of fact it prints the
-number of questions. Lines that begin with DIFFERS report differences. Then, for each kind of fact,
-the test makes one mistake about one command in the description, and checks that comparing the
-changed description with the program finds it.
+The test asks the program about each property of each command. For each kind of property it prints
+the number of questions. Lines that begin with DIFFERS report differences. Then, for each kind of
+property, the test makes one mistake about one command in the description, and checks that comparing
+the changed description with the program finds it.
 """
 
 import concurrent.futures
@@ -153,8 +153,8 @@ def buffer_of(code: CC, handles: list[int], *entries: bytes) -> bytes:
     return frames.buffer_of(code, handles, [], b"\0")
 
 
-# Functions that check one fact each. They yield questions to the program about some of the
-# commands.
+# Functions that each check one property of commands. They yield questions to the program about some
+# of the commands.
 
 
 def attributes(program: Program, codes: list[CC]) -> Iterator[Asked]:
@@ -426,7 +426,7 @@ CHECKS = {
 }
 
 
-# Wrong descriptions: each has one wrong fact about one command.
+# Wrong descriptions. Each states one wrong property of one command.
 
 
 def with_handle(code: CC, **changes) -> dict:
@@ -447,8 +447,8 @@ def with_fact(code: CC, fact: Fact) -> dict:
 
 @dataclass(frozen=True)
 class Wrong:
-    """A wrong description of one fact: the function that must find the mistake, the command, and
-    the changes to its description.
+    """A wrong description of one property: the function that must find the mistake, the command,
+    and the changes to its description.
     """
 
     what: str

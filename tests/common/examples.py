@@ -21,8 +21,8 @@ from tests.common.script import SUCCESS
 
 
 class Example(NamedTuple):
-    """A command and its outcome. `is_step` is true if the command only prepares later ones; then an
-    earlier example tests it.
+    """A command and its outcome. `is_step` is true if the command only prepares for later commands;
+    an earlier example then tests it.
     """
 
     name: str
@@ -50,11 +50,11 @@ SESSION, OTHER, POLICY = 0x0200_0000, 0x0200_0001, 0x0300_0000
 BY_SESSION = [entry(SESSION, nonce=bytes(16))]
 BY_POLICY = [entry(POLICY, nonce=bytes(16))]
 
-# An entry of SESSION that decrypts the first parameter.
+# An entry with SESSION, which has the device decrypt the first parameter.
 BY_DECRYPTING = [entry(SESSION, bytes(16), frames.CONTINUE_SESSION | frames.DECRYPT)]
 
 # Three entries. When the command is accepted, the session of the last entry ends. A trial session
-# then gets the slot of that session.
+# then gets its slot.
 BY_THREE = [entry(), *BY_SESSION, entry(OTHER, nonce=bytes(16), attributes=0)]
 
 
@@ -246,7 +246,7 @@ INDICES = [
 ]
 
 
-# Commands that change the state that the device keeps without power. TPM2_Clear comes last.
+# Commands that change the state that the device keeps while it has no power. TPM2_Clear comes last.
 
 OBJECT, KEPT = 0x8000_0000, 0x8100_0000
 PRIMARY = frames.creation(frames.sensitive_create(), sized(storage_key().text))

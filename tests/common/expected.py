@@ -121,7 +121,7 @@ def device_behind(script):
 
 
 def fault_of(line):
-    """Returns the fault of a line, with its column; empty if the line has none."""
+    """Returns the fault of a line, with its column; empty if the line has no fault."""
     try:
         lines.assemble(line)
         return ""

@@ -13,7 +13,8 @@ def opened():
 
 
 def identity():
-    """Returns the image's inode and time, which change with each save; None if there is no image.
+    """Returns the image's inode and modification time, which change with each save; None if there
+    is no image.
     """
     try:
         told = IMAGE.stat()

@@ -45,7 +45,7 @@ class Client(Caller):
     """A caller with its own connection."""
 
     def answers(self):
-        """Sends TPM2_Startup(CLEAR), whether or not the device is started. Raises DeviceEnded if
+        """Sends TPM2_Startup(CLEAR), even if the device is already started. Raises DeviceEnded if
         the stream ends first.
         """
         self.device.execute(self.starting(CLEAR).buffer())

@@ -6,9 +6,9 @@ The buffer of each `do` line of tests/ and examples/ is checked twice. If it is 
 frames.py encodes the parts again, the result must be the same buffer. The line that the Python
 device finds for the buffer must assemble to it. In a script that a program wrote, each `cmd` line
 must be a command that no line in words can encode. This does not apply if the script says that its
-commands are bytes. The program must find the same lines as the Python device. The test passes the
-program the first buffers of each command, and a tenth of the other buffers. Altered scripts have
-many `cmd` lines, so the test passes only a twentieth of those.
+commands are written as bytes. The program must find the same lines as the Python device. The test
+passes the program the first buffers of each command, and a tenth of the other buffers. Altered
+scripts have many `cmd` lines, so the test passes only a twentieth of their buffers.
 """
 
 import collections
@@ -41,7 +41,7 @@ def assembled(line):
 
 
 def put_together(buffer):
-    """Parses a buffer as the device does, and encodes its parts again."""
+    """Parses a buffer in the same way as the device, and encodes its parts again."""
     fields = Fields(buffer)
     tag, code = general.read_header(fields, len(buffer))
     handles = [fields.number(4) for _ in code.handles]

@@ -34,7 +34,7 @@ INDEX, COUNTER = 0x0100_0001, 0x0100_0002
 
 
 class Run:
-    """A run of the program on the present image, with a log of its own."""
+    """A run of the program on the current image, with its own log."""
 
     def __init__(self, program, name, connections, *options, folder=""):
         self.program, self.log = program, pathlib.Path(folder, f"{name}.log")

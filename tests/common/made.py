@@ -21,8 +21,8 @@ MAKES = re.compile(r'"""Makes (\w+)\.tpm\b')
 
 
 def programs() -> dict[str, pathlib.Path]:
-    """Returns the programs that generate scripts, by name. The largest come first, since they take
-    longest.
+    """Returns the programs that generate scripts, by name. The largest programs come first, because
+    they take longest.
     """
     found = {}
     for path in sorted(TOP.glob("tests/*/*.py"), key=lambda it: -it.stat().st_size):

@@ -1,5 +1,5 @@
-/* Opens each journal that the arguments name, which executes the journal's commands again. For each
- * journal, prints the return code (see tpmsim.h) and whether the whole journal was executed. */
+/* Opens each journal that the arguments name. Opening a journal executes its commands again. Prints
+ * for each journal the return code (see tpmsim.h), and whether the whole journal was executed. */
 #include "tpmsim.h"
 
 #include <stdio.h>

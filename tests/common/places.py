@@ -47,5 +47,5 @@ def scripts() -> list[pathlib.Path]:
 
 
 def script(name: str) -> pathlib.Path:
-    """Returns the stored script with this name. Raises KeyError if there is none."""
+    """Returns the stored script with this name. Raises KeyError if there is no such script."""
     return {it.stem: it for it in stored()}[name]

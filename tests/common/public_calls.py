@@ -105,8 +105,8 @@ class Comparison:
         return self.tables.get(head, [])
 
     def standing(self, name: str) -> str:
-        """Returns the present name of a requested item: its replacement on the page, or the same
-        name if the page has none.
+        """Returns the current name of a requested item: its replacement on the page or, if the page
+        has none, the requested name.
         """
         if name in self.others:
             return self.others[name][0]
@@ -114,7 +114,7 @@ class Comparison:
         return f"{self.others[owner][0]}::{member}" if owner in self.others else name
 
     def calls_in(self, cell: str) -> list[str]:
-        """Returns the present names of the functions that a cell names. If the cell names only
+        """Returns the current names of the functions that a cell names. If the cell names only
         crates, returns the names of all requested functions of those crates.
         """
         if set(SPAN.findall(cell)) <= set(self.asked.limits):
@@ -129,7 +129,9 @@ class Comparison:
         return found.call if found else None
 
     def names(self) -> Iterator[str]:
-        """Yields each name that is in the request or on the page, but not in the crates."""
+        """Yields each name that is in the list of requested items or on the page, but not in the
+        crates.
+        """
         for name in [*self.asked.calls, *self.asked.types]:
             if not self.crates.find(self.standing(name)):
                 yield f"{name}: neither as asked for nor by the page"
@@ -144,7 +146,7 @@ class Comparison:
                     yield f"{name}: not there, as the page says"
 
     def is_as_asked(self, call: Call, asked: str) -> bool:
-        """Returns whether a function has the requested types, by their present names."""
+        """Returns whether a function has the requested types, under their current names."""
         for name, others in self.others.items():
             old, new = name.rpartition("::")[2], others[0].rpartition("::")[2]
             asked = re.sub(rf"\b{old}\b", new, asked)
@@ -208,7 +210,7 @@ class Comparison:
             yield f"{name}: the page names its premise, and it was not asked for"
 
     def lines(self) -> Iterator[str]:
-        """Yields the crates that do not exist, and those that have more lines than both the request
+        """Yields the crates that do not exist, and those that have more lines than both the list
         and the page allow.
         """
         told = {SPAN.findall(row[0])[0]: row for row in self.rows(LINES)}

@@ -2,8 +2,8 @@
 
     python3 restored_folders.py PROGRAM
 
-After a run on a folder with an old device, the folder must contain this device or the device of the
-state text. After a run that succeeded it must contain the device of the text. After a run that
+After a run on a folder with an old device, the folder must contain this device or the device in the
+state text. After a run that succeeded it must contain the device in the text. After a run that
 failed it may contain that device only if the failed call came after the rename. The shim tear.c
 records the calls.
 """

@@ -2,8 +2,9 @@
 
     python3 save_each.py PROGRAM COUNT
 
-The image is checked after each response, and after COUNT kills, each immediately after a response.
-The Python device executes the same commands, and determines the expected image.
+The image is checked after each response, and after each of COUNT kills. Each kill comes
+immediately after a response. The Python device executes the same commands, and determines the
+expected image.
 """
 
 import os
@@ -44,7 +45,9 @@ def buffer_of(line):
 
 
 class Run:
-    """A run of the program, a connection to it, and the same device in Python."""
+    """A run of the program, a connection to it, and the Python device that executes the same
+    commands.
+    """
 
     def __init__(self, program, connections=MOST_CONNECTIONS, options=(OPTION,)):
         self.device = opened() if IMAGE.exists() else Model(RANDOM)
@@ -67,7 +70,7 @@ class Run:
                 fail(f"{line}: {given}, and not {wanted}")
 
     def tell_and_look(self, line):
-        """Sends a command, and checks the image after it. Returns whether the image was saved."""
+        """Sends a command, and then checks the image. Returns whether the image was saved."""
         old, saved = identity(), self.saved
         self.tell(line)
         self.saved = device_told(self.device)
@@ -95,8 +98,8 @@ class Run:
 
 
 def check_each(program):
-    """Each change is saved before its response is sent, and nothing else is saved. This is tested
-    in two connections.
+    """Each change is saved before its response is sent. If a command changes nothing, nothing is
+    saved. This is tested in two connections.
     """
     run = Run(program, 2)
     first = sum([run.tell_and_look(line) for line in LINES])

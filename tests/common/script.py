@@ -18,7 +18,8 @@ COLUMNS = 100
 # differ.
 SEED_BYTES = 7
 
-# The two endings of a script's first comment. One of them follows the name of the script's program.
+# The two possible endings of a script's first comment. The ending follows the name of the script's
+# program.
 WROTE_THIS, MADE_THIS = ", next to it, wrote this.", " made this."
 
 # The outcome in a description. It comes after a colon, and before a comma or the end.
@@ -105,7 +106,7 @@ class Script:
         self, words: str, *buffers: bytes, fresh: bool = False, as_bytes: bool = False
     ) -> bytes:
         """Adds commands, which must all have the outcome that `words` names after a colon. Returns
-        the last response. The words become a comment. If they consist only of the outcome, the
+        the last response. `words` becomes a comment. If `words` consists only of the outcome, the
         commands are added after the last comment. Raises ValueError if a command has another
         outcome.
         """
@@ -132,7 +133,7 @@ class Script:
 
     def allow_tries(self) -> None:
         """Sets the dictionary attack parameters, for scripts that send wrong authorization values
-        without testing that protection. Otherwise the device would refuse even right values after
+        but do not test that protection. Otherwise the device would refuse even right values after
         the third wrong one.
         """
         self.command(
@@ -147,8 +148,8 @@ class Script:
 
     def wait_each_time(self) -> None:
         """Lets a second pass before each later command, because a wrong value for lockoutAuth
-        disables lockoutAuth until lockoutRecovery has passed. Call allow_tries first, which sets
-        lockoutRecovery to a second.
+        disables lockoutAuth until lockoutRecovery has passed. Call allow_tries first, because it
+        sets lockoutRecovery to a second.
         """
         self.chapter(
             "A wrong try at lockoutAuth closes it for lockoutRecovery. So a second passes before "

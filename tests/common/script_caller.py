@@ -61,8 +61,8 @@ class ScriptCaller(PreparedCommands):
         return any(isinstance(it, Use) for it in prepared.uses)
 
     def fails(self, words: str, *prepared: Prepared) -> None:
-        """Sends commands. If an entry of a command is for a session, the script first sets new
-        random bytes.
+        """Sends commands. If a command has an entry for a session, the script first sets new random
+        bytes.
         """
         buffers = [it.buffer() for it in prepared]
         self.script.command(words, *buffers, fresh=any(map(self.draws, prepared)))
@@ -79,8 +79,8 @@ class ScriptCaller(PreparedCommands):
         return self.received(prepared, self.script.command(words, prepared.buffer(), fresh=fresh))
 
     def does(self, what: str, prepared: Prepared) -> bytes:
-        """Sends a command that must be accepted. If one of its entries is for a session, the script
-        first sets new random bytes. Returns the response's parameters.
+        """Sends a command that must be accepted. If it has an entry for a session, the script first
+        sets new random bytes. Returns the response's parameters.
         """
         return self.accepted(what, prepared, self.draws(prepared))[1]
 
@@ -101,7 +101,7 @@ class ScriptCaller(PreparedCommands):
         kind: int = SE_HMAC,
         xor: bool = False,
     ) -> Session:
-        """Starts a session, and returns the caller's record of it."""
+        """Starts a session, and returns the caller's description of it."""
         nonce, cipher = self.nonce(size), XOR if xor else AES if aes else ALG_NULL
         handles, parameters = frames.start_auth_session(
             *(nonce, bind, algorithm, aes), kind=kind, xor=algorithm if xor else None
@@ -220,8 +220,8 @@ class ScriptCaller(PreparedCommands):
         assert self.does(what, prepared) == sized(data), what
 
     def read_index_public(self, what: str, index: int, *uses: Means) -> nv.Public:
-        """Reads an index's public area. The caller stores it, because TPM2_Startup may have changed
-        it.
+        """Reads an index's public area, and stores it in the caller, because TPM2_Startup may have
+        changed the area.
         """
         fields = Fields(self.does(what, self.index_public(index, *uses)))
         fields.sized()
@@ -237,7 +237,7 @@ class ScriptCaller(PreparedCommands):
         public = self.read_index_public(what, index, *uses)
         assert public == wanted, f"{what}: {public.attributes:08x}"
 
-    # Commands that change the state that the device keeps without power.
+    # Commands that change the state that the device keeps while it has no power.
 
     def start_up(self, what: str, kind: int = CLEAR) -> None:
         """Sends TPM2_Startup. With CLEAR, the platform's authorization value becomes empty."""

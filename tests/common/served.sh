@@ -16,7 +16,8 @@ for octal in 001 002 003 004 005 006 007 010 011 012 013 014 015; do
 done
 
 # begin CONNECTIONS: serves CONNECTIONS connections in the background, with the options in `options`. The
-# locality is 0 and the image is the file `image`, unless the test sets the variables `locality` and `image`.
+# locality is 0 unless the test sets the variable `locality`, and the image is the file `image` unless it sets
+# the variable `image`.
 begin() {
     rm -f "$room/output" "$room/error"
     # shellcheck disable=SC2086 # word splitting is intended

@@ -21,7 +21,7 @@ SERVE = "serve --socket socket --image image --entropy entropy --locality 0 --co
 # Files that any run may leave in its folder.
 OWN = {"image", "image.lock", "entropy"}
 
-# Functions that allocate memory and that the shim refuse.c does not replace.
+# Functions that allocate memory, but that the shim refuse.c does not replace.
 OTHERS = (
     "aligned_alloc calloc memalign mmap mmap64 mremap posix_memalign pvalloc reallocarray"
     " brk sbrk valloc".split()
@@ -50,7 +50,7 @@ ENTROPY = Ending(3, error=b"tpmsim: entropy\n")
 
 
 def fail(words):
-    """Ends the test with a description of the fault, which is cut to a readable length."""
+    """Ends the test with a description of the fault, truncated to a readable length."""
     sys.exit(f"WRONG: {words[:SHOWN]}")
 
 
@@ -179,7 +179,8 @@ class Turns:
         self.process.wait()
 
     def begin(self, first=0, second=0, word=None, stdin=b""):
-        """Begins a run with the two numbers for its shim, and with a last argument if there is one.
+        """Begins a run with the two numbers for its shim. If `word` is given, it is the last
+        argument.
         """
         for stream, content in zip(self.streams, (stdin, b"", b"")):
             stream.fill(content)
@@ -274,7 +275,7 @@ class Refusals(Shim):
 
     def check(self, label, words, whole, memory, stdin=b"", needed=FOREVER, explains=False):
         """Like `compare`, but begins the runs itself, and compares how they end. If no allocation
-        fails, a run must end as `whole` says.
+        fails, a run must end with the result `whole`.
         """
         with Turns(self, words) as turns:
             run = functools.partial(turns.run, stdin=stdin)

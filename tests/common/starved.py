@@ -4,8 +4,8 @@
 
 Each allocation fails in turn: in one run only that allocation, in another run all later ones too.
 If all later ones fail too, the run must end with status 3 and `tpmsim: memory`. If only one
-allocation fails, the run must end in the same way, or exactly as without a failure, because some
-collections retry with a smaller size.
+allocation fails, the run must end either in the same way or as if no allocation had failed,
+because some collections retry with a smaller size.
 """
 
 import functools
@@ -68,7 +68,7 @@ def check_words(program):
         ("a number that is none", [*SERVE, "x"], usage),
     ]
     for label, words, whole in cases:
-        # After a fault the program reads the environment to find out whether to explain the fault.
+        # After a fault the program checks the environment to decide whether to explain the fault.
         program.check(label, words, whole, MEMORY, explains=whole.status != 0)
     program.check("a script on standard input", ["run", "-"], played, MEMORY, SCRIPT.read_bytes())
     for words in ["--help", "--version", "run --help", "serve --help"]:
@@ -102,8 +102,8 @@ def talked(turns):
 
 def check_service(program, label, image, connections):
     """Tests runs that serve this many connections, with or without an image. A run makes all its
-    allocations before it creates its socket. Therefore a run whose allocation fails sends no
-    response, and leaves only the lock of its image.
+    allocations before it creates its socket. Therefore, if an allocation fails, the run sends no
+    response, and leaves only the lock file of its image.
     """
 
     def run(*refused):

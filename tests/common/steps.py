@@ -75,7 +75,8 @@ class Steps(Teller):
         transient: Sequence[int] = (0x8000_0000, 0x8000_0008, 0x80FF_FFFF),
         persistent: Sequence[int] = (0x8100_0000,),
     ) -> None:
-        """Sends a command on handles of other kinds, and on handles of objects that do not exist.
+        """Sends a command with handles of other kinds, and with handles of objects that do not
+        exist.
         """
         self.says(NO_OBJECT, *map(prepare, (*OTHERS, *more)))
         words = "A transient object, while there is none: REFERENCE_H0"
@@ -86,7 +87,7 @@ class Steps(Teller):
         words = "The object has to be authorized, but there are no sessions (tag 8001): AUTH_MISSING"
         self.raw(words, command(code, number(handle, 4) + parameters))
 
-    # Steps for objects, sessions and indices that exist only for a while.
+    # Steps for objects, sessions and indices that exist only temporarily.
 
     def owned(self, what: str, public: Public, *uses: Means, **more: Any) -> int:
         """Makes a primary object of the owner's hierarchy, and returns its handle."""
@@ -136,14 +137,14 @@ class Steps(Teller):
 
     def by_value(self, session: Session, attributes: int = CONTINUE_SESSION) -> Use:
         """Sends TPM2_PolicyAuthValue. Returns the use of the session with the authorization value
-        in the HMAC's key, which the policy then demands.
+        in the HMAC's key, as the policy then demands.
         """
         self.does("TPM2_PolicyAuthValue", self.auth_value_told(session))
         return with_value(session, attributes)
 
     def by_password(self, session: Session, attributes: int = CONTINUE_SESSION) -> Use:
-        """Sends TPM2_PolicyPassword. Returns the use of the session with a password, which the
-        policy then demands.
+        """Sends TPM2_PolicyPassword. Returns the use of the session with a password, as the policy
+        then demands.
         """
         self.does("TPM2_PolicyPassword", self.password_told(session))
         return in_plain(session, attributes)
@@ -156,7 +157,7 @@ class Steps(Teller):
             bent = prepare().but_entry(1, attributes=CONTINUE_SESSION | attribute)
             self.refused(f"Nothing can be {words}: ATTRIBUTES/s1", bent)
 
-    # Steps for the state that the device keeps without power.
+    # Steps for the state that the device keeps while it has no power.
 
     def saves(self) -> None:
         self.does("TPM2_Shutdown(STATE)", self.shutting_down(STATE))

@@ -6,7 +6,7 @@ image. Each line of a script is one of these:
     run N          begins a run on the image, from locality N
     connection N   begins a connection, which sends its bytes in pieces of N
     send HEX       sends some of its bytes
-    dry            from here on, this run has no random bytes for another command
+    dry            from here on, this run has no more random bytes for commands
 """
 
 import hashlib
@@ -21,8 +21,8 @@ from tests.common.outputs import RANDOM_BYTES, repeated
 # The offset of the end of commandSize in a command.
 SIZE_END = 6
 
-# The size of a response to TPM2_ReadClock, and the position of the host's time in it, which is not
-# compared.
+# The size of a response to TPM2_ReadClock, and the bytes in it that contain the host's time, which
+# is not compared.
 CLOCK_ANSWER_BYTES, TIMES = 35, slice(10, 26)
 
 
@@ -95,8 +95,8 @@ def device_told(device: Model) -> str:
 @dataclass
 class Run:
     """A run of the program. `number` is the number of the line that begins it. `is_given` is true
-    if a line contained the image before the run; otherwise the previous run left it. The run is
-    over if random bytes are missing, or if its file is not an image.
+    if a line before the run contained its image; otherwise the image was left by the previous run.
+    The run is over if random bytes are missing, or if its file is not an image.
     """
 
     number: int
@@ -115,8 +115,8 @@ class Run:
 
 
 class Served:
-    """The device in all runs that the lines describe, and the contents of its image file. A line
-    that makes no sense at its position is ignored.
+    """The device that is served in all runs that the lines describe, and the contents of its image
+    file. A line that makes no sense at its position is ignored.
     """
 
     def __init__(self) -> None:

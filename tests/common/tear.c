@@ -81,7 +81,7 @@ ssize_t write(int file, const void *bytes, size_t size) {
     return left < 0 ? -1 : NEXT(ssize_t (*)(int, const void *, size_t), "write")(file, bytes, left);
 }
 
-/* Some calls of the program to `write` use this name. */
+/* Some of the program's calls of `write` use this name. */
 ssize_t __write(int file, const void *bytes, size_t size) {
     return write(file, bytes, size);
 }

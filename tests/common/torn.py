@@ -37,15 +37,15 @@ OTHERS = (
     " sendfile sendmsg sendto shutdown splice stat sync unlinkat writev"
 ).split()
 
-# Texts that the test prints for further effects of a failed call.
+# Texts that the test prints for additional effects of a failed call.
 NONE, ALONE = "", ", that connection alone ends"
 OLD, NEW = ", the old image stays", ", the new image is there"
 
 
 @dataclass(frozen=True)
 class End:
-    """The result of a call that fails: how the run ends, the files that it leaves, and further
-    results.
+    """The result of a call that fails: how the run ends, the files that it leaves, and additional
+    effects.
     """
 
     ending: Ending
@@ -57,8 +57,8 @@ class End:
         return (self.ending.error.decode().strip() or "the run goes on") + self.more
 
 
-# The expected results, by function and file. `.0` is the folder next to the socket, and `.0/s` the
-# socket in it.
+# The expected results, by function and file. `.0` is the folder next to the socket, and `.0/s` is
+# the socket in that folder.
 UNSAVED = End(FILE, ("image.new",), OLD)
 ENDINGS = {
     call: end
@@ -214,8 +214,8 @@ IN_CONNECTION = {"recv connection", "send connection", "read entropy", "clock_ge
 
 @dataclass(frozen=True)
 class Tear:
-    """A call that fails, and its result; the number of connections that were accepted before the
-    call; and the number of responses that were sent to the last of these connections.
+    """A call that fails, with its result; the number of connections that were accepted before the
+    call; and the number of responses that were sent on the last of these connections.
     """
 
     call: str

@@ -1,6 +1,6 @@
-"""Runs two processes of `tpmsim serve` at once. Either each has its own image and they share the
-socket, or each has its own socket and they share the image. One process continues while the other
-one waits at one of its calls.
+"""Runs two processes of `tpmsim serve` at once. Either they share the socket, and each has its own
+image, or they share the image, and each has its own socket. One process continues while the other
+waits at one of its calls.
 """
 
 import socket

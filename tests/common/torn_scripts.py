@@ -41,8 +41,8 @@ LINES = [
 
 class Model:
     """The Python device: its response to each line, and the images that are allowed after each
-    response. Before the first response the file contains the image from the start, if any, or the
-    new device's image.
+    response. Before the first response the file contains the image that existed at the start or, if
+    there was none, the new device's image.
     """
 
     def __init__(self, text):

@@ -1,4 +1,4 @@
-"""Compares the public functions without `ensures` clauses with the list of them in
+"""Compares the public functions that have no `ensures` clause with the list of such functions in
 docs/THEOREMS.md:
 
     python3 tests/common/unpromised_calls.py DOCUMENT FOLDER

@@ -1,11 +1,11 @@
-"""Three clients of `tpmsim serve`, of which two wait while the first one keeps its connection open
-and sends nothing more:
+"""Three clients of `tpmsim serve`. Two of them wait while the first keeps its connection open and
+sends nothing more:
 
     python3 waiting.py SOCKET ERRORS HEX
 
 All clients send the command HEX. Each response is printed. The first client does not close its
-connection until the file ERRORS contains something. The second and the third client wait
-meanwhile.
+connection until the file ERRORS contains something. Meanwhile, the second and the third client
+wait.
 """
 
 import pathlib

@@ -39,7 +39,9 @@ def any_tag(fields: Fields, length: int) -> tuple[int, CC]:
 
 
 def other_code(fields: Fields, wanted: tuple[Handle, ...], device: Any) -> list[int]:
-    """Refuses a handle of a missing entity with the response code for a handle of a wrong kind."""
+    """Refuses the handle of a missing entity with the response code for a handle of the wrong
+    kind.
+    """
     try:
         return read_handles(fields, wanted, device)
     except Refusal as refusal:

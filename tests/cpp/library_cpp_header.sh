@@ -1,5 +1,5 @@
-# Compiles devices.cpp and the program of docs/LIBRARY.md, which use tpmsim.hpp, with g++ and sanitizers. Also
-# checks that the header in dist/ is the same as its source.
+# Compiles devices.cpp and the program in docs/LIBRARY.md, which both use tpmsim.hpp, with g++ and sanitizers.
+# Also checks that the header in dist/ is the same as its source.
 tests=$(cd "$(dirname "$0")/.." && pwd -P)
 . "$tests/common/cases.sh"
 . "$tests/common/library.sh"

@@ -1,5 +1,5 @@
 # Runs pytest in examples/pytest, a project in Python whose tests use devices. Also runs it with a device that
-# was started as in a CI job.
+# was started in the same way as in a CI job.
 tests=$(cd "$(dirname "$0")/.." && pwd -P)
 . "$tests/common/cases.sh"
 . "$tests/common/library.sh"

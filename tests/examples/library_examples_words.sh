@@ -1,6 +1,6 @@
 # Plays the examples that are written in words. tpmsim-script plays each of them in its own process, and also
-# translates it into a plain script. If the program plays the plain script, the traces are the same. Translating a
-# plain script does not change it. A fault is reported with its line and column.
+# translates it into a plain script. If the program plays the plain script, the traces are the same. Translating
+# a plain script leaves it unchanged. A fault is reported with its line and column.
 tests=$(cd "$(dirname "$0")/.." && pwd -P)
 . "$tests/common/cases.sh"
 . "$tests/common/library.sh"

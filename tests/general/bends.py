@@ -45,8 +45,8 @@ class Walk:
         return self.number(size)
 
     def sized(self, name, inside=None):
-        """Reads a sized buffer. If the caller passes `inside`, calls it to read the content, at
-        least up to the last size in the content.
+        """Reads a sized buffer. If the caller passes `inside`, this function reads the content, at
+        least up to the last size in it.
         """
         size = self.found_number(f"the size of {name}", 2)
         end = self.at + size

@@ -1,8 +1,9 @@
-"""Makes bent_commands.tpm. Each command is altered: first commandSize is raised and lowered by one,
-the rest unchanged. Then a zero byte is added at the end, with commandSize corrected. Then each size
-and each count after the header is raised and lowered by one, the rest unchanged. Lowering 0 gives
-the largest number of the same size. All altered commands are refused. At last the command is sent
-whole. Parameters, entries and the items of lists are counted from 1.
+"""Makes bent_commands.tpm. Each command is altered: first commandSize is increased and decreased by
+one, and nothing else is changed. Then a zero byte is added at the end, with commandSize corrected.
+Then each size and each count after the header is increased and decreased by one, and nothing else
+is changed. Decreasing 0 results in the largest number of the same size. All altered commands are
+refused. Finally the unaltered command is sent. Parameters, entries and list items are counted from
+1.
 """
 
 from collections.abc import Iterator

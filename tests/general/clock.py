@@ -1,7 +1,7 @@
 """Writes clock.tpm. TPM2_ReadClock returns time, in milliseconds since the power cycle; clock,
-since manufacture or TPM2_Clear; resetCount and restartCount; and that the clock is safe (01), as it
-never goes back. The numbers of eight bytes are so large that no script can wait until they reach
-their maximum.
+since manufacture or TPM2_Clear; resetCount and restartCount; and that the clock is safe (01),
+because it never goes back. The numbers of eight bytes are so large that no script can wait until
+they reach their maximum.
 """
 
 from tests.common.steps import Steps

@@ -1,6 +1,7 @@
 """Makes cut_commands.tpm. Each command is cut to every shorter length: first without any other
-change, and then with its commandSize corrected. At last it is sent whole. Two commands are
-refused even whole: TPM2_PolicySecret with a wrong password, and TPM2_GetRandom with a password.
+change, and then with its commandSize corrected. Finally the whole command is sent. Two commands
+are refused even then: TPM2_PolicySecret with a wrong password, and TPM2_GetRandom with a
+password.
 """
 
 from tests.general.cuts import cuts

@@ -3,7 +3,7 @@ area to each shorter length, with the right commandSize. The HMAC is that of the
 so it is wrong for the cut ones. The device compares it before it reads the parameters. For a
 protected NV index or object, the wrong HMAC is a failed try: TPM_PT_LOCKOUT_COUNTER (20E) shows
 that the device counts it. TPM2_DictionaryAttackLockReset forgives each failed try. A refusal leaves
-the session unchanged. So the whole command is sent at last, with the same HMAC.
+the session unchanged. Therefore the whole command can be sent at the end, with the same HMAC.
 """
 
 from collections.abc import Iterator
@@ -31,8 +31,8 @@ def refused(what: str, outcome: str, tries: int, *buffers: bytes) -> None:
 
 
 def refused_alone(what: str, outcome: str, tries: int, buffer: bytes) -> None:
-    """Sends one buffer, as `refused` does. If the buffer counts as a failed try, then resets the
-    number of failed tries.
+    """Sends one buffer, as `refused` does. If the buffer counts as a failed try, this function then
+    resets the number of failed tries.
     """
     refused(what, outcome, tries, buffer)
     if tries:
@@ -77,7 +77,7 @@ def by_each_command(session: Session, told: Session, key: int) -> None:
 
 
 def beside(session: Session, bound: Session) -> None:
-    """Uses a session that is bound to the index, in entries that do not authorize the index."""
+    """Uses a session that is bound to the index in entries that do not authorize the index."""
     cut("TPM2_PCR_Event of PCR 16, which the bound session authorizes", tpm.event(DATA, bound))
     case = "TPM2_PCR_Event that a password authorizes, with the bound session after it"
     cut(case, tpm.event(DATA, b"", bound), "AUTH_FAIL/s2")

@@ -20,7 +20,7 @@ says, gives = tpm.raw, tpm.lists
 
 def borders(name, capability, wanted, whole):
     """Reads a list, beginning at `wanted`, with different counts: none, one, all but one, all, and
-    more.
+    more than all.
     """
     gives(f"{name}, as many as there are", capability, wanted, MOST, whole)
     for count in (64, 65):

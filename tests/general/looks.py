@@ -39,8 +39,8 @@ def capabilities(kind: int, first: int, count: int = capability.MOST_ELEMENTS) -
 
 
 def at_pcrs() -> bytes:
-    """Returns a TPM2_PCR_Read of PCRS in both banks. Its response contains the update counter,
-    which each change of a PCR increments.
+    """Returns a TPM2_PCR_Read command for PCRS in both banks. Its response contains the update
+    counter, which each change of a PCR increments.
     """
     return command(CC.PCR_Read, frames.selection((SHA1, PCRS), (SHA256, PCRS)))
 
@@ -81,8 +81,8 @@ def at_all(device: Model) -> Iterator[bytes]:
 
 class LookingScript(Script):
     """A script that reads the PCRs and the handles of one kind after each row of refusals. After
-    the last refusal of a command, it reads all readable state. `name` is the name of its program's
-    module, and `told` the program's docstring.
+    the last refusal of a command, the script reads all state that commands can read. `name` is the
+    name of its program's module, and `told` the program's docstring.
     """
 
     def __init__(self, name: str, told: str) -> None:

@@ -1,5 +1,5 @@
 """Writes state_vectors.tpm. Commands whose responses were written down by hand, byte by byte,
-before there was a device. The program stops if it gets another response.
+before there was a device. The program stops if it gets a different response.
 """
 
 from tests.common.vocabulary import area, BY_VALUE, FIRST, frames, ObjectAttribute, RH_NULL, sealed

@@ -1,6 +1,6 @@
 """Makes turned_commands.tpm. Each byte of each command is changed: its lowest bit, its highest bit,
 and all of its bits. Changes after which the command would succeed, or count as a failed try, are
-left out. At last the command is sent unchanged.
+left out. Finally the unchanged command is sent.
 """
 
 import itertools

@@ -1,6 +1,6 @@
 # Tests the glue: nine functions in C that proved code calls. Rattle's kit contains a compiled version for
-# x86-64, and glue/ contains a version for other machines. For the same calls, both versions must print the same
-# on this machine, and so must the version in glue/ on ARM64.
+# x86-64, and glue/ contains a version for other machines. For the same calls, both versions must produce the
+# same output on this machine, and the version in glue/ must also produce it on ARM64.
 tests=$(cd "$(dirname "$0")/.." && pwd -P)
 . "$tests/common/cases.sh"
 needs cc

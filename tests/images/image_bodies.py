@@ -27,8 +27,8 @@ WRITTEN = BY_OWNER | Attribute.WRITTEN
 FIRST = 0x8100_0000
 WITH_VALUES = RH_OWNER, RH_ENDORSEMENT, RH_PLATFORM, RH_LOCKOUT
 
-# The offsets of three bytes in a new device's image for which only a few values are valid. The
-# counts of objects and indices follow the last of these bytes.
+# The offsets of three bytes in a new device's image. Only a few values are valid for these bytes.
+# The counts of objects and indices follow the last of these bytes.
 DISABLE_CLEAR, CLOSED, SAVED = 16 + 4 * 66 + 2, 16 + 4 * 66 + 19, 361 - DIGEST_AT_END - 5
 SAVED_BANKS = SAVED_PCRS * (20 + 32)
 
@@ -96,8 +96,8 @@ def with_saved(value, banks=b""):
 
 
 def of_bytes(of, words, *rows):
-    """Yields images with wrong values of a field, each with an image with a right value. The
-    descriptions state the lengths of the values.
+    """Yields images in which a field has a wrong value, each with an image in which it has a right
+    value. The descriptions state the lengths of the values.
     """
     for bad, good in rows:
         ends = ", the last a zero" if bad.endswith(b"\0") else ""

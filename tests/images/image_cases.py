@@ -1,5 +1,5 @@
-"""Images and texts that are nearly images, with descriptions. Some contain only NV indices. Some
-are within the limits of their version, and some exceed them.
+"""Images, and texts that are almost images, with descriptions. Some contain only NV indices. Some
+are within the limits of their version, and some exceed these limits.
 """
 
 from dataclasses import dataclass

@@ -17,7 +17,7 @@ DETAIL_BYTES = 2
 
 @dataclass
 class Plain:
-    """The bytes of a field without a size or a count."""
+    """The bytes of a field that has neither a size nor a count."""
 
     text: bytes
 

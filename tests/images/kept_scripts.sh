@@ -67,8 +67,8 @@ report 'standard output that is full' "$status"
 look 'it is kept'
 rm image
 
-# Faults of the image, of the random bytes, and of the script. If there are several, the first one in this order
-# is reported. If no device was made, no image is saved.
+# Faults in the image, in the random bytes, and in the script. If there are several faults, the first one in
+# this order is reported. If no device was made, no image is saved.
 echo none >none
 head -c 255 entropy >short
 mkdir folder

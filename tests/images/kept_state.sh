@@ -4,8 +4,8 @@ tests=$(cd "$(dirname "$0")/.." && pwd -P)
 . "$tests/common/cases.sh"
 . "$tests/common/served.sh"
 
-# before LINE..: executes these commands on the device of a new image, and prints the responses. after LINE..:
-# executes these commands on the device of the existing image.
+# before LINE..: executes these commands on a new device with a new image, and prints the responses. after
+# LINE..: executes these commands on the device in the existing image.
 before() {
     rm -f image
     after "$@"

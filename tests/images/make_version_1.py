@@ -2,7 +2,7 @@
 
     tools/python.sh tests/images/make_version_1.py PROGRAM
 
-PROGRAM is a program that writes this version. It serves the device of each script NAME.tpm in
+PROGRAM is a program that writes this version. It serves a device for each script NAME.tpm in
 tests/images/version_1. The commands up to each `power` line are one run. The test passes the
 script's random bytes to PROGRAM, and sets its clock with tests/common/clock.c, which `cc` compiles.
 The image at the end must be that of the Python device after the same commands. If NAME.hex exists,

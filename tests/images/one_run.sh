@@ -19,7 +19,7 @@ script_begins() {
     until [ -s "$room/first" ]; do sleep 0.01; done
 }
 
-# device_begins CONNECTIONS: serves this number of connections with the image's device.
+# device_begins CONNECTIONS: serves this number of connections to the device in the image.
 device_begins() {
     "$program" serve --socket socket --image image --entropy entropy --locality 0 \
         --connections "$1" >"$room/first" 2>&1 &
@@ -47,8 +47,8 @@ serve() {
     [ ! -e own ] || echo '    its socket is there'
 }
 
-# others LABEL: while one run uses the image, prints the results of other runs on it. They must affect neither
-# the first run nor the file image.new.
+# others LABEL: while one run uses the image, prints the results of other runs on it. The other runs must
+# affect neither the first run nor the file image.new.
 others() {
     echo left >image.new
     [ ! -e image ] || stat -c '%i %y' image >"$room/before"

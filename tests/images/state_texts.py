@@ -4,8 +4,8 @@
 
 The test plays scripts in the folders SCRIPTS of TESTS. After each command, the device is opened
 again from its state text. Each response must be the one in the file next to the script. A text with
-an error must be refused with the right fault. A text that is accepted must be written again
-unchanged.
+an error must be refused with the right fault. If a text is accepted, the device's state text must
+be the same text.
 """
 
 import collections
@@ -23,12 +23,13 @@ from tests.images.state_bodies import LAYER_BYTES
 
 SCRIPTS = "objects", "policies", "sessions"
 
-# Only one in ONE_IN scripts is played, and only one in ONE_IN bytes of a body is changed.
+# Only one in every ONE_IN scripts is played, and only one in every ONE_IN bytes of a body is
+# changed.
 ONE_IN = 3
 
 
 def goes_on(text):
-    """Returns the device of a state text. Checks that the device writes the same text again."""
+    """Returns the device in a state text, and checks that this device has the same state text."""
     device, layer = state_text.open_state(text)
     assert layer is None and state_text.state_text(device) == text
     return device
@@ -72,8 +73,9 @@ def worked():
 
 def worked_sequences(text):
     """Checks the state text of the same device with three sequence objects. Their fields are in a
-    separate file; the byte that says that there is a layer is 2. No standard lists the state of the
-    HMAC's outer hash, so the HMAC is compared with that of another implementation.
+    separate file, and the byte that says whether there is a layer is 2. No standard states the
+    value of the HMAC's outer hash state, so the HMAC is compared with that of another
+    implementation.
     """
     layer = worked_state.layer_with_sequences()
     slots, kind = worked_state.written(worked_state.SEQUENCES), -DIGEST_AT_END - LAYER_BYTES - 1

@@ -1,6 +1,6 @@
 # Checks the modes of the files that the program makes: an image with its lock, a log, the socket, and the files
-# of a device in a folder. Only their owner may read and write them, whatever the umask. Without these
-# permissions, an owner who is not root could not open the device in the next run.
+# of a device in a folder. Only their owner may read and write them, whatever the umask. If the files lacked
+# these permissions, an owner who is not root could not open the device in the next run.
 tests=$(cd "$(dirname "$0")/.." && pwd -P)
 . "$tests/common/cases.sh"
 needs python3

@@ -14,8 +14,8 @@ from tpmsim.model.state_text import Layer, state_text
 from tpmsim.standard import number, SHA1, SHA256
 
 # At the end, Clock is three milliseconds ahead of Time. One authorization has failed, and
-# lockoutAuth is disabled. Of the three sessions, the first one was flushed, and the last one is a
-# bound policy session.
+# lockoutAuth is disabled. The first of the three sessions was flushed, and the last is a bound
+# policy session.
 LINES = """
 entropy 000102030405060708090a0b0c0d0e0f101112131415161718191a1b1c1d1e1f202122232425262728292a2b2c2d2e2f303132333435363738393a3b3c3d3e3f
 do Startup 0

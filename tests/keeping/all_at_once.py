@@ -5,10 +5,10 @@ some of them are killed at random moments:
 
 LD_PRELOAD has loaded the library of failing.c into this process, and the library makes clocks jump
 by up to a day. Each process increments one index of the device, power-cycles the device, opens it
-again, and forks. Signals interrupt its system calls all the time. Otherwise these calls do not
-fail. With `fills` the disk of the working folder is sometimes full. At the end the index must have
-counted all answered increments, and only requested ones. A process must never read a number that is
-less than its own count.
+again, and forks. Signals interrupt its system calls all the time. Apart from that, these calls do
+not fail. With `fills` the disk of the working folder is sometimes full. At the end the index must
+have counted all answered increments, and only requested ones. A process must never read a number
+that is less than its own count.
 """
 
 import contextlib
@@ -97,8 +97,8 @@ class Worker:
             self.forks()
 
     def asks(self, act: str) -> object:
-        """Returns the answer to an operation. If the device is not started, starts it for the next
-        operation.
+        """Performs an operation, and returns its answer. If the device is not started, starts it
+        for the next operation.
         """
         answer = answer_of(act, does(self.host, act, FOLDER))
         if answer == INITIALIZE:

@@ -1,9 +1,9 @@
 """Computes the possible values of a counter in a device that is kept in a folder, after commands of
 which some were answered and some failed.
 
-Operations are recorded as they happen: an operation with its answer, or several operations of which
-only the first few may have been done. They determine a set of possible states. An answer that is
-not possible in any of these states is wrong.
+Operations are recorded as they happen: either one operation with its answer, or several operations
+of which perhaps only the first few were done. The records determine a set of possible states. An
+answer that is not possible in any of these states is wrong.
 """
 
 from dataclasses import dataclass, replace
@@ -89,8 +89,8 @@ class Counted:
             self.states = {outcome(it, act)[0] for it in self.states if it.is_there or act == BEGIN}
 
     def may_have(self, acts: Iterable[str]) -> None:
-        """Records that operations were requested. Any number of them, from the first on, may have
-        been done.
+        """Records that operations were requested. Perhaps none, only the first few, or all of them
+        were done.
         """
         done = set(self.states)
         for act in acts:

@@ -3,15 +3,16 @@ folder:
 
     python3 crash_each.py PROGRAM HOSTS SHIM SHARE [WORD]
 
-SHIM is the library of disk.c, which LD_PRELOAD has loaded into this process too. It logs what each
+SHIM is the library built from disk.c; LD_PRELOAD loads it into this process too. It logs what each
 host does to its folder. A crash keeps all synced bytes, and any prefix of the others, perhaps
 followed by zeros. A name that was not synced may be lost, or may refer to an earlier file again.
 
-After each line of the log the test makes some folders as a crash may leave them, and another host
-opens them. With force=always each folder must contain the device after all answered operations; the
-device may also have executed an operation that was not answered. Without force=always the device
-may be in any state that it had since the last power cycle. Only one in SHARE crashes is tested;
-with WORD, only crashes of hosts whose names contain WORD.
+After each line of the log, the test creates some folders in states in which a crash could leave the
+folder, and another host opens them. With force=always, each folder must contain the device after
+all answered operations; the device may also have executed an operation that was not answered.
+Without force=always, the device may be in any state that it has had since the last power cycle.
+Only one in every SHARE crashes is tested. With WORD, only crashes of hosts whose names contain WORD
+are tested.
 """
 
 import ctypes
@@ -115,8 +116,8 @@ class Disk:
             file.forces()
 
     def leaves(self, folder: pathlib.Path, choices: random.Random, how: int) -> None:
-        """Makes a folder as a crash may leave it. The folder contains only what must be on the disk
-        (`how` is 0), everything (1), or a random part.
+        """Makes a folder in a state in which a crash may leave it. The folder contains only what
+        must be on the disk (`how` is 0), everything (1), or a random part.
         """
         shutil.rmtree(folder, ignore_errors=True)
         if not self.is_there or (not self.is_named and (how == 0 or choices.random() < 0.5)):

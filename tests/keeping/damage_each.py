@@ -5,7 +5,7 @@ each time:
 
 Afterwards the journal must either be unchanged, byte for byte, or replaced by a new journal. The
 new journal must contain the device before the damage, or that device after the power cycle. Only
-one in SHARE of these runs is made.
+one in every SHARE runs is made.
 """
 
 import functools

@@ -1,8 +1,8 @@
 /* Replaces the functions of the C library with which a host (a program or module that keeps a
  * device in a folder) changes the folder, and logs each change. The environment variable DISK_LOG
- * names the log. For each change, the log gets a line with the path and the inode number.
- * LD_PRELOAD loads this library. A program with a host in the same process calls disk_logs to
- * switch the log on and off. */
+ * names the log. For each change, this library adds a line with the path and the inode number to
+ * the log. LD_PRELOAD loads this library. A program with a host in the same process calls
+ * disk_logs to switch the log on and off. */
 #define _GNU_SOURCE
 #include <errno.h>
 #include <fcntl.h>

@@ -4,11 +4,11 @@ time:
     python3 each_call.py PROGRAM HOSTS SHIM SHARE [WORD]
 
 HOSTS is the folder with the module and the programs. SHIM is the library of failing.c, which
-LD_PRELOAD has loaded into this process too. Only one in SHARE runs is made; with WORD, only runs of
-hosts whose names contain WORD. In each run a host has to do some operations, and one of its system
-calls has a fault from VARIANTS. Then another host opens the folder. The device must have executed
-the answered operations, and may have executed the one that was not answered. Standard error
-describes what is wrong, and reports the number of runs.
+LD_PRELOAD has loaded into this process too. Only one in every SHARE runs is made. With WORD, only
+runs of hosts whose names contain WORD are made. In each run a host has to do some operations, and
+one of its system calls has a fault from VARIANTS. Then another host opens the folder. The device
+must have executed the answered operations, and may have executed the one that was not answered.
+Standard error describes what is wrong, and reports the number of runs.
 """
 
 import collections
@@ -222,8 +222,8 @@ class Case(Sweep):
 
 
 def made(files: Files, folder: pathlib.Path, least: int) -> State:
-    """Makes a device that has counted to 2, or further until its journal has at least `least`
-    bytes. Then adds the beginning of another record.
+    """Makes a device that has counted to 2, or as far as necessary for its journal to have at
+    least `least` bytes. Then adds the beginning of another record.
     """
     host, journal, count, sizes = Python(files), folder / "journal", 0, [0]
     for act in (BEGIN, STARTUP, DEFINE):

@@ -21,8 +21,8 @@
 #include <time.h>
 #include <unistd.h>
 
-/* FAILS_ON: this call fails, and so does each later call of the same function. STORMS: this call
- * fails with EINTR, and so do two more calls that can be interrupted. */
+/* FAILS_ON: this call and all later calls of the same function fail. STORMS: this call and two
+ * later calls that can be interrupted fail with EINTR. */
 enum act {
     PASSES,
     FAILS,
@@ -228,7 +228,7 @@ CALL(ssize_t, getrandom, MOVES | WAITS, "", (void *bytes, size_t size, unsigned 
 CALL(int, madvise, OTHER, "", (void *page, size_t size, int advice),
      syscall(SYS_madvise, page, size, advice))
 
-/* Calls on the standard streams do not count, because they belong to the calling program. */
+/* Calls on the standard streams do not count, because these belong to the calling program. */
 ssize_t read(int file, void *bytes, size_t size) {
     enum act how = file < 3 ? PASSES : meets("read", MOVES | WAITS, path_of(file), NULL);
     if (is_refused(how)) return -1;

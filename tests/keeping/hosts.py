@@ -1,8 +1,8 @@
 """The hosts of a device that is kept in a folder. They perform the operations of counted.py.
 `Files` contains their paths.
 
-The module and Python run in this process, and fork with it. The other hosts are programs, and get
-their own environment.
+The hosts Module and Python run in this process, and fork with it. The other hosts are programs,
+which get their own environment.
 """
 
 import contextlib
@@ -110,7 +110,7 @@ class Info(ctypes.Structure):
 
 
 class Module(Host):
-    """The module for libtss2. This class calls it as libtss2 does."""
+    """The module for libtss2. This class calls it in the same way as libtss2."""
 
     name, part = "the module", "libtss2-tcti-tpmsim"
 
@@ -312,7 +312,7 @@ class Simulator(OnDevice, Run):
 
 
 def does(host: Host, act: str, folder: str) -> bytes:
-    """Makes a host perform an operation. Returns the response, if there is one."""
+    """Makes a host perform an operation. Returns the response if the operation has one."""
     if act == BEGIN:
         host.begin(folder)
     elif act == POWER:

@@ -1,4 +1,4 @@
-# Repeats a power cycle with --cut on a device whose journal is damaged, and makes a different call fail each
+# Repeats a power cycle with --cut on a device with a damaged journal, and makes a different call fail each
 # time. damage_each.py executes every fifth of these runs.
 tests=$(cd "$(dirname "$0")/.." && pwd -P)
 . "$tests/common/cases.sh"

@@ -3,12 +3,12 @@ this repository's libtpms.so.0:
 
     python3 swtpm_states.py FOLDER SHIM SHARE [WORD]
 
-FOLDER is made by `hosts/build.sh libtpms`, and SHIM is the library of failing.c. Only one in SHARE
-runs is made; with WORD, only runs whose labels contain WORD. In each run swtpm has to do some
-operations, and one call on a file in its folder has a fault from VARIANTS. Then swtpm is started
-again without a fault. Its device must have executed the answered operations, and may have executed
-the others. If there is no device, swtpm or the library must report why. Standard error describes
-what is wrong, and reports the number of runs, and of runs without a device.
+FOLDER is made by `hosts/build.sh libtpms`, and SHIM is the library of failing.c. Only one in every
+SHARE runs is made. With WORD, only runs whose labels contain WORD are made. In each run swtpm has
+to do some operations, and one call on a file in its folder has a fault from VARIANTS. Then swtpm is
+started again without a fault. Its device must have executed the answered operations, and may have
+executed the others. If there is no device, swtpm or the library must report why. Standard error
+describes what is wrong, and reports the number of runs, and of runs without a device.
 """
 
 import contextlib
@@ -38,8 +38,8 @@ FAILURE = bytes.fromhex("80010000000a00000101")
 
 
 class Swtpm(OnDevice):
-    """swtpm with the library in one folder, and its states in another. Its sockets and its log are
-    next to the folder of the states.
+    """swtpm, with the library in one folder and its state files in another. Its sockets and its log
+    are next to the folder with the state files.
     """
 
     def __init__(self, library: pathlib.Path, folder: pathlib.Path, told: dict[str, str]) -> None:
@@ -87,7 +87,7 @@ class Swtpm(OnDevice):
             raise Refused(f"request {request} is refused with {code:#x}")
 
     def does(self, act: str, is_resumed: bool = False) -> bytes:
-        """Performs an operation, and returns the response if it is a command."""
+        """Performs an operation. If the operation is a command, returns its response."""
         if act == BEGIN:
             self.start()
             self.tell(INIT, number(REMOVES_VOLATILE if is_resumed else 0, 4))
@@ -137,7 +137,8 @@ class Played:
         self.may_be_suspended, self.is_suspended = start.is_suspended, False
 
     def play(self, swtpm: Swtpm, script: Sequence[str]) -> None:
-        """Makes swtpm perform the operations, until one fails because swtpm has ended."""
+        """Makes swtpm perform the operations one by one, until one fails because swtpm has ended.
+        """
         for act in script:
             is_done = self.suspend(swtpm) if act == SUSPEND else self.act(swtpm, act)
             if not is_done and (act in (BEGIN, POWER) or not swtpm.is_running):

@@ -177,8 +177,8 @@ def sweep(
     share: int = 1,
     variants: Iterable[tuple[Act, int]] = VARIANTS,
 ) -> Iterator[str]:
-    """Makes each call fail in turn, with each fault, but makes only one in `share` of these runs.
-    Yields, for each run, the fault and a description of what is wrong, or an empty string if
+    """Makes each call fail in turn, with each fault, but makes only one in every `share` of these
+    runs. Yields, for each run, the fault and a description of what is wrong, or an empty string if
     nothing is wrong.
     """
     for turn, variant in enumerate(variants):
@@ -200,7 +200,7 @@ class Sweep:
         raise NotImplementedError
 
     def check(self, share: int) -> tuple[int, int]:
-        """Makes the runs of `sweep`. Returns the number of runs, and of wrong runs."""
+        """Makes the runs of `sweep`. Returns the number of runs, and the number of wrong runs."""
         runs = wrongs = 0
         for wrong in sweep(self.tries, share):
             runs += 1
@@ -214,8 +214,9 @@ class Sweep:
 def check_all(
     cases: Callable[[pathlib.Path], Iterable[Any]], share: str, *words: str, noun: str = "runs"
 ) -> NoReturn:
-    """Checks the cases that `cases` makes in a temporary folder; if `words` is not empty, only
-    those whose label contains the word. Ends this program, with status 1 if something is wrong.
+    """Checks the cases that `cases` makes in a temporary folder. If `words` is not empty, checks
+    only those whose label contains the word. Ends this program, with status 1 if something is
+    wrong.
     """
     runs = wrongs = 0
     with tempfile.TemporaryDirectory() as name:

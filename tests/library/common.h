@@ -35,7 +35,7 @@ static inline int is_filled(const uint8_t *room, size_t size) {
     return size == 0 || (room[0] == FILLED && memcmp(room, room + 1, size - 1) == 0);
 }
 
-/* Writes random bytes for a test, which count up from the byte `first`. */
+/* Writes the random bytes for a test: bytes that count up from `first`. */
 static inline void count_up(uint8_t random[RANDOM_BYTES], uint8_t first) {
     for (int i = 0; i < RANDOM_BYTES; i++) random[i] = (uint8_t)(first + i);
 }

@@ -91,7 +91,7 @@ static void show(const char *name, const uint8_t *buffer, size_t size) {
     putchar('\n');
 }
 
-/* Copies the context from the response to TPM2_ContextSave. */
+/* Copies the context out of the response to TPM2_ContextSave. */
 static void take_context(void) {
     context_size = (size_t)(response[4] << 8 | response[5]) - 10;
     must(context_size <= sizeof context, "a context is too long");
@@ -208,7 +208,7 @@ static void fill_slots(void) {
     load("loaded, where no slot is free");
 }
 
-/* Changes the byte of the last record that says whether the layer was on. */
+/* Changes the byte in the last record that says whether the layer was on. */
 static void turn_flag(void) {
     size_t at = text_size, size_taken;
     while (text[at - 1] != '#') at--;

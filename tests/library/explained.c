@@ -1,4 +1,5 @@
-/* Executes commands and logs them, with the functions of docs/LIBRARY.md:
+/* Executes commands and logs them with the functions that docs/LIBRARY.md
+ * shows:
 
        explained LOG
 

@@ -1,4 +1,5 @@
-//! A caller in Rust that logs what it executes, with the function of docs/LIBRARY.md:
+//! A caller in Rust that logs what it executes, with the function that
+//! docs/LIBRARY.md shows:
 //!
 //!     explained LOG
 //!

@@ -19,8 +19,8 @@ static void litter(void) {
     folder.journal.size += 100;
 }
 
-/* Kills a host before, in or after each task of the command EXTEND in turn, and opens the device
- * again. */
+/* Kills a host before, during or after each task of the command EXTEND in turn, and opens the
+ * device again. */
 static void kill_at_each(uint8_t force, extent how_much, int has_litter) {
     int count = 0, kills = 0;
     uint8_t fault = KILLED;
@@ -47,8 +47,8 @@ static void kill_at_each(uint8_t force, extent how_much, int has_litter) {
     tpmsim_keeper_free(&alive.keeper);
 }
 
-/* Kills a host at each task of making a device. Afterwards there is either a complete device, or no
- * device, and then the next host can make one. */
+/* Kills a host at each task of making a device. Afterwards there is either a complete device or no
+ * device. If there is no device, the next host can make one. */
 static void kill_beginnings(void) {
     uint8_t fault = KILLED;
     for (int task = 0; fault == KILLED; task++) {

@@ -1,5 +1,5 @@
-/* Tests a keeper: its report on a command, the time of a command, damaged journals, the calls that
- * have no text argument, and the texts that describe the keeper's faults. */
+/* Tests a keeper: its report on a command, the time of a command, damaged journals, calls without
+ * a text argument, and the texts that describe the keeper's faults. */
 #define _GNU_SOURCE
 #include "../common/same_state.h"
 #include "keeper_known.h"

@@ -9,8 +9,9 @@
 #include <sys/stat.h>
 #include <unistd.h>
 
-/* File descriptors, or -1: of the folder; of the lock file while the lock is held; of the journal,
- * which is the `number`th one that the host has opened; and of the new journal. */
+/* The descriptors of the folder, of the lock file while the lock is held, of the journal, and of
+ * the new journal; -1 if there is none. The journal is the `number`th journal that the host has
+ * opened. */
 typedef struct files {
     int folder, lock, journal, fresh;
     uint64_t number;

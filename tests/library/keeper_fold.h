@@ -1,5 +1,5 @@
-/* Computes a device by executing a world's history from the beginning, as the definition does: by a
- * fold over the commands. A keeper is used only to write the head for a new device. */
+/* Computes a device by executing a world's history from the beginning. Like the definition, this is
+ * a fold over the commands. A keeper is used only to write the head for a new device. */
 #ifndef KEEPER_FOLD_H
 #define KEEPER_FOLD_H
 #include "../common/same_state.h"

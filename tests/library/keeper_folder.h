@@ -1,5 +1,6 @@
-/* The folder of specs/World.antt of tpm_keeping, in memory that forked processes share: the files
- * as all processes see them, and the contents that may remain after a crash of the host. */
+/* The folder that specs/World.antt of tpm_keeping defines, in memory that forked processes share.
+ * It consists of the files as all processes see them, and the contents that may remain after a
+ * crash of the host. */
 #ifndef KEEPER_FOLDER_H
 #define KEEPER_FOLDER_H
 #include "keeper_host.h"
@@ -105,7 +106,7 @@ static inline void world_begins(uint64_t seed) {
     all->draws = seed * 0x9e3779b97f4a7c15u + 1;
 }
 
-/* Stores the present content as a past one, which a crash may leave on the disk. */
+/* Stores the current content as an earlier one, which a crash may leave on the disk. */
 static inline void remember(file *it) {
     int at = it->pasts < PAST ? it->pasts++ : (int)rolled(PAST);
     copy_content(&it->past[at], &it->now);
@@ -168,7 +169,7 @@ static inline int whole_in(const file *it, const content *from, size_t size) {
     return it->before + count;
 }
 
-/* Crashes the host. One of the files remains, with one of its contents. That content is cut off
+/* Crashes the host. One of the files remains, with one of its contents. That content is truncated
  * somewhere after its synced bytes, and zeros may follow. */
 static inline void world_crashes(void) {
     int place = all->names[rolled((unsigned)all->olders + 1)];

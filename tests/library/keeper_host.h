@@ -1,11 +1,11 @@
-/* A host of a keeper, as a loop that calls a function for each task. Also writes the texts of
- * commands and seeds, and kills a host in the middle of a call. */
+/* A host of a keeper: a loop that calls a function for each task. Other functions here write the
+ * texts of commands and seeds, and kill a host in the middle of a call. */
 #ifndef KEEPER_HOST_H
 #define KEEPER_HOST_H
 #include "common.h"
 
-/* The maximum size of a text; the result of a call in which the host was killed; and the number
- * that stands for no task. */
+/* The maximum size of a text; the result of a call in which the host was killed; and a number that
+ * is not the number of any task. */
 enum { TEXT_BYTES = 128 * 1024, KILLED = 255, NEVER = -1 };
 
 /* What a host reports to the keeper after a task. */
@@ -32,8 +32,9 @@ struct host {
     extent killed_after;
     int fails_at;
     uint64_t clock;
-    /* The last call: its tasks, as one letter each; if a new journal was made, the size of the part
-     * of the old journal that the device executed; the report; and the response. */
+    /* The last call. `tasks` has one letter for each task. If a new journal was made, `whole` is
+     * the size of the part of the old journal that the device executed. The report and the response
+     * follow. */
     char tasks[64];
     uint64_t whole;
     uint8_t report[TPMSIM_REPORT_SIZE];
@@ -81,7 +82,7 @@ static inline uint8_t host_run(host *it, uint8_t job, const uint8_t *text, size_
     return host_finishes(it);
 }
 
-/* Starts a host like a new process: its keeper has not looked at the folder yet. */
+/* Starts a host in the state of a new process: its keeper has not looked at the folder yet. */
 static inline void host_starts(host *it, uint8_t force, uint64_t limit) {
     it->killed_at = it->fails_at = NEVER;
     must(tpmsim_keeper_new(&it->keeper, force, limit) == TPMSIM_DONE, "there is no keeper");

@@ -11,7 +11,7 @@ typedef struct memory_file {
     uint8_t bytes[FILE_BYTES];
 } memory_file;
 
-/* `number` is the number of the present journal, or 0 if there is none. */
+/* `number` is the number of the current journal, or 0 if there is no journal. */
 typedef struct memory {
     uint64_t number;
     int is_locked;

@@ -1,8 +1,8 @@
-/* Runs the compiled keeper with random events, in the world of specs/World.antt of tpm_keeping.
- * Each process has a keeper. Processes get commands, perform the keeper's tasks, fail, are killed
- * and fork, and the host crashes. Each response is compared with that of the device that executed
- * the history according to the definition (keeper_fold.h). After each crash the journal is compared
- * too.
+/* Runs the compiled keeper with random events, in the world that specs/World.antt of tpm_keeping
+ * defines. Each process has a keeper. Processes get commands, perform the keeper's tasks, fail, are
+ * killed and fork, and the host crashes. Each response is compared with that of the device that
+ * executed the history according to the definition (keeper_fold.h). After each crash, the journal
+ * is also compared.
  *
  *     keeper_world EVENTS SEED     this many events, with a seed
  *     keeper_world wrong EVENTS    wrong hosts; each of them has to be caught within this many events
@@ -18,7 +18,7 @@
 
 enum { PROCESSES = 5, WORLD_EVENTS = 1500, CHILD_EVENTS = 60, STATES = 8 };
 
-/* A process. `was_hindered` is set if a task of its present call failed, or if an allocation
+/* A process. `was_hindered` is set if a task of its current call failed, or if an allocation
  * failed. */
 typedef struct process {
     tpmsim_keeper keeper;
@@ -338,7 +338,7 @@ static void dies(int number, const tpmsim_ask *ask) {
 
 static void happens(void);
 
-/* Forks all processes. The children run for some events, and end. Meanwhile the parents wait. */
+/* Forks all processes. The children run for some events and then end, while the parents wait. */
 static void forks(void) {
     int status;
     if (is_child) return;
@@ -427,7 +427,7 @@ static void run(long events, uint64_t seed) {
     }
 }
 
-/* Runs each wrong host in a separate process. The checks must detect its mistake. */
+/* Runs each wrong host in a separate process. The checks must detect each host's mistake. */
 static void check_wrong(long events) {
     for (wrong = ANSWERS_FIRST; wrong < WRONGS; wrong++) {
         int status;

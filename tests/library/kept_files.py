@@ -44,8 +44,8 @@ def asks():
 
 
 def with_file(path, make):
-    """Moves the file or folder at a path away, and calls `make` to create another one there.
-    Returns the fault that is then reported. At the end the path is restored.
+    """Moves the file or folder at a path away, and calls `make` to create something else there.
+    Returns the fault that is then reported. At the end, puts the original file or folder back.
     """
     aside = pathlib.Path("aside")
     if path.exists():
@@ -112,7 +112,7 @@ def wrong_texts(text):
 
 
 def damaged_journals():
-    """Checks that all damage is reported, and that the journal is not changed."""
+    """Checks that all damage is reported, and that the journal stays unchanged."""
     started(STATE).close()
     whole = JOURNAL.read_bytes()
     with ModelDevice() as device:

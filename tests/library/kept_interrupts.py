@@ -5,7 +5,7 @@ random moments, and while they wait for the lock:
 
 The program prints a line for each call. After each interrupt the device must have executed what its
 journal contains, another thread must be able to use it, and no file may be locked or left open. An
-interrupted `restore` must leave the device of the snapshot, or the earlier device.
+interrupted `restore` must leave either the device in the snapshot or the earlier device.
 """
 
 import contextlib
@@ -32,8 +32,8 @@ SECONDS, LEAST_LINES = 5, 5
 # in seconds.
 SIGNALS, MOST_DELAY = 400, 200e-6
 
-# How long the lock is held, and when the signal comes, in seconds. The lock is released long after
-# the signal.
+# The time for which the lock is held, and the time at which the signal comes, in seconds. The lock
+# is released long after the signal.
 HELD_SECONDS, SIGNAL_SECONDS = 0.4, 0.1
 
 
@@ -75,7 +75,8 @@ def interrupted(number):
 
 def is_interrupted(act, number, then):
     """Returns whether `act` executes this many lines. If so, `act` is interrupted, and `then`
-    checks what `act` left, before the exception is dropped with the objects that it refers to.
+    checks the state that `act` left, before the exception is discarded together with the objects to
+    which it refers.
     """
     try:
         with interrupted(number):
@@ -135,7 +136,7 @@ class Lines:
 
     def then(self):
         """Checks the folder after an interrupt. First uses the other holder, which would wait if
-        the lock had not been released.
+        the lock were still held.
         """
         with contextlib.suppress(Exception):
             Caller(self.other).start_up()

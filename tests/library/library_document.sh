@@ -1,4 +1,5 @@
-# Checks that the program of docs/LIBRARY.md prints what the page says.
+# Checks that the program in docs/LIBRARY.md prints the output that the page
+# shows.
 tests=$(cd "$(dirname "$0")/.." && pwd -P)
 . "$tests/common/cases.sh"
 . "$tests/common/library.sh"

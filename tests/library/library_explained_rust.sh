@@ -1,5 +1,5 @@
-# A program in Rust logs its commands with the function of docs/LIBRARY.md. From this log, tools/explain.py
-# explains why a command was refused.
+# A program in Rust logs its commands with the function that docs/LIBRARY.md shows. From this log,
+# tools/explain.py explains why a command was refused.
 tests=$(cd "$(dirname "$0")/.." && pwd -P)
 . "$tests/common/cases.sh"
 . "$tests/common/library.sh"

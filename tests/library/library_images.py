@@ -23,8 +23,8 @@ class Library:
         self.device = LibraryDevice(manufactured=RANDOM)
 
     def fault_of(self, text: bytes) -> str | None:
-        """Returns the fault of an image. If there is none, the handle then contains the image's
-        device.
+        """Returns the fault of an image. If the image has no fault, the handle then contains
+        the image's device.
         """
         try:
             self.device.begin(text)

@@ -1,6 +1,6 @@
-# Plays all scripts without faults with the library: linked with the archive, with the archive and sanitizers,
-# and with the shared object. library/scripts.py describes what is compared, and how much stack the calls may
-# use.
+# Plays all scripts that have no faults with the library. The test program is linked with the archive, with
+# the archive and sanitizers, and with the shared object. library/scripts.py describes what is compared, and
+# how much stack the calls may use.
 tests=$(cd "$(dirname "$0")/.." && pwd -P)
 . "$tests/common/cases.sh"
 . "$tests/common/library.sh"

@@ -1,6 +1,6 @@
 # Checks the modes of the files that a device in Python makes: an image with its lock, and the files in a
-# device's folder. Only their owner may read and write them, whatever the umask. Without these permissions, an
-# owner who is not root could not open the device in the next process.
+# device's folder. Only their owner may read and write them, whatever the umask. If the files lacked these
+# permissions, an owner who is not root could not open the device in the next process.
 tests=$(cd "$(dirname "$0")/.." && pwd -P)
 . "$tests/common/cases.sh"
 . "$tests/common/library.sh"

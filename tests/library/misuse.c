@@ -41,8 +41,8 @@ static size_t image_size;
 static uint8_t state[ROOM];
 static size_t state_size;
 
-/* The device's private pointer before a call. A refused call must leave it unchanged, as well as
- * the image. Only a test may read this pointer. */
+/* The device's private pointer before a call. A refused call must change neither this pointer nor
+ * the image. Only a test may read the pointer. */
 static void *kept_pointer;
 
 static void keep(struct tpmsim *device) {
@@ -57,7 +57,7 @@ static const char *as_it_was(struct tpmsim *device) {
     return "the device is as it was";
 }
 
-/* Calls the library twice to execute TPM2_GetRandom, without and with the completing layer. The
+/* Calls the library twice to execute TPM2_GetRandom: without the completing layer, and with it. The
  * library must refuse both calls, and must write neither the response nor the answer. Returns the
  * fault. */
 static unsigned refused_command(struct tpmsim *device, uint8_t locality) {
@@ -141,15 +141,15 @@ static void of_rooms(struct tpmsim *device) {
     in_rooms(device, "snapshot", tpmsim_snapshot);
 }
 
-/* Returns the number of bytes in which a text differs from the image's body, the bytes between the
- * image's head and its digest. */
+/* Returns the number of bytes in which a text differs from the image's body. The body is the bytes
+ * between the image's head and its digest. */
 static size_t others_than_in_image(const uint8_t *text, size_t size) {
     size_t others = 0;
     for (size_t i = 0; i < size; i++) others += text[i] != image[HEAD_BYTES + i];
     return others;
 }
 
-/* Checks the result of tpmsim_kept: the image without its head and its digest, and with zeros for
+/* Checks the result of tpmsim_kept: the image without its head and its digest, and with zeros as
    Clock. Therefore the result does not change with time. */
 static void of_what_is_kept(struct tpmsim *device) {
     size_t size = tpmsim_kept(device, before, ROOM);

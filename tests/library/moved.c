@@ -6,8 +6,8 @@
  * The scripts have the same form as for play.c. On average, the moved device is restored before one
  * in ONE_IN events, chosen by a random generator with the seed SEED. Both devices must return the
  * same response to each event, and have the same state text at the end of a script. In every second
- * script the completing layer is on for both. Prints the numbers of events and of restores, and the
- * size of the largest text in bytes. */
+ * script, the completing layer is on for both devices. Prints the numbers of events and restores,
+ * and the size in bytes of the largest text. */
 #define _POSIX_C_SOURCE 200809L
 #include "common.h"
 

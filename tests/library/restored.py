@@ -82,8 +82,8 @@ class Played:
 
 
 def within_writing():
-    """If a signal handler raises an exception while an image is written, this must not be reported
-    as a fault of the image.
+    """An exception that a signal handler raises while an image is written must not be reported as a
+    fault of the image.
     """
     image = pathlib.Path("image")
     with LibraryDevice(image) as device:

@@ -4,10 +4,10 @@
     tools/python.sh scripts.py --figures STACK    reports how much stack each call uses
     tools/python.sh scripts.py --lines SCRIPT     prints a script for play.c, without lines in words
 
-Each PLAYER is built from play.c. It plays the scripts of tests/ and the examples that succeed. Its
-output must agree with the files next to the script. It must also agree with the Python device: each
-response, row and number of drawn random bytes, and the images at the end. STACK is built from
-stack.c. It plays the scripts too, and no call may use more stack than tpmsim.h states.
+Each PLAYER is built from play.c. It plays those scripts of tests/ and of the examples that succeed.
+Its output must agree with the files next to the script. It must also agree with the Python device
+in each response, row and number of drawn random bytes, and in the images at the end. STACK is built
+from stack.c. It plays the scripts too, and no call may use more stack than tpmsim.h states.
 """
 
 import pathlib
@@ -143,8 +143,8 @@ def check(player: str, played: list[Script]) -> None:
 
 
 class Stack:
-    """The maximum amount of stack that each call uses, and for an execution also the command that
-    uses it.
+    """The maximum amount of stack that each call uses. For the call that executes commands, also
+    the command that uses most.
     """
 
     def __init__(self, program: str, played: list[Script]) -> None:

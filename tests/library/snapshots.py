@@ -3,10 +3,10 @@
     tools/python.sh snapshots.py LIBRARY [ONE_IN]
 
 LIBRARY is the shared library. The test restores texts in which one byte is changed, with the right
-digest and with a wrong one. With ONE_IN, only one in ONE_IN bytes is changed. A text that is
-refused must not change the device. The library must write an accepted text again unchanged, or in
-version 2 if the text has version 1. If a text has no completing layer, the library adds a new layer
-to the written text.
+digest and with a wrong one. With ONE_IN, only one in every ONE_IN bytes is changed. A text that is
+refused must not change the device. If a text is accepted, the library must write the same text
+again, or a text of version 2 if the accepted text has version 1. If a text has no completing layer,
+the library adds a new layer to the written text.
 """
 
 import collections
@@ -62,15 +62,15 @@ class Library:
 
 def with_layer(text: bytes) -> bytes:
     """Returns the state text of the same device with its completing layer, or with a new layer if
-    it has none.
+    the device has no layer.
     """
     device, layer = state_text.open_state(text)
     return state_text.state_text(device, layer or Layer())
 
 
 def judge(library: Library, words: str, text: bytes) -> str:
-    """Returns the fault of a text, or "restored". Checks that the library reports the same, and
-    that a refused text does not change its device.
+    """Returns the fault of a text, or "restored". Checks that the library reports the same result,
+    and that a refused text does not change the library's device.
     """
     wanted, before = state_text.fault_of(text), library.snapshot()
     given = library.fault_of(text)
@@ -82,14 +82,14 @@ def judge(library: Library, words: str, text: bytes) -> str:
 
 
 def kind(library: Library, words: str, texts: Iterable[bytes]) -> None:
-    """Prints, for one kind of texts, how many texts have each fault."""
+    """For texts of one kind, prints how many have each fault."""
     counts = collections.Counter(judge(library, words, it) for it in texts)
     print(f"{words}: {', '.join(f'{count:,} {it}' for it, count in sorted(counts.items()))}")
 
 
 def turned(text: bytes, one_in: int) -> Iterator[bytes]:
-    """Yields copies of the text with one byte changed, in three ways. Only one in `one_in` bytes is
-    changed.
+    """Yields copies of the text with one byte changed, in three ways. Only one in every `one_in`
+    bytes is changed.
     """
     for at in range(0, len(text), one_in):
         for way in WAYS:

@@ -1,5 +1,5 @@
-/* Reports the maximum stack that each function of the library uses and, for the execution of
- * commands, the command that uses most:
+/* Reports the maximum amount of stack that each function of the library uses. For the function that
+ * executes commands, it also reports the command that uses most:
  *
  *     stack <SCRIPTS
  *

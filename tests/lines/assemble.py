@@ -1,7 +1,7 @@
 """Writes assemble.out: the results of the lines of assemble.lines, and of longer lines.
 tests/lines/assemble.sh passes these lines to `tpmsim asm`.
 
-A line of assemble.lines has the escapes of printf: a byte that is not ASCII is \\ooo, in octal.
+The lines in assemble.lines use printf's escapes: a byte that is not ASCII is \\ooo, in octal.
 """
 
 import pathlib

@@ -1,6 +1,6 @@
 # Tests lines that are invalid in a script. Each of them is the third of four lines, between two commands. The
-# program answers the first command, and not the second one. Lines are written and printed with the escapes of
-# printf: \t is a tab, \r a carriage return, and \ooo a byte in octal.
+# program answers the first command but not the second. Lines are written and printed with printf's escapes:
+# \t is a tab, \r a carriage return, and \ooo a byte in octal.
 tests=$(cd "$(dirname "$0")/.." && pwd -P)
 . "$tests/common/cases.sh"
 
@@ -81,7 +81,7 @@ third 'power\r'
 third 'poweroff'
 third 'trace'
 
-# Wrong commands in words. assemble.sh tests more of them.
+# Invalid commands in words. assemble.sh tests more of these.
 third 'do'
 third 'do '
 third 'do GetRandom'

@@ -2,7 +2,7 @@
 # replaced with tokens of each kind. The output of `tpmsim asm`, including the fault and its column, is compared
 # with the device in Python (python/tpmsim/standard/lines.py). Then the same lines are played in scripts, and
 # lines of scripts get another byte at each offset. The first line of the output counts the commands and their
-# tokens. Each further line is about one kind of change.
+# tokens. Each of the other lines is about one kind of change.
 tests=$(cd "$(dirname "$0")/.." && pwd -P)
 . "$tests/common/cases.sh"
 needs cc python3

@@ -1,5 +1,5 @@
-# Checks the lines that `tpmsim line` finds for commands. common/line.py passes it the commands of `do` and `cmd`
-# lines in scripts. This test also passes it some other commands.
+# Checks the lines that `tpmsim line` finds for commands. common/line.py tests the commands in `do` and `cmd`
+# lines of scripts. This test adds some other commands.
 tests=$(cd "$(dirname "$0")/.." && pwd -P)
 . "$tests/common/cases.sh"
 needs cc python3

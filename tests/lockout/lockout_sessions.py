@@ -119,8 +119,8 @@ def check(name, handle, use):
 
 
 def policy_without_value():
-    """If a policy demands no authorization value, its use is not an authorization attempt, whatever
-    its HMAC is.
+    """The use of a policy that demands no authorization value is not an attempt to guess such a
+    value, whatever its HMAC is.
     """
     tpm.chapter(
         "A policy that demands no authorization value, and a session that is bound to nothing."

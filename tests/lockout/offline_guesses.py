@@ -41,7 +41,7 @@ def bound_to(words, handle):
 
 
 def encrypted_by(session, own):
-    """Makes the session encrypt a text that the attacker knows. Returns the encrypted text and the
+    """Has the session encrypt a text that the attacker knows. Returns the encrypted text and the
     nonces.
     """
     started = session.nonce_tpm

@@ -1,6 +1,6 @@
-# Runs the program for ARM64 in qemu. It plays every third script, stored or generated, or all of them if
-# EVERY=1 is set. The program must print the responses and traces that are stored with each script. The programs
-# for ARM64 and for this machine must read each other's folders and images.
+# Runs the program for ARM64 in qemu. It plays every third script, including the generated ones, or all scripts
+# if EVERY=1 is set. The program must print the responses and traces that are stored with each script. The
+# programs for ARM64 and for this machine must be able to read each other's folders and images.
 tests=$(cd "$(dirname "$0")/.." && pwd -P)
 . "$tests/common/cases.sh"
 needs qemu-aarch64 python3

@@ -11,7 +11,9 @@ tpm = Steps(__name__, __doc__, tries=True)
 
 
 def changing_policy(algorithm=SHA256, before=None):
-    """Returns the digest after TPM2_PolicyCommandCode, which follows the assertions of `before`."""
+    """Returns the digest after the assertions that produced `before`, followed by
+    TPM2_PolicyCommandCode.
+    """
     old = before or bytes(digest_bytes(algorithm))
     return policy.after_command_code(algorithm, old, CC.NV_ChangeAuth)
 

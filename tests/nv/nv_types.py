@@ -18,8 +18,8 @@ CHANGES = {
     "TPM2_NV_Extend": lambda index: tpm.extending(index, SECRET, by=RH_OWNER),
 }
 
-# Each type, with the data that is read after the only change that the type allows. The types have
-# the same order as the changes.
+# Each type, with the data that a read returns after the only change that the type allows. The
+# types are in the same order as the changes.
 TYPES = (
     ("An ordinary index", area, SECRET),
     ("A counter", counter, number(1, 8)),

@@ -19,8 +19,8 @@ tpm = OrderTeller(__name__, __doc__, tries=True)
 
 
 def handles_in_order(code, handles):
-    """Sends commands in which a handle is truncated, of another kind, or of a missing entity. The
-    command ends after that handle.
+    """Sends commands with a handle that is truncated, is of the wrong kind, or names a missing
+    entity. Each command ends after that handle.
     """
     for place, handle in enumerate(handles, 1):
         before = b"".join(number(it, 4) for it in handles[: place - 1])
@@ -37,9 +37,7 @@ def handles_in_order(code, handles):
 
 
 def general_refusals(code, handles, cut, uses):
-    """Causes all refusals that precede the refusals of the parameters. The parameters are always
-    `cut`.
-    """
+    """Causes all refusals that precede those of the parameters. The parameters are always `cut`."""
     handles_in_order(code, handles)
     is_first = handle_kinds.IS_OF_KIND[code.handles[0].kind]
     closed = BY_OTHERS if code.authorized and is_first(BY_OTHERS) else None
@@ -48,8 +46,8 @@ def general_refusals(code, handles, cut, uses):
 
 
 def changes(code, what, index, locked, parameters, faults=(), ranges=()):
-    """Tests one of the four commands that change an index. The index `locked` is locked, and has a
-    type that the command cannot change.
+    """Tests one of the four commands that change an index. The index `locked` is locked, and is of
+    a type that the command cannot change.
     """
     tpm.chapter(f"TPM2_{code.name}{what}.")
     uses = [VALUE, Use(session, 1 | DECRYPT) if code.takes_sized else Use(session)]

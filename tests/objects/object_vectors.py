@@ -15,8 +15,8 @@ from tpmsim.standard import aes, CC, command, entry, number, on_handle, RH_OWNER
 from tests.common.script import Script
 
 # The device of a script is manufactured with the random bytes 00 to ff. They are eight pieces of 32
-# bytes: the seeds of the owner's, the endorsement, the platform and the null hierarchy, and then
-# their proofs.
+# bytes: the seeds of the owner's, the endorsement, the platform and the null hierarchy, followed by
+# the proofs of these hierarchies.
 OWNER_SEED, OWNER_PROOF = bytes(range(0x00, 0x20)), bytes(range(0x80, 0xA0))
 OWNER = number(RH_OWNER, 4)
 SHA256_NUMBER = bytes.fromhex("000B")
@@ -45,9 +45,9 @@ def step(name, value):
 
 
 def creation(kind, name, above, outside_info):
-    """Returns the part of the response about the creation: the creation data, with no PCRs and
-    locality 0 (bit 0), their hash and the ticket. `above` contains the parent's algorithm, Name and
-    qualified name.
+    """Returns the part of the response that is about the creation: the creation data (with no PCRs,
+    and with locality 0, which is bit 0), their hash, and the ticket. `above` contains the parent's
+    algorithm, Name and qualified name.
     """
     algorithm, *names = above
     data = selection() + sized(sha256(b"")) + b"\x01" + algorithm
@@ -89,8 +89,8 @@ assert answer[18:-5] == sized(public) + created + sized(name)
 answer = script.command("TPM2_ReadPublic: SUCCESS", command(CC.ReadPublic, number(0x8000_0000, 4)))
 assert answer[10:] == sized(public) + sized(name) + sized(qualified_name)
 
-# Data that is sealed under the key, and created with the random bytes 40, 41, 42, ... They become
-# the seed and then the first block of the cipher. The attributes are fixedTPM, fixedParent,
+# Data that is sealed under the key, and created with the random bytes 40, 41, 42, ... These bytes
+# become the seed, and then the first block of the cipher. The attributes are fixedTPM, fixedParent,
 # userWithAuth and noDA (00000452). The scheme is NULL. The two zeros at the end of the
 # authorization value are removed.
 random = bytes(range(0x40, 0x40 + 64))

@@ -16,8 +16,8 @@ def start(what, seed):
 
 
 def primaries():
-    """Creates a storage key in each hierarchy, and a child of each. Returns the keys' Names and the
-    children.
+    """Creates a storage key in each hierarchy, and a child of each key. Returns the keys' Names and
+    the children.
     """
     names, children = {}, {}
     for hierarchy, name in HIERARCHIES:

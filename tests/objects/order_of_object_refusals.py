@@ -43,7 +43,7 @@ restricted = said.create_primary(RH_OWNER, RESTRICTED_KEY, user_auth=b"r", data=
 session = tpm.start("A session with AES, that is bound to TPM_RH_OWNER", bind=RH_OWNER, aes=True)
 DECRYPTS = Use(session, 1 | DECRYPT)
 
-# A template whose authPolicy, attributes and scheme are wrong. The templates after it have only
+# A template whose authPolicy, attributes and scheme are wrong. The templates below it have only
 # some of these faults.
 WRONG = hmac_key(SHA1, HERE | OPEN | ObjectAttribute.RESTRICTED, ALG_NULL, auth_policy=b"p")
 FIXED_ALONE = sealed(SHA1, ObjectAttribute.FIXED_TPM | OPEN, scheme=SHA1)

@@ -54,7 +54,9 @@ def sensitive(data=b"forged", auth=b"", seed=b"s" * 32, kind=KEYEDHASH):
 
 @dataclass(frozen=True)
 class Forger:
-    """Makes private areas for a public area, as a forger who knows the parent's seed can."""
+    """Makes private areas for a public area, with the means of a forger who knows the parent's
+    seed.
+    """
 
     parent: int
     public: Public
@@ -64,8 +66,8 @@ class Forger:
         return tpm.script.device.objects[self.parent]
 
     def forge(self, text, iv=b"\x5a" * aes.BLOCK, name=None, algorithm=None):
-        """Returns a private area with this encrypted text. The area is computed from the equations,
-        without object_rules.py.
+        """Returns a private area with this encrypted text. The area is computed directly from the
+        equations, without object_rules.py.
         """
         seed = self.known.sensitive.seed_value
         algorithm = algorithm or self.known.public.name_algorithm

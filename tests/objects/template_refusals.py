@@ -27,7 +27,7 @@ tpm = Steps(__name__, __doc__)
 @dataclass(frozen=True)
 class Target:
     """A command with inPublic, and its handle. All parameters after inPublic are empty. The private
-    area of TPM2_Load is empty too, but it would be refused only later.
+    area of TPM2_Load is empty too, but the device would refuse it only after inPublic.
     """
 
     code: CC

@@ -1,5 +1,5 @@
-"""Writes unseal.tpm. TPM2_Unseal returns the data of a sealed object, if the object's authorization
-is given.
+"""Writes unseal.tpm. TPM2_Unseal returns the data of a sealed object, if the object authorizes the
+command.
 """
 
 from tests.common.steps import aes_key, PROTECTED, RESTRICTED_KEY, Steps

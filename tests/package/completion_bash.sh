@@ -1,4 +1,4 @@
-# Prints bash's completions: subcommands, options, files and command names of the program, and subcommands that
+# Prints bash's completions: the program's subcommands, options, files and command names, and subcommands that
 # only the help of a newer program lists.
 tests=$(cd "$(dirname "$0")/.." && pwd -P)
 . "$tests/common/cases.sh"

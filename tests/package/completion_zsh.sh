@@ -1,4 +1,4 @@
-# Prints zsh's completions for the same words as completion_bash.sh, with the explanation of each.
+# Prints zsh's completions for the same words as completion_bash.sh, each with its explanation.
 tests=$(cd "$(dirname "$0")/.." && pwd -P)
 . "$tests/common/cases.sh"
 needs zsh python3

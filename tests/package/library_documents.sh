@@ -6,7 +6,7 @@ tests=$(cd "$(dirname "$0")/.." && pwd -P)
 needs python3
 top=${tests%/*}
 
-# The modules are not installed, because this stand-in for the compiler finds no headers.
+# With this stand-in for the compiler, which finds no headers, the modules are not installed.
 mkdir none
 printf '#!/bin/sh\nexit 1\n' >none/cc
 chmod +x none/cc

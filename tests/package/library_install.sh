@@ -6,8 +6,8 @@ needs python3
 top=${tests%/*}
 unset PYTHONPATH DESTDIR
 
-# The modules are not installed, because this stand-in for the compiler finds no headers. The stand-in for
-# ldconfig writes its arguments to `asked`, and prints the content of `known`.
+# With this stand-in for the compiler, which finds no headers, the modules are not installed. The stand-in
+# for ldconfig writes its arguments to `asked`, and prints the content of `known`.
 mkdir bin
 printf '#!/bin/sh\nexit 1\n' >bin/cc
 cat >bin/ldconfig <<END

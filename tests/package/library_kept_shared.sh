@@ -33,7 +33,7 @@ cat >loads.py <<'PROGRAM'
 import ctypes
 import sys
 
-# Loads the shared object by its path alone, and after libtpmsim.so.0 of another folder.
+# Loads the shared object by its path: alone, and after the libtpmsim.so.0 of another folder.
 for path in sys.argv[1:]:
     ctypes.CDLL(path)
 maps = open("/proc/self/maps", encoding="utf-8").read().split()

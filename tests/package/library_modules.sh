@@ -1,5 +1,5 @@
-# Checks that `make install` installs the modules for libtss2 and for swtpm under the prefix, in folders where the
-# dynamic loader finds them.
+# Checks that `make install` installs the modules for libtss2 and for swtpm under the prefix, in folders in
+# which the dynamic loader finds them.
 tests=$(cd "$(dirname "$0")/.." && pwd -P)
 . "$tests/common/cases.sh"
 needs cc nm make python3 tpm2_startup swtpm tss2/tss2_tcti.h libtpms/tpm_library.h

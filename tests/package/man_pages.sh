@@ -1,6 +1,6 @@
-# Checks the man pages. man must print each of them without a warning. They must describe everything that the
-# program's help, the header and the documents describe. The program's page must contain each subcommand that
-# its --help lists, even a new one.
+# Checks the man pages. man must print each of them without a warning. The pages must describe everything
+# that the program's help, the header and the documents describe. The program's page must contain each
+# subcommand that its --help lists, even a new one.
 tests=$(cd "$(dirname "$0")/.." && pwd -P)
 . "$tests/common/cases.sh"
 needs python3 man groff

@@ -4,8 +4,8 @@
 
 The program prints each command of .github/workflows/*.yml and .gitlab-ci.yml in FOLDER. It also
 prints each path and each target of the Makefile that a command names but that does not exist; the
-status is 1 if there are any. Given --run, it also runs each command once in FOLDER, except those of
-apt-get and git, and ends at the first one that fails.
+status is 1 if there are any. Given --run, it also runs each command once in FOLDER, except commands
+that call apt-get or git, and ends at the first one that fails.
 """
 
 import pathlib

@@ -67,12 +67,12 @@ trial = tpm.trial("A trial session, with AES", bind=RH_OWNER, aes=True)
 
 
 def says(words, text, session=policy, attributes=CONTINUE_SESSION):
-    """Sends the command of the chapter with these parameters."""
+    """Sends the chapter's command with these parameters."""
     tpm(words).told(code, session, text, Use(hmac, attributes))
 
 
 def decrypted(words, text, session=policy):
-    """Sends the command of the chapter with these parameters, while the HMAC session decrypts the
+    """Sends the chapter's command with these parameters; the HMAC session is used to decrypt the
     first one.
     """
     says(words, text, session, DECRYPTS)

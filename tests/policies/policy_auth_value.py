@@ -1,6 +1,6 @@
 """Writes policy_auth_value.tpm. TPM2_PolicyAuthValue and TPM2_PolicyPassword: a user of the policy
-must show the entity's authorization value, in an HMAC or as a password. Both make the same
-digest.
+must use the entity's authorization value, in the key of an HMAC or as a password. Both result in
+the same digest.
 """
 
 from tests.common.policy_teller import PolicyTeller

@@ -1,5 +1,5 @@
-"""Writes policy_command_code.tpm. TPM2_PolicyCommandCode: the policy is only for one command. The
-parameter is the code of a command, which the device must implement.
+"""Writes policy_command_code.tpm. TPM2_PolicyCommandCode: the policy authorizes only one command.
+The parameter is the code of a command, which the device must implement.
 """
 
 from tests.common.policy_teller import PolicyTeller

@@ -1,6 +1,6 @@
-"""Writes policy_cp_hash.tpm. TPM2_PolicyCpHash: the policy is only for one command, with its
-handles and its parameters. The parameter of TPM2_PolicyCpHash is the cpHash of that command,
-with the session's hash algorithm.
+"""Writes policy_cp_hash.tpm. TPM2_PolicyCpHash: the policy authorizes only one command, with
+its handles and its parameters. The parameter of TPM2_PolicyCpHash is the cpHash of that
+command, with the session's hash algorithm.
 """
 
 import hashlib

@@ -1,6 +1,6 @@
-"""Writes policy_locality.tpm. TPM2_PolicyLocality: the policy is only for some localities. Its
-parameter has a bit for each of the localities 0 to 4. After several such commands, only the
-localities that are in all their parameters remain.
+"""Writes policy_locality.tpm. TPM2_PolicyLocality: the policy can be used only at some
+localities. Its parameter has a bit for each of the localities 0 to 4. After several such
+commands, only the localities that are in all their parameters remain.
 """
 
 from tests.common.policy_teller import PolicyTeller

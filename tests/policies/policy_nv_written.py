@@ -1,5 +1,6 @@
-"""Writes policy_nv_written.tpm. TPM2_PolicyNvWritten: the policy is for an NV index that is written
-(1), or for one that is not (0). The device checks this when the session authorizes a command.
+"""Writes policy_nv_written.tpm. TPM2_PolicyNvWritten: the policy requires the NV index to be
+written (1), or not to be written (0). The device checks this when the session authorizes a
+command.
 """
 
 import hashlib

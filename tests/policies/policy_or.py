@@ -10,8 +10,8 @@ tpm = PolicyTeller(__name__, __doc__)
 
 
 def other(count):
-    """Returns digests with the size of the session's policyDigest. The policyDigest is never equal
-    to one of them.
+    """Returns digests with the size of the session's policyDigest. None of them is ever equal to
+    the policyDigest.
     """
     return [digest(session.algorithm, b"branch %d" % it) for it in range(count)]
 
@@ -24,7 +24,7 @@ def joins(what, *branches):
 
 
 def again():
-    """Restarts the session. Returns its digest, which is then zeros."""
+    """Restarts the session. Returns its digest, which then consists of zeros."""
     tpm.restarts(session)
     return zeros(session)
 

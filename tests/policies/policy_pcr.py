@@ -1,4 +1,4 @@
-"""Makes policy_pcr.tpm. TPM2_PolicyPCR: the policy is for PCRs with their current values. Its
+"""Makes policy_pcr.tpm. TPM2_PolicyPCR: the policy requires PCRs to have their current values. Its
 parameters are the digest that these values must have, if any, and the selection.
 """
 
@@ -25,7 +25,9 @@ def values_digest(banks):
 
 
 def texts(words, *those, front=EMPTY):
-    """Sends TPM2_PolicyPCR with the pcrDigest `front`, followed by each of these byte strings."""
+    """For each of these byte strings, sends a TPM2_PolicyPCR whose pcrDigest is `front` and whose
+    remaining parameter bytes are that string.
+    """
     tpm.texts(words, CC.PolicyPCR, session, *(front + it for it in those))
 
 
@@ -46,7 +48,7 @@ for pcr in (0, 1, 7, 8, 16, 23):
     event(f"TPM2_PCR_Event into PCR {pcr}", pcr, b"event %d" % pcr)
 
 for session in tpm.each_session():
-    # These parameters must be refused. Afterwards the digest is still zeros.
+    # These parameters must be refused. Afterwards the digest must still consist of zeros.
     one, of_one = selection((SHA256, [0])), number(1, 4) + number(SHA256, 2)
     case = "pcrDigest that is cut: INSUFFICIENT/p1"
     texts(case, b"", b"\0", b"\0\x01", number(32, 2) + bytes(31), front=b"")

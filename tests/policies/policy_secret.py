@@ -1,6 +1,6 @@
-"""Writes policy_secret.tpm. TPM2_PolicySecret: the policy is for a user who knows the authorization
-value of an entity, and proves it now. Its parameters are nonceTPM, cpHashA, policyRef and
-expiration. All entries here are the empty password.
+"""Writes policy_secret.tpm. TPM2_PolicySecret: the policy requires a user who knows the
+authorization value of an entity, and proves it now. Its parameters are nonceTPM, cpHashA, policyRef
+and expiration. All entries here are the empty password.
 """
 
 from tests.common.policy_teller import ENTITIES, PolicyTeller
@@ -27,7 +27,7 @@ def refused_but_in_trial(words, *choices):
 
 
 def not_looked_at(what, outcome, **others):
-    """Sends wrong values of a parameter, which must be refused, except in a trial session."""
+    """Sends wrong values of a parameter. They must be refused, except in a trial session."""
     ((name, values),) = others.items()
     if not is_trial(session):
         refused(f"{what}: {outcome}", *({name: it} for it in values))

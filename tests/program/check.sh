@@ -1,6 +1,6 @@
 # Checks the output of `tpmsim check` for scripts: the number of each invalid line, its fault and column, and
 # what is expected there (docs/SCRIPTS.md, docs/LINES.md). Each tested line is between two valid ones. Lines are
-# written and printed with the escapes of printf.
+# written and printed with printf's escapes.
 tests=$(cd "$(dirname "$0")/.." && pwd -P)
 . "$tests/common/cases.sh"
 

@@ -1,5 +1,5 @@
-# Tests which command lines are valid: `run [--trace] SCRIPT`, with `-` for standard input; `asm LINE`, where
-# the line is one argument; and `line HEX`. kept_scripts.sh tests `run --image`, and check.sh tests `check`.
+# Tests which command lines are valid: `run [--trace] SCRIPT`, with `-` for standard input; `asm LINE`, with
+# the line as one argument; and `line HEX`. kept_scripts.sh tests `run --image`, and check.sh tests `check`.
 # Help and the version are printed on standard output. All other command lines must be refused, although the
 # files that they name exist and are scripts.
 tests=$(cd "$(dirname "$0")/.." && pwd -P)

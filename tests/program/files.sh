@@ -43,7 +43,8 @@ unseen() {
     report "$1" "$status"
 }
 
-# The device file /dev/full. If responses are lost, that fault is reported, even if an invalid line follows.
+# The device file /dev/full. If responses are lost, the program reports that fault, even if an invalid line
+# follows.
 exec 4>/dev/full
 unseen 'a full device' script
 unseen 'a full device, and no response' empty

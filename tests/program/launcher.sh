@@ -10,8 +10,8 @@ copy="$room/a copy"
 lib=$copy/crates/tpm_line/src/lib.rt
 kept=$room/kept
 
-# Makes a folder with the tools that the scripts need, except `rt`. The tools in other folders are stand-ins. A
-# test may put one of these folders first on the path.
+# Makes a folder with the tools that the scripts need, except `rt`. The other folders contain stand-ins. A test
+# may put one of these other folders first on the path.
 mkdir "$room/tools" "$room/rt" "$room/failing" "$room/other_machine" "$room/no_checksum"
 for tool in awk cat chmod cmp cp dirname find git grep head mkdir mktemp mv readlink rm sed sh \
     sha256sum sort tar touch uname wc xargs; do

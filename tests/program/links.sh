@@ -1,6 +1,6 @@
 # Checks that every link of every document leads to a file, and every #anchor to a heading of that file. In test
-# documents, each broken link must be reported with its line number. The page of each command and of each
-# general check must have links to the definition and the code.
+# documents, each broken link must be reported with its line number. The pages must link each command and each
+# general check to its definition and its code.
 tests=$(cd "$(dirname "$0")/.." && pwd -P)
 . "$tests/common/cases.sh"
 needs git

@@ -1,8 +1,7 @@
 # Checks that the crates, functions and types that public_calls.txt requires exist, or that docs/DECISIONS.md
 # names their replacements. That page must list no other replacements. Then the test introduces each kind
-# of mismatch into two small crates, which have such a list and page of their own. public_calls.py must report
-# each mismatch.
-# shellcheck disable=SC2016 # the backquotes belong to a document
+# of mismatch into two small crates, which have their own list and page. public_calls.py must report each
+# mismatch. shellcheck disable=SC2016 # the backquotes belong to a document
 tests=$(cd "$(dirname "$0")/.." && pwd -P)
 . "$tests/common/cases.sh"
 needs python3

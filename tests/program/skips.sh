@@ -48,8 +48,8 @@ ln -s "$program" "$copy/crates/tpmsim_lists/out/tpmsim_lists"
 played 'tests that fail, and one that cannot run' is_wrong ends_otherwise gives_no_reason \
     gives_an_empty_reason goes_on cannot_run
 
-# Makes a folder with links to everything on the path. Each case removes some tools from it, and runs the
-# tests that need them. Stand-ins that do nothing replace the tools that some machines lack.
+# Makes a folder with links to everything on the path. Each case removes some tools from this folder, and
+# runs the tests that need them. Stand-ins that do nothing replace the tools that some machines lack.
 mkdir "$room/path"
 IFS=:
 for folder in $PATH; do

@@ -62,7 +62,7 @@ printf 'do GetRandom 4\nwhat\ndo GetRandom 4\n' >bad.tpm
 run 'a bad line' run --state state bad.tpm
 grep -c '^cmd' state/journal
 
-# If the script does not exist, no device is made.
+# A missing script: no device is made.
 run 'no script' run --state none none.tpm
 [ ! -e none ] || echo 'a folder was made'
 

@@ -1,5 +1,6 @@
 # Tests a device in a folder whose journal has grown to 262,144 bytes. The next command restarts the journal
-# with the whole state of the device. Then the device must continue like one that is not kept in a folder.
+# with the whole state of the device. After that, the device must behave like one that is not kept in a
+# folder.
 tests=$(cd "$(dirname "$0")/.." && pwd -P)
 . "$tests/common/cases.sh"
 

@@ -1,5 +1,6 @@
-# Checks that the program refuses to open a device in a folder in two cases: one of its paths is not a folder
-# or file of the user, or the journal is damaged or missing. The program must then change nothing.
+# Checks that the program refuses to open a device in a folder in two cases: one of the device's paths is not
+# a folder or file of the user, or the journal is damaged or missing. In both cases, the program must change
+# nothing.
 tests=$(cd "$(dirname "$0")/.." && pwd -P)
 . "$tests/common/cases.sh"
 needs python3
@@ -19,7 +20,7 @@ run 'an empty folder, power' power empty
 run 'an empty folder, script' script empty
 ls empty
 
-# Links, folders and other kinds of files that are wrong at the paths of the device's files.
+# Links, folders and files of other wrong kinds at the paths of the device's files.
 echo elsewhere >elsewhere
 cp elsewhere elsewhere.kept
 for name in journal lock journal.new; do

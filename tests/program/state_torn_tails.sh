@@ -1,8 +1,8 @@
 # A crash of the host can leave three things at the end of a device's journal: an incomplete entry, an
 # incomplete entry followed by zeros, or only zeros. The next command or power cycle removes these bytes, and
-# reports their number on standard error. Anything else is damage. If there is damage, the program refuses the
-# journal and leaves it unchanged. `power --cut` then drops everything after the last complete entry before the
-# damage, and reports the dropped size.
+# reports their number on standard error. Anything else is damage, which makes the program refuse the journal
+# and leave it unchanged. `power --cut` then drops everything after the last complete entry before the damage,
+# and reports the dropped size.
 tests=$(cd "$(dirname "$0")/.." && pwd -P)
 . "$tests/common/cases.sh"
 

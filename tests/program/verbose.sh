@@ -1,5 +1,5 @@
-# Tests the environment variable TPMSIM_VERBOSE=1, which adds a second line to the report of a fault, with the
-# path and the system's reason. The first line stays unchanged.
+# Tests the environment variable TPMSIM_VERBOSE=1. With it, the report of a fault has a second line with the
+# path and the system's reason. The first line is the same as without the variable.
 tests=$(cd "$(dirname "$0")/.." && pwd -P)
 . "$tests/common/cases.sh"
 needs python3

@@ -1,7 +1,8 @@
-# Tests tools/audit.py, which judges logs. It finds nothing wrong in the log of any script of tests/ and examples/.
-# For the log of examples/disk_unlock.tpm, it prints the whole report. Other cases are logs that are altered, cut
-# or too long, or that begin with another device; scripts with an invalid line; and wrong command lines. The last
-# cases are Python models with one deliberate mistake each, which only the comparison with the history can detect.
+# Tests tools/audit.py, which judges logs. It finds nothing wrong in the logs of the scripts of tests/ and
+# examples/. For the log of examples/disk_unlock.tpm, it prints the whole report. Other cases are logs that are
+# altered, truncated or too long, or that begin with another device; scripts with an invalid line; and wrong
+# command lines. The last cases are Python models with one deliberate mistake each, which only the comparison
+# with the history can detect.
 tests=$(cd "$(dirname "$0")/.." && pwd -P)
 . "$tests/common/cases.sh"
 needs python3

@@ -17,9 +17,7 @@ from tpmsim.model import player
 
 
 def printed(script):
-    """Returns the output of the Python device for a script. If the device is patched, the patches
-    apply.
-    """
+    """Returns the output of the Python device, including any patches to it, for a script."""
     return "".join(f"{it}\n" for _, it in player.played(script)[0]).encode()
 
 

@@ -17,7 +17,7 @@ from tests.common.shims import ran
 
 TOP = pathlib.Path(__file__).resolve().parents[2]
 
-# Longer scripts consist mostly of altered commands. Other tests explain them.
+# Longer scripts consist mostly of altered commands, whose explanations other tests check.
 MOST_BYTES = 20_000
 SHOWN = 8
 

@@ -1,10 +1,10 @@
-"""Interrupts commands while a device at the other end of a connection executes them:
+"""Interrupts calls that send a command to a device at the other end of a connection:
 
     tools/python.sh tests/python/in_step.py PROGRAM
 
-Each command is interrupted at each line of Python that it executes. One command is answered too
-late. Afterwards no command may get the response to another one: the connection is closed, and the
-caller gets DeviceEnded. The device ChildDevice runs PROGRAM.
+Each call is interrupted at each line of Python that it executes. One command is answered too late.
+Afterwards no command may get the response to another one: the connection is closed, and the caller
+gets DeviceEnded. The device ChildDevice runs PROGRAM.
 """
 
 import os
@@ -141,7 +141,8 @@ def told(device, size):
 
 
 def at_each_line(made, act):
-    """Interrupts `act` at each line that it executes, once per line. Returns the different results.
+    """Calls `act` once for each line that it executes, and interrupts it at that line. Returns the
+    different results.
     """
     said, count = set(), 1
     while True:
@@ -155,7 +156,9 @@ def at_each_line(made, act):
 
 
 def late(made):
-    """Returns the results of a timeout, and of two commands after the late response has arrived."""
+    """Returns the result of a command that times out, and those of two commands after the late
+    response has arrived.
+    """
     is_over.clear()
     with made() as device:
         device.data.socket.settimeout(SECONDS)

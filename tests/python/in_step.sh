@@ -1,4 +1,5 @@
-# Interrupts commands of devices that Python uses over a connection. See python/in_step.py.
+# Interrupts commands that Python sends to devices over a connection. See
+# python/in_step.py.
 tests=$(cd "$(dirname "$0")/.." && pwd -P)
 . "$tests/common/cases.sh"
 needs python3

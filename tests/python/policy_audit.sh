@@ -1,10 +1,10 @@
-# Tests tools/audit.py with policies as a reviewer writes them. Their digests are compared with published digests,
-# and with digests that Python's hashlib computes from the bytes below. Then the audit judges logs: the log of
-# tests/policies/written_policies.tpm, with its whole report, the log of tests/sessions/lost_grounds.tpm, and the
-# log of a device that is not new. In other cases a Python model has one deliberate mistake, or a hash function is
-# broken, so that a use is accepted without satisfying its policy. The last cases are files that are not valid
-# policies.
-# shellcheck disable=SC2154 # `eval` sets the hashes
+# Tests tools/audit.py with policies in the form in which a reviewer writes them. Their digests are compared
+# with published digests, and with digests that Python's hashlib computes from the bytes below. Then the audit
+# judges logs: the log of tests/policies/written_policies.tpm, with its whole report, the log of
+# tests/sessions/lost_grounds.tpm, and the log of a device that is not new. In other cases, because of one
+# deliberate mistake in a Python model or a broken hash function, a use is accepted although it does not satisfy
+# its policy. The last cases are files that are not valid policies. shellcheck disable=SC2154 # `eval` sets the
+# hashes
 tests=$(cd "$(dirname "$0")/.." && pwd -P)
 . "$tests/common/cases.sh"
 needs python3
@@ -19,8 +19,8 @@ endorsement=837197674484b3f81a90cc8d46a5d724fd52d76e06520b64f2a1da1b331469aa
 index=000b000102030405060708090a0b0c0d0e0f101112131415161718191a1b1c1d1e1f
 comparisons='eq neq sgt ugt slt ult sge uge sle ule bs bc'
 
-# Computes digests with Python's hashlib only. Each input line contains a name, a hash algorithm, and the parts of
-# the text to hash: each is hex, or the name of an earlier digest.
+# Computes digests, using only Python's hashlib. Each input line contains a name, a hash algorithm, and the
+# parts of the text to hash: each is hex, or the name of an earlier digest.
 comparison_hashes() {
     number=0
     before=$zeros_1

@@ -11,7 +11,8 @@ if is_there cc && is_there nm; then
     export TPMSIM_SIMULATOR
 fi
 
-# unit_tests PATTERN FILE: runs the unit tests in the files of a pattern, and writes their output to FILE.
+# unit_tests PATTERN FILE: runs the unit tests in the files that match PATTERN, and writes their output to
+# FILE.
 unit_tests() {
     TPMSIM=$program python3 -W error::ResourceWarning -m unittest discover -s "${tests%/*}/python/tests" \
         -t "${tests%/*}/python/tests" -p "$1" 2>"$2"

@@ -6,7 +6,7 @@ The program audits each script of tests/ and examples/, and COUNT random scripts
 from SEED on. Each random script is audited twice more: starting from the device's image at a power
 cycle, and with some of its lines altered. If a script ends with a bad line, the audit must agree up
 to that line. The program names the logs whose audit is wrong, and saves their scripts. At the end
-it prints the counts. The status is 1 if an audit is wrong.
+it prints the numbers of audits. The status is 1 if an audit is wrong.
 """
 
 import pathlib
@@ -42,8 +42,8 @@ def wanted_of(error):
 
 
 def from_image(script, output):
-    """Returns a log that begins at a power cycle: the image of the device there, the rest of the
-    script, and the rest of its output. Returns None if there is no power cycle.
+    """Returns a log that begins at a power cycle: the device's image at that point, the rest of the
+    script, and the rest of its output. Returns None if the script has no power cycle.
     """
     lines = script.splitlines()
     cycles = [at for at, line in enumerate(lines) if line == b"power"]

@@ -32,7 +32,7 @@ VALUE = policy.after_auth_value(SHA1, bytes(20))
 MIDDLE = UNSEAL[10:] + VALUE[:10]
 
 # With SHA-256: the bytes that TPM2_PolicySecret hashes before policyRef, for the owner and for the
-# platform, and the digests of two policies.
+# platform; and the digests of two policies.
 OWNER = bytes(32) + bytes.fromhex("0000015140000001")
 PLATFORM = bytes(32) + bytes.fromhex("000001514000000c")
 BY_OWNER = digest(SHA256, digest(SHA256, OWNER))
@@ -108,8 +108,8 @@ WEAK = (
 
 
 def weakly(other):
-    """In all code for policies, replaces the hash of each text in `other` with the hash given
-    there.
+    """In all code that computes policies, replaces the hash of each text in `other` with the hash
+    that `other` gives for it.
     """
     stack = ExitStack()
     weak = lambda algorithm, text: other.get(text) or digest(algorithm, text)

@@ -25,7 +25,7 @@ restore_pcrs, start_session = Model.restore_pcrs, Model.start_auth_session
 
 
 def unless(refused):
-    """Returns a function that checks the use of a policy, but ignores faults with this response
+    """Returns a function that checks the use of a policy, but ignores refusals with this response
     code.
     """
 
@@ -147,8 +147,8 @@ def script_of(name):
 
 
 def fault_of(name):
-    """Returns the fault that the audit finds in the Python device's output for a script. If the
-    device is patched, the patches apply.
+    """Returns the fault that the audit finds in the output for a script of the Python device,
+    including any patches to it.
     """
     script = script_of(name)
     return audited(script, printed(script))[1]

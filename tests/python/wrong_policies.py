@@ -1,4 +1,4 @@
-"""Wrong Python devices with one error each. The audit compares the log of each device with the same
+"""Wrong Python devices with one error each. The audit compares each device's log with the same
 wrong device, and also judges the log by policies in words:
 
     wrong_policies.py POLICIES
@@ -63,8 +63,8 @@ WRONG = (
 
 
 def policies_alone():
-    """Turns off the audit of what authorizes each command, and the comparison of the device with
-    its history.
+    """Turns off two parts of the audit: its check of what authorizes each command, and the
+    comparison of the device with its history.
     """
     stack = ExitStack()
     ground = Finding(True, "it is not judged")

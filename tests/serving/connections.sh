@@ -1,5 +1,6 @@
-# Plays scripts over the socket, with a new connection for each command. The sessions, objects and PCRs of one
-# connection still exist in the next one, and the responses are the same as when the program plays the script.
+# Plays scripts over the socket, with a new connection for each command. Sessions, objects and PCR values
+# persist from one connection to the next, and the responses are the same as when the program plays the
+# script.
 tests=$(cd "$(dirname "$0")/.." && pwd -P)
 . "$tests/common/cases.sh"
 . "$tests/common/served.sh"

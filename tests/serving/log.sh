@@ -9,7 +9,7 @@ startup=$(words 'Startup 0')
 random=$(words 'GetRandom 8')
 change=$(words 'HierarchyChangeAuth OWNER pw:- 6f776e')
 
-# A device that has no image yet. An incomplete command is not logged.
+# A device that does not have an image yet. An incomplete command is not logged.
 umask 000
 options='--log log'
 begin 3

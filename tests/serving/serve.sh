@@ -23,8 +23,8 @@ talk 'ten commands at once' 4096 "$startup" "$random" "$random" "$random" "$rand
     "$random" "$random" "$random" "$random"
 ended 'one connection'
 
-# A connection ends within a command. The incomplete command is dropped, and the device serves the next
-# connection. The effects of the complete commands remain.
+# A connection ends in the middle of a command. The incomplete command is dropped, and the device serves the
+# next connection. The effects of the complete commands remain.
 rm -f image
 begin 3
 talk 'half a command' 4096 "$startup" 80010000
@@ -32,8 +32,8 @@ talk 'nothing' 4096
 talk 'the next connection' 4096 "$startup" "$random"
 ended 'three connections'
 
-# Two connections send their bytes alternately. The first connection is served to its end, and then the second
-# one. Each client gets the responses to its own commands.
+# Two connections send their bytes alternately. The first connection is served until it ends, and then the
+# second. Each client gets the responses to its own commands.
 rm -f image
 begin 2
 echo 'two connections that take turns with each byte:'

@@ -1,5 +1,5 @@
 # Tests clients that disconnect early, clients that make other clients wait, and a long connection. The program
-# serves connections one after another, each to its end.
+# serves connections one after another, each until it ends.
 tests=$(cd "$(dirname "$0")/.." && pwd -P)
 . "$tests/common/cases.sh"
 . "$tests/common/served.sh"
@@ -42,7 +42,7 @@ for kind in idle unread; do
     ended 'two connections'
 done
 
-# A client sends five million bytes of commands, which are answered while it sends.
+# A client sends five million bytes of commands, and gets responses while it is still sending.
 rm -f image
 begin 3
 talk 'an NV index' 4096 "$startup" \

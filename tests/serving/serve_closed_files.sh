@@ -1,6 +1,6 @@
-# Tests `serve` without permission to read the device's files, or to write to their folder. If the present user is
-# root, who has all permissions, the program runs as the user nobody. It is copied to a folder that everybody may
-# write to, like /tmp.
+# Tests `serve` without permission to read the device's files, or to write to their folder. If the current user
+# is root, who has all permissions, the program runs as the user nobody. It is copied to a folder that everybody
+# may write to, like /tmp.
 tests=$(cd "$(dirname "$0")/.." && pwd -P)
 . "$tests/common/cases.sh"
 . "$tests/common/served.sh"

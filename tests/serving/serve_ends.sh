@@ -1,4 +1,4 @@
-# Tests connections that end with a fault, because the program cannot read from them or write to them.
+# Tests connections that end with a fault because the program cannot read from them or write to them.
 # Afterwards the image has the effects of the earlier commands, and the next connection is served.
 tests=$(cd "$(dirname "$0")/.." && pwd -P)
 . "$tests/common/cases.sh"

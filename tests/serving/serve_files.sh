@@ -41,7 +41,7 @@ ln -s itself itself
 tried 'a link to a folder' leads_to_folder
 tried 'a link to itself' itself
 
-# meanwhile LABEL LINE: serves a connection, and runs the shell line LINE meanwhile.
+# meanwhile LABEL LINE: runs the shell line LINE while a connection is served.
 meanwhile() {
     begin 1
     echo "$1:"
@@ -49,8 +49,8 @@ meanwhile() {
     ended 'one connection'
 }
 
-# The image is removed or blocked while the device is served. If it was removed, it is written again. If it
-# cannot be written, the program reports that.
+# The image is removed or blocked while the device is served. If the image was removed, it is written again. If
+# it cannot be written, the program reports that.
 cp kept image
 meanwhile 'the image is removed' 'rm image'
 [ ! -f image ] || echo 'the image is there again'
@@ -73,7 +73,8 @@ for kind in removed folder; do
 done
 rmdir socket
 
-# Another file, or another run's socket, replaces the socket. The program does not remove it at the end.
+# Another file, or another run's socket, replaces the socket. At the end, the program does not remove that file
+# or socket.
 rm -f image
 meanwhile 'a file takes the place of the socket' 'rm socket; echo taken >socket'
 cat socket

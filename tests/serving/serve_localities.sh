@@ -1,5 +1,5 @@
 # Serves a device at locality 3 and at locality 4. PCR 17 shows the locality: localities 2 to 4 can extend it,
-# and locality 4 can reset it. Each run of the device may have another locality.
+# and locality 4 can reset it. Each run may serve the device at a different locality.
 tests=$(cd "$(dirname "$0")/.." && pwd -P)
 . "$tests/common/cases.sh"
 . "$tests/common/served.sh"

@@ -56,7 +56,7 @@ ln -s nowhere link
 tried 'a link in place of a socket' link
 [ -L link ] || echo 'the link is gone'
 
-# A socket's path may have at most 107 bytes, and its folder's path at most 103.
+# The path of a socket may have at most 107 bytes, and the path of the socket's folder at most 103.
 folder_of_103=$(printf '%0102d' 0)
 mkdir "$folder_of_103" "$folder_of_103"0
 tried 'a name of 107 bytes' "$(printf '%0107d' 0)"

@@ -170,7 +170,7 @@ tpm.unseal("TPM2_Unseal by the policy", both, SECRET, session)
 tpm.unseal("TPM2_Unseal by the password", both, SECRET, PIN)
 tpm.flushed(both)
 
-# The policies are in the order of docs/table/policies.md.
+# The policies are in the same order as in docs/table/policies.md.
 BRANCHES = AFTER_PCR_16, AFTER_AUTH_VALUE
 EITHER = policy.after_or(SHA256, BRANCHES)
 ONE_TO_THREE, THREE_OR_FOUR = 0b01110, 0b11000

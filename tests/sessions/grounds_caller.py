@@ -45,7 +45,9 @@ class GroundsCaller(PolicyTeller):
     def sealed_object(
         self, what, auth_policy=b"", attributes=HERE, algorithm=SHA256, value=PIN, by=RH_PLATFORM
     ):
-        """Creates sealed data, and returns its handle. Data of the platform survives TPM2_Clear."""
+        """Creates sealed data, and returns its handle. Data in the platform hierarchy survives
+        TPM2_Clear.
+        """
         template = sealed(algorithm, attributes, auth_policy=auth_policy)
         return self.create_primary(what, by, template, user_auth=value, data=SECRET)
 
@@ -66,7 +68,7 @@ class GroundsCaller(PolicyTeller):
         self.says("SUCCESS", self.flush(handle))
 
     def flushed(self, *those):
-        """Flushes sessions, and objects by their handles."""
+        """Flushes sessions and objects. Each object is named by its handle."""
         objects = [it for it in those if isinstance(it, int)]
         name = "object" if len(objects) == len(those) else "session"
         what = "They are flushed" if len(those) > 1 else f"The {name} is flushed"

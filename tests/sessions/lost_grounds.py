@@ -1,6 +1,6 @@
 """Writes lost_grounds.tpm. How the grounds of tests/sessions/grounds.tpm are lost. In each case the
 command is refused, by G9 unless stated otherwise. Next to it the same command is sent while the
-condition holds. How a session itself is lost is in tests/sessions/replays.tpm.
+condition holds. tests/sessions/replays.tpm shows how a session is lost.
 """
 
 from tpmsim.standard import digests
@@ -368,7 +368,7 @@ lost("The value is there in plain: AUTH_FAIL/s1", by_password())
 tpm.does("The value is in the key", by_value())
 demanding = handle
 
-# Right commands that are refused, because the failed tries of this script have caused a lockout.
+# Right commands that are refused because the failed tries of this script have caused a lockout.
 tpm.chapter("LOCKOUT. Who would compare the value of a protected entity is refused.")
 bound = tpm.start("A session bound to the object", openly)
 tpm.set_protection("maxTries is 1, and there were more", 1, 1000, 1)

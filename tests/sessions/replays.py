@@ -28,8 +28,8 @@ def with_random(what, seed, prepared):
 
 
 class Start:
-    """A TPM2_StartAuthSession with certain random bytes. It can start its session again, with the
-    same buffer or with another nonce.
+    """A TPM2_StartAuthSession that is executed with given random bytes. Methods start its session
+    again, with the same buffer or with another nonce.
     """
 
     def __init__(self, what, bind=RH_NULL, kind=SE_HMAC):
@@ -54,7 +54,9 @@ class Start:
         self.session.nonce_tpm = self.at_first.nonce_tpm
 
     def otherwise(self, what, seed=SEED, nonce=None):
-        """Starts another session, which the caller does not use, in the slot of this session."""
+        """Starts another session in the slot of this session. The caller does not use the other
+        session.
+        """
         assert self.sent(what, seed, nonce or self.nonce).handle == self.session.handle
 
 

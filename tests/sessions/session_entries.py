@@ -19,7 +19,9 @@ def entry(session, attributes=STAYS, nonce=b"", hmac=b""):
 
 
 def with_entries(code, handles, parameters):
-    """Returns a function that makes the command with any entries, without computing HMACs."""
+    """Returns a function that makes the command with the entries passed to it, without
+    computing HMACs.
+    """
     prepared = tpm.prepare(code, handles, parameters)
     return lambda *entries: prepared.but(entries=list(entries))
 

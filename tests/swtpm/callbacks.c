@@ -24,7 +24,7 @@ unsigned char *read_file(const char *path, size_t *size) {
     must(fseek(file, 0, SEEK_END) == 0, "a file has no end");
     long end = ftell(file);
     must(end >= 0 && fseek(file, 0, SEEK_SET) == 0, "a file has no start");
-    /* One byte longer than the file, so that a test can add a byte to the state */
+    /* The block is one byte longer than the file, so that a test can add a byte to the state. */
     unsigned char *bytes = calloc(1, (size_t)end + 1);
     must(bytes != NULL && fread(bytes, 1, (size_t)end, file) == (size_t)end, "a file is not read");
     must(fclose(file) == 0, "a file is not closed");

@@ -1,6 +1,6 @@
-"""A device in the program of caller.c, which takes the role of swtpm and calls libtpms.so.0. The
-program reads commands as lines, and prints the responses. The device's states are files in the
-program's working folder.
+"""A device in the program built from caller.c, which takes the role of swtpm and calls
+libtpms.so.0. The program reads commands as lines, and prints the responses. The device's states
+are files in the program's working folder.
 """
 
 import pathlib
@@ -16,8 +16,8 @@ class Answered(NamedTuple):
 
 
 class Called:
-    """A running program of caller.c, with a library and a working folder. Its environment contains
-    only the variables that are passed.
+    """A running program built from caller.c, with a library and a working folder. Its environment
+    contains only the variables that are passed.
     """
 
     def __init__(

@@ -92,7 +92,7 @@ static void get_state(const char *type, const char *path) {
 }
 
 /* Tries to set a state. The library must refuse the state, and log the refusal in one line. Adds 1
- * to `wrong` if the state is not refused, and 1 if the log does not have exactly one line. */
+ * to `wrong` if the state is not refused, and another 1 if the log has not exactly one line. */
 static void must_be_refused(const char *type, const unsigned char *bytes, size_t size, size_t *wrong) {
     if (library.set_state(type_of(type), bytes, (uint32_t)size) != TPM_FAIL) ++*wrong;
     if (logged_lines() != 1) ++*wrong;

@@ -14,8 +14,7 @@ void tell_disk(const char *state) {
     is_full = is_broken || strcmp(state, "fills") == 0;
 }
 
-/* When the disk is full, a write stores all bytes except the last one. The log is not on that
- * disk. */
+/* If the disk is full, a write stores all bytes except the last. The log is not on that disk. */
 ssize_t write(int descriptor, const void *bytes, size_t size) {
     size_t taken = is_full && descriptor > STDERR_FILENO ? size - (size > 0) : size;
     if (taken > 0 || size == 0) return syscall(SYS_write, descriptor, bytes, taken);

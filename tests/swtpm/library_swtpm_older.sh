@@ -1,8 +1,8 @@
 # Tests the states of a running device that an older libtpms.so.0 wrote. Its volatile state was the journal
 # since power-on (swtpm/journal_state), which swtpm/make_journal_state.py wrote with the older library. The
 # device must continue with its sessions, objects, the context of a session, and a dynamic launch. Damaged
-# states must be refused. A journal with the context of an object (swtpm/journal_of_objects) is also refused,
-# because the completing layer now writes such a context in another form.
+# states must be refused. A journal that contains an object's context (swtpm/journal_of_objects) is also
+# refused, because the completing layer now writes object contexts in another form.
 tests=$(cd "$(dirname "$0")/.." && pwd -P)
 . "$tests/common/cases.sh"
 . "$tests/common/swtpm.sh"

@@ -1,6 +1,6 @@
 # Tests a device in swtpm that is suspended and continues in another process. Its sessions, its objects and the
-# contexts of the completing layer are used before and after the suspension. Then random commands are executed on a
-# device that is suspended and on one that never is (tools/soak/suspended.sh executes more).
+# contexts of the completing layer are used before and after the suspension. Then random commands are executed
+# on a device that is suspended and on one that is never suspended (tools/soak/suspended.sh executes more).
 tests=$(cd "$(dirname "$0")/.." && pwd -P)
 . "$tests/common/cases.sh"
 . "$tests/common/swtpm.sh"

@@ -5,7 +5,7 @@ object:
 
     tools/python.sh tests/swtpm/make_journal_state.py CALLER LIBRARY SHIM
 
-CALLER is the program of caller.c, LIBRARY is that older libtpms.so.0, and SHIM is built from
+CALLER is built from caller.c, LIBRARY is that older libtpms.so.0, and SHIM is built from
 common/clock.c. The power comes on when the clock is at 1,000 seconds. The last command comes at
 1,009 seconds. The files must never be written again.
 """

@@ -3,10 +3,10 @@ never suspended:
 
     tools/python.sh tests/swtpm/suspended.py CALLER LIBRARY SHIM FIRST LAST COUNT
 
-CALLER is the program of caller.c, LIBRARY is a libtpms.so.0, and SHIM is built from common/host.c.
-The scripts of the seeds FIRST to LAST have COUNT commands each. For half of them the Python device
-computes the expected responses and state texts. The other half use the completing layer, and a
-device that is not suspended determines the expected responses. A device that is resumed continues
+CALLER is built from caller.c, LIBRARY is a libtpms.so.0, and SHIM is built from common/host.c. The
+scripts with the seeds FIRST to LAST have COUNT commands each. For half of them the Python device
+computes the expected responses and state texts. The other half use the completing layer, and the
+expected responses are those of a device that is not suspended. A device that is resumed continues
 in another process.
 """
 
@@ -75,8 +75,8 @@ class Pair:
             device.say(f"loc {number}")
 
     def cycle_power(self) -> None:
-        """Power-cycles the devices. Each continues with its present permanent state, because the
-        stored permanent state has an older Clock.
+        """Power-cycles the devices. Each device continues with its current permanent state,
+        because the stored permanent state has an older Clock.
         """
         for device in self.devices:
             device.done("get permanent permanent", "GetState")
@@ -102,8 +102,8 @@ class Pair:
 
 
 def of_device(pair: Pair, chance: random.Random, count: int) -> Iterator[list[bytes]]:
-    """Yields each response with the response of the Python device, and the state texts at each
-    suspension.
+    """Yields each response with the Python device's response, and, at each suspension, both state
+    texts.
     """
     writer, played = random_script.Writer(chance.randrange(2**32)), 0
     locality, seed, elapsed = 0, b"", 0

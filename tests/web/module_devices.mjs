@@ -26,7 +26,8 @@ function perform(player, lines) {
     return player.printed.slice(from).join('');
 }
 
-/** Returns what a call writes to the buffer for texts. @param {string} call @param {bigint[]} before the call's arguments before the buffer */
+/** Returns the text that a call writes to the buffer for texts. @param {string} call @param
+ * {bigint[]} before the call's arguments before the buffer */
 function text(call, ...before) {
     const size = Number(calls[call](module.to('holder'), ...before, module.to('text'), 65536n));
     return module.front('text', size);

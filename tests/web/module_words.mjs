@@ -68,8 +68,8 @@ function printCodes(module, codes) {
     }
 }
 
-/** Returns the line for a command's buffer, or an empty line if there is none. @param {Module}
- * module @param {Uint8Array} command */
+/** Returns the line for a command's buffer, or an empty line if the buffer has no line. @param
+ * {Module} module @param {Uint8Array} command */
 function spelled(module, command) {
     const buffer = module.lend(command);
     const size = Number(module.calls.line_spell(...buffer, module.to('spelled'), 65536n));

@@ -1,6 +1,6 @@
 // Tests whether people who use only keys, or a screen reader, can use the page in Chromium:
-// page_access.mjs ADDRESS. It prints a line for each condition, and the status is 1 if one does not
-// hold.
+// page_access.mjs ADDRESS. It prints a line for each condition, and the status is 1 if a condition
+// does not hold.
 
 import { Browser, CTRL, SHIFT, sleep } from "./browser.mjs";
 
@@ -158,7 +158,8 @@ async function tabTo(page, id, modifiers = 0) {
   }
 }
 
-/** Does the tutorial with keys alone: types the first task, with completions, and shows the solutions of the others. */
+/** Does the tutorial with only the keyboard: types the solution of the first task, with
+ * completions, and has the page show the solutions of the others. */
 async function tutorial() {
   const page = await open();
   const wrong = [];

@@ -1,5 +1,5 @@
-// Tests the page in Chromium without a window: page_browser.mjs ADDRESS. It prints a line for each
-// condition, and the status is 1 if one does not hold.
+// Tests the page in a headless Chromium: page_browser.mjs ADDRESS. It prints a line for each
+// condition, and the status is 1 if a condition does not hold.
 
 import fs from "node:fs";
 import { ALT, Browser, CTRL, sleep } from "./browser.mjs";
@@ -156,7 +156,7 @@ async function refusal(page) {
   say(device.includes("01000001") && device.includes("not written") && device.includes("changed"), "the device after it has the index, set off", device.slice(0, 300));
 }
 
-/** Checks a script of tests/sessions in which sessions encrypt. */
+/** Checks a script from tests/sessions in which sessions encrypt parameters. */
 async function encrypted(page) {
   const lines = fs.readFileSync("../../sessions/session_encryption.tpm", "utf8").split("\n").slice(0, 60);
   await page.write(lines.join("\n"));
@@ -178,7 +178,7 @@ const paste = (page, text) => page.value(`(() => {
   if (document.getElementById("text").dispatchEvent(event)) document.execCommand("insertText", false, ${JSON.stringify(text)});
 })()`);
 
-// The output of several programs for one command. The last characters of the command also look like
+// The same command as several programs dump it. The last characters of the command also look like
 // hex.
 const DUMPS = {
   "hexdump -C": "00000000  80 01 00 00 00 12 00 00  01 7b 00 08 61 62 63 64  |.........{..abcd|\n00000010  65 66                                             |ef|\n00000012\n",
@@ -223,7 +223,7 @@ async function pasted(page) {
   say((await script(page)) === "cmd 80010000000c000001440000\n", "a dropped command in binary becomes a line", await script(page));
 }
 
-/** Checks the page for a log that tools/explain.py explained. Its address is the next argument. */
+/** Checks the page that tools/explain.py made for a log. Its address is the next argument. */
 async function explained() {
   const page = await browser.open(process.argv[3]);
   pages.push(page);
@@ -271,7 +271,7 @@ async function lessons(page) {
   say(await page.value("document.getElementById('lesson').hidden"), "the tutorial ends");
 }
 
-/** Performs the last task as a reader does, and leaves and resumes a lesson. */
+/** Performs the last task like a reader, and then leaves and resumes a lesson. */
 async function lessonsLeft() {
   const page = await open();
   const isHidden = () => page.value("document.getElementById('lesson').hidden");
@@ -364,7 +364,7 @@ async function files(page) {
   say((await bad(page))[0]?.startsWith("no device: "), "a damaged image is said to be none", (await bad(page)).join(" "));
 }
 
-/** Returns how many times slower this machine is at present than the one for which the time limits
+/** Returns how many times slower this machine currently is than the one for which the time limits
  * were chosen. */
 async function slowness(page) {
   const took = await page.value(`(() => {

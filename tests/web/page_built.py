@@ -99,7 +99,7 @@ def broken_links(facts):
             yield link
 
 
-# The colors of texts, each with the backgrounds against which it needs the contrast of WCAG 2.1,
+# The colours of texts, each with the backgrounds against which it needs the contrast of WCAG 2.1,
 # success criterion 1.4.3, level AA.
 
 TEXTS = {

@@ -1,4 +1,4 @@
-"""Prints lines of JSON. Each contains a command of the scripts of tests/ and examples/, its
+"""Prints lines of JSON. Each line contains a command from a script of tests/ or examples/, its
 response, and the fields of both according to tpmsim.explain. page_fields.mjs compares the page's
 fields with these.
 """

@@ -1,4 +1,4 @@
-# Compares the fields of commands and responses: for all scripts, the page's JavaScript must find the same
+# Compares the fields of commands and responses. In all scripts, the page's JavaScript must find the same
 # fields as tools/explain.py.
 tests=$(cd "$(dirname "$0")/.." && pwd -P)
 . "$tests/common/cases.sh"

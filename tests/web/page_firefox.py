@@ -1,4 +1,5 @@
-"""Opens the page in Firefox without a window, over its Marionette protocol, and checks it:
+"""Opens the page in a headless Firefox, which it controls with the Marionette protocol, and
+checks the page:
 
     tests/web/page_firefox.py [PAGE]
 
@@ -21,7 +22,9 @@ SECONDS = 120
 
 
 class Firefox:
-    """A browser that answers requests. They are JSON messages, each preceded by its size."""
+    """A browser that answers requests. Requests and answers are JSON messages, each preceded by
+    its size.
+    """
 
     def __init__(self, port: int) -> None:
         self.stream = connected(port)

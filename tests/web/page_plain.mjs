@@ -1,8 +1,8 @@
 // Tests what the page decrypts: page_plain.mjs PAGE FACTS MODULE CASES.
 //
 // It compares the page's digests, HMACs and AES with published examples and with node. For scripts
-// whose sessions encrypt, it compares the decrypted parameters with those of the Python device, and
-// does the same for a log of another device.
+// whose sessions encrypt parameters, it compares the decrypted parameters with those of the Python
+// device. It also does this with a log of another device.
 
 import crypto from "node:crypto";
 import fs from "node:fs";
@@ -43,7 +43,7 @@ const OF_JEFE = {
   sha384: "af45d2e376484031617f78d2b58a6b1b9c7ef464f5a01b47e42ec3736322445e8e2240ca5e69e2c78b3239ecfab21649",
   sha512: "164b7a7bfcf819e2e395fbe73b56e0a387bd64222e831fd610270cd7ea2505549758bf75c05a994a6d034f65f8f0e6fdcaeab1a34d4a6b4b636e070a38bce737",
 };
-// SP 800-38A, F.3.13 to F.3.18: each key, and the four blocks to which TEXT is encrypted.
+// SP 800-38A, F.3.13 to F.3.18: each key, with the four blocks that encrypting TEXT results in.
 const IV = "000102030405060708090a0b0c0d0e0f";
 const TEXT = "6bc1bee22e409f96e93d7e117393172aae2d8a571e03ac9c9eb76fac45af8e5130c81c46a35ce411e5fbc1191a0a52eff69f2445df4f9b17ad2b417be66c3710";
 const OF_CFB = [

@@ -1,4 +1,5 @@
-# Checks that the page decrypts the parameters that sessions encrypt in scripts, as the Python model does.
+# Checks that the page decrypts the parameters that sessions encrypt in scripts, with the same results as
+# the Python model.
 tests=$(cd "$(dirname "$0")/.." && pwd -P)
 . "$tests/common/cases.sh"
 needs node python3

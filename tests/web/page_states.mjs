@@ -1,9 +1,9 @@
 // Plays scripts with the page's code: page_states.mjs PAGE FACTS MODULE LESSONS SCRIPT..
 //
 // It compares each response with that of the program, which is stored next to the script. It also
-// compares the result of an edit with that of playing the whole script again. It writes the device
-// after some steps as lines of JSON: its state text, and what the page decodes from it. For each
-// task of the lessons it reports whether an edit can complete the task.
+// compares the result of an edit with that of playing the whole script again. After some steps it
+// writes a line of JSON about the device: its state text, and what the page decodes from that
+// text. For each task of the lessons it reports whether an edit can complete the task.
 
 import fs from "node:fs";
 import path from "node:path";

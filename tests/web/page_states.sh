@@ -11,8 +11,8 @@ echo '{ "type": "module" }' >package.json
 make_scripts
 find "$tests" "$top/examples" "$TPMSIM_MADE" -name '*.tpm' -size -450k | sort >names
 while read -r name; do
-    # At an invalid line the program ends the script, but the page continues. Therefore such scripts are left
-    # out.
+    # At an invalid line the program ends the script, but the page continues. Therefore scripts with invalid
+    # lines are left out.
     [ ! -f "${name%.tpm}.out" ] || [ -f "${name%.tpm}.status" ] || echo "$name"
 done <names >scripts
 xargs node "$tests/web/page_states.mjs" web/page facts.json "$top/dist/tpmsim.wasm" \

@@ -1,7 +1,8 @@
 #!/bin/sh
 # Tests the installed package on an ARM64 machine: the program, the module for libtss2, the module for swtpm,
-# Microsoft's simulator protocol and the Python package; and in the repository the two commands of the README.
-# tools/interop/arm64.sh copies this script to the machine. Each line of the output is the result of one check.
+# Microsoft's simulator protocol and the Python package; and, in a clone of the repository, the two commands of
+# the README. tools/interop/arm64.sh copies this script to the machine. Each line of the output is the result
+# of one check.
 set -u
 top=$(CDPATH='' cd "$(dirname "$0")/../.." && pwd -P) || exit 1
 work=$(mktemp -d) || exit 1

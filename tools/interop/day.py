@@ -1,7 +1,7 @@
 #!/usr/bin/env python3
 """Plays an administrator's working day: the 256 steps of day.steps, which use Debian's tpm2-tools.
-Plays the steps on swtpm, and on tpmsim through the module for libtss2, and compares the outcomes of
-each step. Not part of the gate. It installs nothing, and leaves no files.
+The steps are played on swtpm, and on tpmsim through the module for libtss2, and the two outcomes of
+each step are compared. Not part of the gate. It installs nothing, and leaves no files.
 
     tools/interop/day.py
 

@@ -43,8 +43,8 @@ fail() {
     failed=$((failed + 1))
 }
 
-# Makes the files for the guest: the kernel, and an initial file system of busybox, tpm2-tools and the libraries
-# that they need.
+# Makes the files for the guest: the kernel, and an initial file system with busybox, tpm2-tools and the
+# libraries that these need.
 make_guest() {
     if [ -z "${KERNEL:-}" ]; then
         mkdir -p "$folder/kernel"

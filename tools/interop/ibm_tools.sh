@@ -1,9 +1,9 @@
 #!/bin/sh
 # Runs the tools of IBM's TSS (Debian: tss2) on a device of tpmsim-simulator, over Microsoft's simulator protocol,
-# which these tools use by default. The script reports for each tool whether it succeeded: TPM2_Startup, PCRs,
-# sessions that encrypt with AES and with XOR, the four types of NV index, policies, sealed primary objects,
-# lockout, TPM2_Clear; and with the completing layer, sequences. Not part of the gate. It installs nothing, and
-# leaves no files.
+# which these tools use by default. The tools test TPM2_Startup, PCRs, sessions that encrypt with AES and with
+# XOR, the four types of NV index, policies, sealed primary objects, lockout, TPM2_Clear and, with the
+# completing layer, sequences. The script reports for each tool whether it succeeded. Not part of the gate. It
+# installs nothing, and leaves no files.
 #
 #   tools/interop/ibm_tools.sh [PROGRAM]
 set -u

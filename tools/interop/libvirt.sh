@@ -1,8 +1,8 @@
 #!/bin/sh
-# Uses libvirt to start, save, restore and end a guest, and to revert it to a snapshot. One guest has a TPM of
+# Uses libvirt to start, save, restore and stop a guest, and to revert it to a snapshot. One guest has a TPM of
 # type `emulator`, with the swtpm and swtpm_setup of `hosts/build.sh libtpms`, which come first on the daemon's
 # path. Another guest has a TPM of type `external`, whose swtpm is already running. The daemon runs as the
-# present user, or as the user nobody if the present user is root. Not part of the gate. It installs nothing,
+# current user, or as the user nobody if the current user is root. Not part of the gate. It installs nothing,
 # and leaves no files.
 #
 #   tools/interop/libvirt.sh

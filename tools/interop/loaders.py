@@ -185,7 +185,7 @@ def booted(program: str, loader: Loader, drive: pathlib.Path) -> Boot:
 
 
 def judged(ours: Boot, theirs: Boot) -> list[str]:
-    """Returns the faults of the two boots of a loader, and the differences between them."""
+    """Returns the faults of a loader's two boots, and the differences between the boots."""
     boots = (("tpmsim", ours), ("swtpm", theirs))
     faults = [f"{whose}: {boot.fault}" for whose, boot in boots if boot.fault]
     if not ours.extends:

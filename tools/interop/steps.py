@@ -68,7 +68,7 @@ def read_steps(path: Path) -> list[Step]:
 
 
 def last_line(text: str) -> str:
-    """Returns the last line that reports a failure, or the last line if there is none."""
+    """Returns the last line that reports a failure or, if no line does, the last line."""
     lines = [line for line in text.splitlines() if line.strip()]
     told = [line for line in lines if "0x" in line]
     return (told or lines or [""])[-1]

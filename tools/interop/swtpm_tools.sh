@@ -89,7 +89,7 @@ run_tool() {
     timeout 20 tpm2 "$@" >output 2>error
 }
 
-# same FILE: checks that the output of the last tool is the content of a file.
+# same FILE: checks that the output of the last tool equals the content of a file.
 same() {
     cmp -s output "$1" || fail "other bytes than $1"
 }

@@ -73,7 +73,7 @@ refused() {
     fi
 }
 
-# same FILE: checks that the output of the last tool is the content of a file.
+# same FILE: checks that the output of the last tool equals the content of a file.
 same() {
     cmp -s output "$1" || wrong "other bytes than $1"
 }
@@ -91,7 +91,7 @@ loaded() {
 # The value of PCR 10, computed with hashlib, after an extend with a digest of zeros whose last byte is 1.
 extended=$(python3 -c 'import hashlib; print(hashlib.sha256(bytes(63) + b"\1").hexdigest())')
 
-# Tests the tools that need no completing layer.
+# Tests the tools that do not need the completing layer.
 device() {
     tool startup -c
     tool selftest -f
@@ -147,7 +147,7 @@ indices() {
 }
 
 # Seals a key to PCR 10 and unseals it, with persistent handles. Without the completing layer, the tool that
-# loads the key cannot save the key's context. Therefore the object remains loaded, at its handle.
+# loads the key cannot save the key's context. Therefore the object remains loaded and keeps its handle.
 sealing() {
     tool createprimary -C o -G aes128cfb -g sha256
     tool evictcontrol -C o -c 0x80000000 0x81000001
@@ -263,8 +263,8 @@ serve() {
     export TPM2TOOLS_TCTI="cmd:socat - UNIX-CONNECT:$folder/socket"
 }
 
-# keep WORDS: builds the module, through which the tools then use a new device. WORDS are further options of the
-# module.
+# keep WORDS: builds the module, through which the tools then use a new device. WORDS are additional options of
+# the module.
 keep() {
     [ -e made ] || "$top/hosts/build.sh" tcti made || exit 2
     rm -rf state

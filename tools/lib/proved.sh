@@ -67,8 +67,8 @@ is_newest() {
 }
 
 # are_built CRATE..: succeeds if each of these libraries and programs was built here by `rt ci`, and no source
-# is newer. `rt ci` leaves no file of a static library; all crates on which that library depends must be built
-# instead.
+# is newer. `rt ci` leaves no file for a static library. For a static library, all crates on which it depends
+# must be built instead.
 are_built() {
     for crate do
         if grep -q "^$crate staticlib" crates.txt; then

@@ -8,7 +8,7 @@
 #   tools/soak/attached.sh             ten minutes, with seed 1
 #   tools/soak/attached.sh 60 7        one minute, with seed 7
 #
-# At the end it prints the counts of the trials. If something was lost, it prints a description, and the status
+# At the end it prints the counts of the trials. If anything was lost, it prints a description, and the status
 # is 1.
 set -u
 

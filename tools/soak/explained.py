@@ -17,7 +17,7 @@ OTHERWISE = "the response is another one than was recorded, by its sum"
 
 def faults_of(play, events):
     """Returns the faults that show that a log is damaged. A response that differs from the recorded
-    one does not count.
+    response is not such a fault.
     """
     words = [it.words for event in events for it in event.differences if it.words != OTHERWISE]
     return [*([play.fault] if play.fault else []), *play.damages, *words]

@@ -6,7 +6,7 @@
 #   tools/soak/keeper_world.sh 5000000 7     five million events, with seed 7
 #
 # It prints whether all responses and journals agreed with the history, the first response or journal that did
-# not, and the number of events of each kind.
+# not agree, and the number of events of each kind.
 set -u
 
 tests=$(CDPATH='' cd "$(dirname "$0")/../../tests" && pwd -P) || exit 1

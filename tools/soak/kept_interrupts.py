@@ -1,7 +1,7 @@
 """Interrupts the calls of devices that Python keeps in a folder, and checks that no device is lost:
 
-    tools/python.sh tools/soak/kept_interrupts.py 200      200 folders, of seed 1: about two minutes
-    tools/python.sh tools/soak/kept_interrupts.py 200 7    of seed 7
+    tools/python.sh tools/soak/kept_interrupts.py 200      200 folders, with seed 1: about two minutes
+    tools/python.sh tools/soak/kept_interrupts.py 200 7    the same with seed 7
 
 In each folder three processes use one device for half a second. They increment an NV index,
 power-cycle the device, and open it again. Meanwhile KeyboardInterrupt is raised in them: in every

@@ -2,9 +2,9 @@
 # Writes random scripts, runs them, and compares the program's responses with those of the device in plain
 # Python under python/tpmsim/model. It is not part of the gate. Needs python3.
 #
-#   tools/soak/random_scripts.sh                 the scripts of the seeds 1 to 20, of 1,000 commands each
-#   tools/soak/random_scripts.sh 7               the script of seed 7
-#   tools/soak/random_scripts.sh 1 100 2000      the scripts of the seeds 1 to 100, of 2,000 commands each
+#   tools/soak/random_scripts.sh                 the scripts with the seeds 1 to 20, with 1,000 commands each
+#   tools/soak/random_scripts.sh 7               the script with seed 7
+#   tools/soak/random_scripts.sh 1 100 2000      the scripts with the seeds 1 to 100, with 2,000 commands each
 #
 # If the responses differ, it prints the first different line, keeps the script and both outputs, and prints
 # their paths. Its last line is `N agree, M differ`.

@@ -5,9 +5,9 @@
 # restore every prefix of a state text, and the text with each byte changed (tests/library/snapshots.py). It is
 # not part of the gate, and needs python3, a C compiler and the library in dist/.
 #
-#   tools/soak/snapshots.sh                 the scripts of the seeds 1 to 100, of 1,000 commands each
-#   tools/soak/snapshots.sh 7               the script of seed 7
-#   tools/soak/snapshots.sh 1 200 2000      the scripts of the seeds 1 to 200, of 2,000 commands each
+#   tools/soak/snapshots.sh                 the scripts with the seeds 1 to 100, with 1,000 commands each
+#   tools/soak/snapshots.sh 7               the script with seed 7
+#   tools/soak/snapshots.sh 1 200 2000      the scripts with the seeds 1 to 200, with 2,000 commands each
 #
 # If the devices differ, it keeps the script, and prints its path. Its last line is `N agree, M differ`.
 set -u

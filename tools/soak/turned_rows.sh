@@ -1,11 +1,11 @@
 #!/bin/sh
 # Tries the patches under wrong/turned. Each patch changes the code of a command and, in the same way, its row (the
 # definition of the command's behaviour) and the proofs that repeat the row. The device then behaves wrongly,
-# although all crates below tpm_step can still be proved. But the history of the device determines a different
-# behaviour. Therefore a law of tpm_step, or of another crate of laws, must fail. All patches are tried before a
-# piece of work is declared done. Patches that name different laws of one crate are tried in one copy of that crate
-# and of the crates below it. `rt ci` proves the copy, from scratch if the kit has stored no proofs. Needs `rt` and
-# git.
+# although all crates below tpm_step can still be proved. However, the history of the device determines a
+# different behaviour. Therefore a law of tpm_step, or of another crate with laws, must fail. All patches are
+# tried before a piece of work is declared done. Patches that name different laws of one crate are tried in one
+# copy of that crate and of the crates below it. `rt ci` proves the copy, from scratch if the kit has stored no
+# proofs. Needs `rt` and git.
 #
 #   tools/soak/turned_rows.sh                    all patches
 #   tools/soak/turned_rows.sh pcr_16_restored    one patch, or several
@@ -104,9 +104,9 @@ fail_at_laws() {
     done
 }
 
-# try_together NAME..: applies these patches to a copy, and proves it. All crates below the crate of laws must
-# be proved. If that crate has laws about rows, these must be proved too. The crate must be refused at each law
-# that one of the patches names.
+# try_together NAME..: applies these patches to a copy, and runs the prover on it. Every crate below the crate
+# with the laws must still be proved, and so must the laws about rows, if the crate has any. The prover must
+# refuse the crate at each law that one of the patches names.
 try_together() {
     turn "$@" || return 0
     if prove; then

@@ -319,13 +319,13 @@ class Crate:
             made.rename(self.place)
 
     def _go_on_from(self, kept: pathlib.Path) -> None:
-        """Makes the next check start from these results of an earlier check, if there are any."""
+        """Makes the next check start from these results of an earlier check, if they exist."""
         if kept.exists():
             self.kept = kept.rename(self.room / f"kept-by-{kept.parent.name}")
 
     @staticmethod
     def _copied(start: pathlib.Path, kept: pathlib.Path) -> pathlib.Path:
-        """If there are results of a check, copies them to a folder. Returns that folder."""
+        """Copies the results of a check, if they exist, to a folder. Returns that folder."""
         if start.exists():
             shutil.copytree(start, kept, copy_function=linked)
         return kept
@@ -404,15 +404,15 @@ def is_not_proved(status: int, said: list[str]) -> bool:
 
 
 def is_of_a_contract(said: list[str]) -> bool:
-    """Returns whether a refusal shows something about a contract, not only that a proof file uses a
-    removed name.
+    """Returns whether a refusal shows something about a contract, and not merely that a proof file
+    uses a removed name.
     """
     told = [line for line in said if is_fault(line)]
     return not told or any(not GONE.match(line) for line in told)
 
 
 def groups_of(bodies: list[WrongBody]) -> list[Group]:
-    """Returns these bodies in groups; no two bodies of a group change the same function."""
+    """Divides these bodies into groups; no two bodies of a group change the same function."""
     groups: list[tuple[set[Function], Group]] = []
     for body in sorted(bodies, key=lambda it: not it.functions):
         open_to_it = (it for it in groups if it[0] and not it[0] & body.functions)
@@ -535,7 +535,7 @@ def lay(room: pathlib.Path, names: list[str]) -> None:
 
 
 def are_built(names: list[str]) -> bool:
-    """Returns whether these crates are built in this repository, from the present sources."""
+    """Returns whether these crates are built in this repository, from the current sources."""
     script = '. tools/lib/proved.sh && are_built "$@"'
     return said_by(TOP, "sh", "-c", script, "sh", *names).returncode == 0
 

@@ -4,7 +4,7 @@
 const BLOCK = 16;
 
 /**
- * Doubles a polynomial in AES's field.
+ * Doubles an element of the field that AES uses.
  * @param {number} byte
  */
 const doubled = (byte) => ((byte << 1) ^ (byte & 0x80 ? 0x11b : 0)) & 0xff;

@@ -1,5 +1,5 @@
-// Shows the bytes of a buffer next to its fields. The pointer, or the arrow keys in the table, highlight a
-// field together with its bytes.
+// Shows the bytes of a buffer next to its fields. With the pointer, or with the arrow keys in the table,
+// the user highlights a field together with its bytes.
 
 import { hexNumber, hexOf } from "./bytes.js";
 import { cut, make } from "./dom.js";

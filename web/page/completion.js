@@ -66,7 +66,7 @@ const isEntry = (text) => text.startsWith("pw:") || text.startsWith("s:");
 const choice = (text, words, isMore = true) => ({ text, words, isMore });
 
 /**
- * Returns the choices whose text begins with what is typed, and then those that contain it elsewhere.
+ * Returns the choices whose text begins with the typed text, followed by those that contain it elsewhere.
  * @param {Choice[]} choices @param {string} typed
  */
 function matching(choices, typed) {
@@ -77,7 +77,7 @@ function matching(choices, typed) {
 }
 
 /**
- * Returns what may follow the part of a line that is typed.
+ * Returns what may follow the part of a line that has been typed.
  * @param {import("./device.js").Chip} chip @param {string} line
  * @param {State} state the device at that line
  * @returns {Completion | null}

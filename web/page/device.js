@@ -136,7 +136,7 @@ export class Chip {
   }
 
   /**
-   * Returns a line in words that encodes a buffer, or "" if there is none.
+   * Returns a line in words that encodes a buffer, or "" if no line does.
    * @param {Uint8Array} buffer
    */
   spell(buffer) {
@@ -174,7 +174,7 @@ export class Chip {
   }
 
   /**
-   * Returns the head of a new journal that begins with the device's present state.
+   * Returns the head of a new journal that begins with the device's current state.
    * @param {number} device
    */
   continueJournal(device) {

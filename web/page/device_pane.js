@@ -71,8 +71,8 @@ function valuesShown(group, of, values, changed) {
 }
 
 /**
- * Shows the PCRs that are not blank, in full if the step changed them. A sentence says that the others, or all
- * PCRs, are blank.
+ * Shows the PCRs that are not blank, with full values if the step changed them. A sentence says that the other
+ * PCRs, or all PCRs, are blank.
  * @param {Group} those @param {Set<string>} changed
  */
 function pcrsShown(those, changed) {

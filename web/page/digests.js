@@ -1,6 +1,6 @@
-// Computes digests, HMACs and the keys of sessions (TPM 2.0 Library, Part 1, 11.4.9 and 19.6) of
-// whole texts. The browser's own functions are asynchronous, and are not available to a page that
-// is a file on a disk.
+// Computes digests and HMACs of whole texts, and the keys of sessions (TPM 2.0 Library, Part 1, 11.4.9
+// and 19.6). The browser's own functions are asynchronous, and are not available to a page that is opened
+// from a file.
 
 import { encoded, joined } from "./bytes.js";
 

@@ -67,7 +67,7 @@ export class Editor {
     this.paint();
   }
 
-  /** Measures which part of the text is visible, and lets the layers end at the scroll bars. */
+  /** Measures which part of the text is visible, and makes the layers end at the scroll bars. */
   #look() {
     const { scrollTop, scrollLeft, clientWidth, clientHeight, offsetWidth, offsetHeight } = this.area;
     const isSame = clientWidth === this.view.width && clientHeight === this.view.height;

@@ -261,7 +261,7 @@ const OF_KIND = {
 const seconds = number(4, (value) => `${grouped(value)} s`);
 
 /**
- * The readers of parameters whose name says more than their type.
+ * The readers of parameters whose names say more than their types.
  * @type {Record<string, Read>}
  */
 const OF_NAME = {

@@ -87,8 +87,8 @@ export function download(name, parts) {
 }
 
 /**
- * Returns the script in a file. For an image or a state text, returns the present script on the
- * device of that text.
+ * Returns the script in a file. For an image or a state text, returns the current script with the
+ * device in that text.
  * @param {File} file @param {string} present
  * @returns {Promise<{text: string, note: string, isBad: boolean}>}
  */

@@ -112,8 +112,8 @@ export class Page {
   }
 
   /**
-   * Called before another script replaces the present script: stores the present script if it is
-   * the user's own.
+   * Called before another script replaces the current script: stores the current script if it is the user's
+   * own.
    */
   keepFormer() {
     if (this.isOwn) this.former = this.editor.text;
@@ -147,7 +147,7 @@ export class Page {
     this.run.take(this.script.steps);
   }
 
-  /** Drops the explained log, and the device with which the log began. */
+  /** Discards the explained log, and the device with which the log began. */
   leaveLog() {
     if (!this.told.log) return;
     if (this.told.start) this.run.begin(null);
@@ -192,7 +192,7 @@ export class Page {
   }
 
   /**
-   * Returns the event of a line, or of the nearest line before it that has one.
+   * Returns the event of a line or, if the line has none, that of the nearest earlier line that has one.
    * @param {number} line
    */
   nearest(line) {
@@ -269,7 +269,7 @@ export class Page {
   }
 
   /**
-   * Decrypts the parameters of a step that sessions encrypted.
+   * Decrypts those parameters of a step that sessions encrypted.
    * @param {number} at
    */
   plainOf(at) {

@@ -60,13 +60,14 @@ export function responseOf(run, at) {
 }
 
 /**
- * Returns a command with its first parameter decrypted; null if none is encrypted.
+ * Returns a command with its first parameter decrypted; null if that parameter is not encrypted.
  * @param {Run} run @param {number} at
  */
 export const plainCommand = (run, at) => new Decryption(run, 0).command(at);
 
 /**
- * Returns the response to a command with its first parameter decrypted; null if none is encrypted.
+ * Returns the response to a command, with the response's first parameter decrypted; null if that parameter is not
+ * encrypted.
  * @param {Run} run @param {number} at
  */
 export const plainResponse = (run, at) => new Decryption(run, 0).response(at);
@@ -128,7 +129,8 @@ class Decryption {
   }
 
   /**
-   * Returns the authorization value of the entity that an entry authorizes; empty if it authorizes none.
+   * Returns the authorization value of the entity that an entry authorizes; empty if the entry authorizes no
+   * entity.
    * @param {number} at @param {number} place
    */
   #authorizedValue(at, place) {
@@ -155,8 +157,8 @@ class Decryption {
   }
 
   /**
-   * Returns the authorization value that the latest command before an event set, or else the value on the
-   * device that the script begins with.
+   * Returns the authorization value that the latest command before an event set or, if no command set it, the
+   * value in the device with which the script begins.
    * @param {number} handle @param {number} at
    */
   #valueSet(handle, at) {
@@ -172,7 +174,7 @@ class Decryption {
   }
 
   /**
-   * Returns a session as it is before an event.
+   * Returns the state of a session before an event.
    * @param {number} handle @param {number} at @returns {Session}
    */
   #sessionAt(handle, at) {

@@ -60,8 +60,8 @@ export function rulesOf(check, buffer, meaning, before) {
 }
 
 /**
- * Returns the label and the sentence of each row of the table for a check. For a check of the command's own,
- * these are the rows of all its own checks.
+ * Returns the label and the sentence of each row of the table for a check. If the check is one of the
+ * command's own, these are the rows of all the command's own checks.
  * @param {string} check @param {Uint8Array} buffer
  * @returns {[string, string][]}
  */
@@ -112,8 +112,8 @@ function failedCondition(buffer, meaning, before) {
 const WRITTEN = 1 << 29;
 
 /**
- * Returns 6 if the session requires that the index is written, or not written, and this is not the case.
- * Otherwise returns 8, because policy conditions 5 and 6 are checked before condition 8.
+ * Returns 6 if the session requires the index to be written, or to be unwritten, and the index does not meet this
+ * requirement. Otherwise returns 8, because policy conditions 5 and 6 are checked before condition 8.
  * @param {import("./state.js").Session} session
  * @param {import("./state.js").Index | undefined} index
  */
@@ -167,7 +167,7 @@ export const entryHandles = (buffer) => entriesOf(buffer).map((it) => it.handle)
 const handleAt = (buffer, at) => numberOf(buffer.subarray(HEADER + HANDLE * at, HEADER + HANDLE * (at + 1)));
 
 /**
- * Returns the authorization value of an entity of the device, empty for a PCR.
+ * Returns the authorization value of an entity of the device; empty for a PCR.
  * @param {number} handle @param {State} state
  */
 export function authOf(handle, state) {

@@ -1,6 +1,6 @@
 // Plays a script, and stores the responses and states by their events. An event before the first
-// edited line is not played again. For this, the state before each 64th event is stored as a state
-// text, from which playing can continue.
+// edited line is not played again. To make this possible, the state before each 64th event is
+// stored as a state text, from which playing can continue.
 
 import { decoded } from "./bytes.js";
 import { responseCode } from "./fields.js";
@@ -49,7 +49,7 @@ export class Run {
   }
 
   /**
-   * Starts again, with the device of an image or a state text if one is passed.
+   * Starts again. If an image or a state text is passed, starts with the device in it.
    * @param {Uint8Array | null} text
    */
   begin(text) {

@@ -216,7 +216,7 @@ export function logOf(script, answers) {
 }
 
 /**
- * Returns a script for another device: replaces the script's own head by this one.
+ * Returns a script for another device: replaces the script's own head with this one.
  * @param {string} text @param {string} head
  */
 export function onDevice(text, head) {

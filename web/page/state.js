@@ -68,7 +68,7 @@ export function readState(text) {
 }
 
 /**
- * Reads the part of the state that a device keeps without power.
+ * Reads the part of the state that a device keeps while it has no power.
  * @param {Reader} reader @param {State} state
  */
 function readKept(reader, state) {

@@ -240,7 +240,7 @@ function changesShown(before, after) {
 const MOST_BEFORE = 40;
 
 /**
- * Returns a replaced value in short form.
+ * Returns a shortened form of a value that was replaced.
  * @param {string} text
  */
 const shortly = (text) =>

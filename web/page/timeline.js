@@ -1,5 +1,5 @@
-// The slider for the steps of the script, and a mark for each step: tall marks for refusals, lines
-// for power cycles.
+// The slider for the steps of the script, and a mark for each step: a tall mark for a refusal, a line for a power
+// cycle.
 
 import { byId } from "./dom.js";
 import { commandNumber } from "./fields.js";

@@ -13,7 +13,7 @@ import { byId, make } from "./dom.js";
  * @typedef {{
  *   load: (text: string, line: number) => void, outcomes: () => {name: string, code: string}[],
  *   text: () => string, edit: (text: string, line: number) => void, onImage: () => string,
- * }} Shell what the tutorial does to the page
+ * }} Shell the functions with which the tutorial reads and changes the page
  */
 
 const IMAGE = "# image ";
@@ -63,7 +63,7 @@ export class Tutorial {
   }
 
   /**
-   * Opens the lesson that was just closed, if the user then opened an image.
+   * Reopens the lesson that was just closed, if it was closed because the user opened an image.
    * @param {{at: number, text: string}} left
    */
   #reopen({ at, text }) {
@@ -150,7 +150,7 @@ export function isDone({ done }, page) {
 }
 
 /**
- * Returns the script of a lesson with its task done.
+ * Returns the script of a lesson after its task is done.
  * @param {string} text @param {Show} show @param {Pick<Shell, "onImage">} page
  */
 export function shownText(text, show, page) {

@@ -1,4 +1,4 @@
-// Shows where a script uses an object, an index or a session that the chosen step uses too.
+// Shows where else a script uses the objects, indices and sessions that the chosen step uses.
 
 import { hexNumber, numberOf } from "./bytes.js";
 import { make } from "./dom.js";

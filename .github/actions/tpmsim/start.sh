@@ -1,5 +1,5 @@
 #!/bin/sh
-# Starts a TPM for the job of a CI, which ends with the job, and prints the job's variables as NAME=VALUE.
+# Starts a TPM for a CI job, and prints the job's variables as NAME=VALUE. The TPM ends with the job.
 #
 #   start.sh serve FOLDER       on a Unix socket: TPMSIM_SOCKET
 #   start.sh simulator FOLDER   by Microsoft's protocol: TPMSIM_HOST, TPMSIM_PORT, TPM2TOOLS_TCTI

@@ -19,7 +19,7 @@ pub data Part : Type 0 where
   NvAuthValue : Part
   -- the NV indices: an index is defined
   NvDefined : Part
-  -- the NV indices: an index is undefined, that is, removed
+  -- the NV indices: an index is removed
   NvUndefined : Part
   -- the authorization values of the hierarchies and of lockout
   AuthValues : Part

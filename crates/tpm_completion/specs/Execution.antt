@@ -113,8 +113,9 @@ abbrev pub sent_after : Seen → (buffer : List ℕ) → Option Sent
 sent_after first buffer =
     sent_for first.step.after first.layer buffer first.step.response
 
--- the event of the command that the layer sends. It follows the client's command at once, and has
--- its random bytes, of which the device drew none when it refused the client's command
+-- the event of the command that the layer sends. No time passes between the client's command and
+-- this one. The command gets the client's random bytes, `random`, all of which are still unused:
+-- the device drew none of them when it refused the client's command
 abbrev pub sent_event : Sent → (locality : ℕ) → (random : List ℕ) → PlainEvent
 sent_event sent locality random = Given sent.command locality 0 random
 

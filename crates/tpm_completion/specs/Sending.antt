@@ -2,10 +2,11 @@
 -- TPM 2.0 Library, Part 3, sections 17.2 (TPM2_HMAC_Start), 17.4 (TPM2_SequenceUpdate), 17.5
 -- (TPM2_SequenceComplete) and 17.6 (TPM2_EventSequenceComplete).
 --
--- For TPM2_HMAC_Start, the layer sends TPM2_HMAC of no data with the same handle and the same
--- password or session, so that the device itself decides whether the key may be used. For
+-- For TPM2_HMAC_Start, the layer sends TPM2_HMAC with an empty message, the same handle and the
+-- same password or session, so that the device itself decides whether the key may be used. For
 -- TPM2_EventSequenceComplete, the layer sends TPM2_PCR_Extend. For TPM2_SequenceUpdate and
--- TPM2_SequenceComplete with a session, the layer sends TPM2_GetRandom of no bytes with the session.
+-- TPM2_SequenceComplete with a session, the layer uses the session to send TPM2_GetRandom for zero
+-- bytes.
 use Rattle.std.specs.Prelude.{ℕ, ◌==◌, ◌&&◌, not, Bool, true, false, List, [], ◌∷◌, ◌++◌, length, if◌then◌else◌, Option, Some, None, Result, Ok, Err, ok_or, option_map, option_and_then}
 use Rattle.std.specs.Int.{w16, w32, to_be_bytes}
 use Rattle.tpm_bytes.specs.Reading.{◌>>=◌, refused_if}
@@ -71,11 +72,11 @@ keyed_sequence asked o =
 abbrev pub area_of : Entry → List ℕ
 area_of e = to_be_bytes w32 (length (auth_entry_text e)) ++ auth_entry_text e
 
--- the parameters of TPM2_HMAC of no data, with this hashAlg
+-- the parameters of TPM2_HMAC with an empty message and this hashAlg
 abbrev pub hmac_parameters : Option HashAlg → List ℕ
 hmac_parameters asked = sized_text [] ++ to_be_bytes w16 (hash_or_null_number asked)
 
--- the command TPM2_HMAC (155) of no data, with this handle, entry and hashAlg
+-- the command TPM2_HMAC (155) with an empty message, and with this handle, entry and hashAlg
 unfoldable pub hmac_command : Handle → Entry → Option HashAlg → List ℕ
 hmac_command handle e asked =
     framed 0x8002 0x155 (to_be_bytes w32 handle.number ++ area_of e ++ hmac_parameters asked)
@@ -257,11 +258,11 @@ event_complete_sent r c text = do
 
 -- ---- TPM2_SequenceUpdate and TPM2_SequenceComplete with a session
 
--- the parameters of TPM2_GetRandom of no bytes
+-- the parameters of TPM2_GetRandom for zero bytes
 abbrev pub random_parameters : List ℕ
 random_parameters = to_be_bytes w16 0
 
--- the command TPM2_GetRandom (17B) of no bytes, with this entry, which authorizes nothing
+-- the command TPM2_GetRandom (17B) for zero bytes, with this entry, which authorizes nothing
 unfoldable pub random_command : Entry → List ℕ
 random_command e = framed 0x8002 0x17b (area_of e ++ random_parameters)
 

@@ -1,6 +1,8 @@
--- The commands on sequence objects that the completing layer answers by itself. TPM 2.0 Library,
--- Part 3, sections 17.3 (TPM2_HashSequenceStart), 17.4 (TPM2_SequenceUpdate), 17.5
--- (TPM2_SequenceComplete) and 28.4 (TPM2_FlushContext).
+-- The commands on sequence objects that the completing layer answers by itself, which include
+-- TPM2_SequenceUpdate and TPM2_SequenceComplete with a password. The file Sending uses their
+-- definitions for commands with a session. TPM 2.0 Library, Part 3, sections 17.3
+-- (TPM2_HashSequenceStart), 17.4 (TPM2_SequenceUpdate), 17.5 (TPM2_SequenceComplete) and 28.4
+-- (TPM2_FlushContext).
 use Rattle.std.specs.Prelude.{◌≡◌, ℕ, not, List, [], ◌++◌, length, if◌then◌else◌, Option, Some, None, Result, Ok, Err, ok_or}
 use Rattle.std.specs.Int.{w32, to_be_bytes}
 use Rattle.tpm_bytes.specs.Reading.{◌>>=◌, refused_if}
@@ -37,7 +39,7 @@ use Rattle.tpm_completion.specs.declared.completion.Completion.{Completion}
 use Rattle.tpm_completion.specs.declared.sequence_rows.NamedSequence.{NamedSequence}
 use Rattle.tpm_types_command.specs.AuthEntry.{Entry, entry_of}
 
--- ---- responses to commands with passwords
+-- ---- responses to commands with sessions or passwords
 
 -- the response that reports success to a command with sessions: the handle that it returns, if any,
 -- the parameters, and the answers to the entries
@@ -85,7 +87,8 @@ hash_start_row c parameters = do
 
 -- ---- TPM2_SequenceUpdate
 
--- a sequence object that a command names, the entry that authorizes it, and the command's parameters
+-- a sequence object that a command names, the entry that authorizes it, and the command's
+-- parameters
 pub record Named : Type 0 where
   pub slot : ℕ
   pub object : SequenceObject

@@ -71,8 +71,8 @@ is_right s c e =
     || bytes_eq e.hmac (covered_mac s c e)
 
 -- the HMAC in the entry of the command that the layer sends. If the client's HMAC is wrong, it is
--- one byte, which is neither empty nor the size of an HMAC. If the client's HMAC is right and empty,
--- it is empty
+-- one byte, which is neither empty nor the size of an HMAC. If the client's HMAC is right and
+-- empty, it is empty
 unfoldable pub sent_hmac : Session → (asked sent : Covered) → Entry → List ℕ
 sent_hmac s asked sent e =
     if not (is_right s asked e) then 0 ∷ []
@@ -89,7 +89,7 @@ abbrev pub entry_sent : Record → (asked sent : Covered) → Entry → Entry
 entry_sent r asked sent e = record e { hmac = hmac_sent r asked sent e }
 
 -- the authorization value that the device puts into the HMAC key of an entry that authorizes a
--- handle; empty if the entry names no session
+-- handle; empty if the entry names no existing session
 unfoldable pub value_in_key : Record → Entry → Handle → List ℕ
 value_in_key r e handle =
     option_map_or

@@ -1,5 +1,5 @@
-//! The commands that the layer sends to the device: TPM2_HMAC of no data, TPM2_PCR_Extend, and
-//! TPM2_GetRandom of no bytes, each with one entry.
+//! The commands that the layer sends to the device: TPM2_HMAC with an empty message,
+//! TPM2_PCR_Extend, and TPM2_GetRandom for zero bytes, each with one entry.
 
 ghost use Rattle.std.specs.Prelude.{◌≡◌, ◌≤◌, ◌++◌, [], length};
 ghost use Rattle.std.specs.Int.{w32, to_be_bytes};
@@ -16,7 +16,7 @@ use tpm_types_command::AuthEntry;
 /// The capacity for a command that the layer sends, in bytes.
 pub const COMMAND_LIMIT: usize = 192;
 
-/// The parameters of TPM2_GetRandom of no bytes.
+/// The parameters of TPM2_GetRandom for zero bytes.
 pub const RANDOM_PARAMETERS: [u8; 2] = [0, 0];
 
 /// Begins the body of a command: a handle, and an authorization area with one entry.
@@ -47,7 +47,7 @@ fn command_of(code: u32, body: &[u8]) -> Sink<COMMAND_LIMIT>
     command
 }
 
-/// The parameters of TPM2_HMAC of no data.
+/// The parameters of TPM2_HMAC with an empty message.
 pub fn hmac_parameters(asked: Option<HashAlg>) -> Sink<4>
     ensures { result ≡ hmac_parameters asked }
 {
@@ -57,7 +57,7 @@ pub fn hmac_parameters(asked: Option<HashAlg>) -> Sink<4>
     parameters
 }
 
-/// The command TPM2_HMAC of no data.
+/// The command TPM2_HMAC with an empty message.
 #[tactic(auto, unfolding(crate::specs::Sending::hmac_command))]
 pub fn hmac_command(
     handle: Handle,
@@ -88,7 +88,7 @@ pub fn extend_command(handle: Handle, entry: &AuthEntry, digests: &[u8]) -> Sink
     command_of(PCR_EXTEND, body.as_slice())
 }
 
-/// The command TPM2_GetRandom of no bytes, with an entry that authorizes nothing.
+/// The command TPM2_GetRandom for zero bytes, with an entry that authorizes nothing.
 #[tactic(auto, using(tpm_types_command::proofs::EntryLaws::entry_sizes), unfolding(crate::specs::Sending::random_command))]
 pub fn random_command(entry: &AuthEntry) -> Sink<COMMAND_LIMIT>
     requires nonce { length entry.now.nonce.now ≤ 32 }

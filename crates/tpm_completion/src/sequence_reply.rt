@@ -1,5 +1,5 @@
-//! The layer's answers to commands on sequence objects, except those for which it sends a command to
-//! the device.
+//! The layer's answers to commands on sequence objects, except those for which it sends a command
+//! to the device.
 
 ghost use Rattle.std.specs.Prelude.{◌≡◌, Result};
 ghost use Rattle.std.specs.Int.{w32};

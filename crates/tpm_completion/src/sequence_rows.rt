@@ -1,5 +1,6 @@
-//! The commands on sequence objects that the layer answers by itself: TPM2_HashSequenceStart,
-//! TPM2_SequenceUpdate and TPM2_SequenceComplete.
+//! The commands on sequence objects that the layer answers by itself: TPM2_HashSequenceStart, and
+//! TPM2_SequenceUpdate and TPM2_SequenceComplete with a password. [`sending`](crate::sending) uses
+//! the same functions if the commands have a session.
 
 ghost use Rattle.std.specs.Prelude.{◌≡◌, ◌≤◌, IfOk, IfSome, length};
 ghost use Rattle.tpm_bytes.specs.Reading.{Gives};

@@ -119,7 +119,7 @@ pub fn hmac_sent<K: Keep>(keep: &K, asked: &Covered, sent: &Covered, entry: &Aut
 }
 
 /// The authorization value that the device puts into the HMAC key of an entry that authorizes a
-/// handle. It is empty if the entry names no session.
+/// handle. It is empty if the entry names no existing session.
 #[tactic(auto, unfolding(crate::specs::SessionEntry::value_in_key))]
 pub fn value_in_key<'a, K: Keep>(keep: &'a K, entry: &AuthEntry, handle: Handle) -> &'a [u8]
     ensures value { result.now

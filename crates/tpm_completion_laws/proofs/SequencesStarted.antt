@@ -112,8 +112,8 @@ not_false false e = absurd cc
 
 -- ---- what TPM2_HMAC_Start asks for
 
--- The nonce of an entry, and its HMAC or password, have at most 32 bytes. The entry neither decrypts
--- nor encrypts a parameter.
+-- The nonce of an entry, and its HMAC or password, have at most 32 bytes. The entry neither
+-- decrypts nor encrypts a parameter.
 record IsPlain (e : Entry) : Type 0 where
   nonce : length e.nonce ≤ 32
   hmac : length e.hmac ≤ 32

@@ -1,5 +1,5 @@
--- The HMAC that the layer sends is right exactly if the client's is, and the layer compares HMACs as
--- the device does.
+-- The HMAC that the layer sends is right exactly if the client's is, and the layer compares HMACs
+-- as the device does.
 use Rattle.std.proofs.Common.{arith, ◌≡◌, ℕ, ◌≤◌, Bool, true, false, List, [], ◌∷◌, ◌++◌, length, drop, refl, ap, subst, ◌∙◌}
 use Rattle.std.specs.Prelude.{◌==◌, ◌&&◌, ◌||◌, nat_lt, not, if◌then◌else◌}
 use Rattle.std.specs.Str.{bytes_eq}

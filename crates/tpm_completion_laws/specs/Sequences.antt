@@ -174,8 +174,8 @@ pub record StartsLikeTheDevice (r : Record) (start : HmacStart) (planned : Optio
         ≡ authorized_success [] (sized_text (hmac_of hash key [])) area
     pub password : is_password start.entry ≡ true → area ≡ password_answer
 
--- If the device accepts the TPM2_HMAC that the layer sends for a TPM2_HMAC_Start, the layer starts a
--- sequence with the hash and the key that the device uses. So the sequence has the same HMAC as a
+-- If the device accepts the TPM2_HMAC that the layer sends for a TPM2_HMAC_Start, the layer starts
+-- a sequence with the hash and the key that the device uses. So the sequence has the same HMAC as a
 -- TPM2_HMAC of the same data with the same handle and hashAlg.
 abbrev pub StartsWithTheKey : Type 0
 StartsWithTheKey =

@@ -49,8 +49,8 @@ pub fn sequence_laws()
     ensures key { StartsWithTheKey }
 {}
 
-/// The layer checks the HMAC of a session as the device does. The HMAC that the layer sends to the
-/// device is right if and only if the client's HMAC is.
+/// The HMAC that the layer sends to the device is right if and only if the client's HMAC is. The
+/// device compares the HMAC of the sent command as the layer's definition does.
 #[inline(always)]
 pub fn session_laws()
     ensures carried { CarriesTheProof }

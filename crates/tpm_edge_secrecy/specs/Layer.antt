@@ -1,6 +1,7 @@
 -- What a device with the completing layer reveals about its secrets: no more than the device alone,
--- except which of three authorization values are empty, and the contexts of objects that have
--- secrets. TPM 2.0 Library, Part 1, section 30 (context management), and Part 2, section 8.6
+-- except which of three authorization values are empty, the contexts of objects that have secrets,
+-- and HMACs that the layer checks and returns for a session, if the key of the HMAC contains a
+-- secret. TPM 2.0 Library, Part 1, section 30 (context management), and Part 2, section 8.6
 -- (TPMA_PERMANENT).
 use Rattle.std.specs.Int.{w32}
 use Rattle.std.specs.Option.{option_map_or}

@@ -14,13 +14,15 @@ ghost use Rattle.tpm_edge_secrecy.specs.Layer.{LayerLoadsAlike, LayerSavesAlike,
 ghost use Rattle.tpm_edge_secrecy.specs.Opened.{OpenedDataNeedPolicy};
 
 /// The completing layer reveals which of ownerAuth, endorsementAuth and lockoutAuth are empty, and
-/// the contexts of objects that have secrets, which TPM2_ContextSave returns. It reveals no other
-/// secret of the device. If two devices differ only in secrets, such as authorization values, and
-/// agree on which of these three authorization values are empty, the layer has the same answers and
-/// the same state on both; only contexts of objects that have secrets may differ. A loaded context
-/// contains the same object on both devices, and the layer sends the same commands to both, unless
-/// it starts a sequence with a secret key. Therefore, if two devices differ only in secret data, an
-/// event that does not read these data reveals nothing about them with the layer either, except the
+/// the contexts of objects that have secrets, which TPM2_ContextSave returns. Otherwise, its own
+/// answers reveal no secret of the device. If two devices differ only in secrets, such as
+/// authorization values, and agree on which of these three authorization values are empty, the
+/// layer has the same answers and the same state on both; only contexts of objects that have
+/// secrets may differ. A loaded context contains the same object on both devices. The layer sends
+/// the same commands to both, unless it starts a sequence with a secret key, or checks the HMAC of
+/// a session with a key that contains a secret; no law compares its answers after these commands
+/// for secret authorization values. Therefore, if two devices differ only in secret data, an event
+/// that does not read these data reveals nothing about them with the layer either, except the
 /// context of an object that has secrets. The same is true of a list of events that do not read
 /// these data, even after an event that returned such a context. A TPM2_HMAC_Start with a secret
 /// key counts as reading.

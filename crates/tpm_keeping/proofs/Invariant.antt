@@ -132,7 +132,7 @@ abbrev pub KnowsOf : Journal → Sight → Holder → Type 0
 KnowsOf j v k = Knows j v.file k.force k.file k.device k.place k.unsure
 
 -- The holder has executed all complete entries of the journal. If it syncs before each response,
--- all these bytes except `unsure` are on the disk.
+-- all bytes of these entries except `unsure` are on the disk.
 pub record HasAll (j : Journal) (f : File) (force : Force) (file place : ℕ) (unsure : List ℕ) : Type 0 where
   pub same : file ≡ f.number
   pub named : 0 < f.number

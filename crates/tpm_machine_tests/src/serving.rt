@@ -13,7 +13,7 @@ use tpm_bytes::Tap;
 use tpm_record::Keep;
 use tpm_wire::{HostFault, Mux, ServeFault, serve};
 
-/// The size of a read, and how many reads, writes and values from the host succeed.
+/// The size of each read, and how many reads, writes and requests for the host's values succeed.
 #[derive(Clone, Copy)]
 struct Limits {
     size: usize,

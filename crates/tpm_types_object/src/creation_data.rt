@@ -33,8 +33,8 @@ impl CreationData {
     ghost use Rattle.tpm_types.specs.Filled.{filled_by};
     ghost use Rattle.tpm_types_object.specs.declared.creation_data.CreationData.{CreationData};
 
-    /// Reads creation data. Fails with INSUFFICIENT if they are truncated, or else with the first
-    /// fault of a field.
+    /// Reads creation data. Fails with INSUFFICIENT if the data are truncated, or else with the
+    /// fault of the first invalid field.
     pub fn read(text: &mut Cursor) -> Result<CreationData, Rc>
         // The result is the decoded value, or the first fault.
         ensures exact { Reads (λ creation. creation) (creation_data_at text.old)

@@ -144,8 +144,8 @@ service_in rows = do
     completes = completes;
   })
 
--- the files of the device: None if neither an image nor a folder is given, so that the device is
--- not kept. In this case, a file of random bytes and a number of journals are refused
+-- the files of the device: None if neither an image nor a folder is given. The device is then not
+-- kept, and it is an error to name a file of random bytes, or to say how many journals to keep
 abbrev pub stored_by : (image state keep entropy : Option Text) → Option (Option Stored)
 stored_by None None None None = Some None
 stored_by image state keep entropy = option_map

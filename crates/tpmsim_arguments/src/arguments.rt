@@ -223,7 +223,8 @@ fn restore_of<'a>(options: &ArgMatches<'a>) -> Option<Arguments<'a>>
 }
 
 /// Returns, from the matches, where the device that `run` uses is kept, if it is kept. Without an
-/// image or a folder, a file of random bytes and a number of journals are refused.
+/// image or a folder, it is an error to name a file of random bytes, or to say how many journals to
+/// keep.
 fn storage_of<'a>(options: &ArgMatches<'a>) -> Option<Option<Storage<'a>>>
     ensures { option_map (option_map stored) result ≡ storage_in (rows_of (found_of options.now)) }
 {

@@ -31,7 +31,7 @@ pub nothing_printed : (known : Option (List ℕ)) → Appends known known []
 nothing_printed None = tt
 nothing_printed (Some known) = sym (append-nil known)
 
--- If a line is too long, it is bad.
+-- A line that is too long is invalid.
 pub lt_none : (p : Playing) (line : List ℕ) → 65536 < length line → perform_line p line ≡ None
 unfolding perform_line
 lt_none p line long = ap (λ b. cond b (option_and_then (perform p) (line_meaning line)) None) (lt-leb (length line) 65536 long)

@@ -11,7 +11,7 @@ use Rattle.tpmsim_script.specs.Report.{wanted_text}
 use Rattle.tpmsim_script.specs.declared.bad_line.BadLine.{BadLine}
 use Rattle.tpmsim_web.specs.declared.read_line.ReadLine.{ReadLine}
 
--- the number of an error in a command in words
+-- the number that stands for the error in a line, that is, in a command in words
 abbrev pub fault_kind : AsmFault → ℕ
 fault_kind fault.BadName = 1
 fault_kind (fault.BadField column) = 2

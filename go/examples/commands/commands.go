@@ -31,11 +31,11 @@ type By struct {
 	Value      []byte
 }
 
-// Password returns the authorization with a password.
+// Password returns an authorization with a password.
 func Password(value string) *By { return &By{Session: 0x40000009, Value: []byte(value)} }
 
-// ByPolicy returns the authorization with a policy session. If the policy requires a password,
-// value is that password.
+// ByPolicy returns an authorization with a policy session. If the policy requires a password, value
+// is that password.
 func ByPolicy(session uint32, value string) *By {
 	return &By{session, make([]byte, 16), 1, []byte(value)}
 }

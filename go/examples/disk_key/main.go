@@ -22,13 +22,13 @@ func byPIN(tpm *tpmsim.TPM, session uint32) error {
 	return err
 }
 
-// byPassphrase satisfies the second branch: TPM2_PolicySecret of the owner.
+// byPassphrase satisfies the second branch: TPM2_PolicySecret with the owner's passphrase.
 func byPassphrase(tpm *tpmsim.TPM, session uint32, passphrase string) error {
 	_, err := Send(tpm, 0x151, []uint32{Owner, session}, Password(passphrase), make([]byte, 10))
 	return err
 }
 
-// either executes TPM2_PolicyOR of the branches.
+// either executes TPM2_PolicyOR with the branches.
 func either(tpm *tpmsim.TPM, session uint32, branches [2][]byte) error {
 	digests := Join(Number(2), Sized(branches[0]), Sized(branches[1]))
 	_, err := Send(tpm, 0x171, []uint32{session}, nil, digests)

@@ -36,7 +36,7 @@ func atMost(tpm *tpmsim.TPM, session uint32, version uint64) error {
 	return err
 }
 
-// keyOf returns the key of a version, or the reason for the refusal.
+// keyOf returns the key that is sealed for a version, or the reason for the refusal.
 func keyOf(tpm *tpmsim.TPM, version uint64) (string, error) {
 	policy := DigestOf(tpm, func(trial uint32) error { return atMost(tpm, trial, version) })
 	parent := StorageKey(tpm, "")

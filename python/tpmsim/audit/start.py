@@ -32,7 +32,7 @@ def new() -> Start:
 
 
 def of_text(text: bytes) -> Start:
-    """Opens the device of an image or of a state text; raises Fault for other bytes."""
+    """Opens the device from an image or a state text; raises Fault for other bytes."""
     begun = records.opened(text)
     history = history_of(begun.device)
     held = "state text" if begun.is_state else "image"
@@ -45,7 +45,7 @@ def of_text(text: bytes) -> Start:
 
 
 def history_of(device: Model) -> History:
-    """Returns the history that follows from what a device keeps without power."""
+    """Returns the history that follows from the state that a device keeps while it has no power."""
     history = History()
     for handle in (*HIERARCHIES, *device.objects, *device.indices):
         history.auth_values.values[handle] = device.auth_value(handle)
@@ -71,9 +71,9 @@ def add_state(history: History, device: Model) -> None:
 
 
 def of_log(script: bytes, given: bytes | None) -> Start:
-    """Returns the device with which a log starts: the device of the log's head, else the device of
-    the `given` image or state text, else a new one. Raises Fault if one of the two texts is
-    invalid, or if they are of different devices.
+    """Returns the device with which a log starts: the one in the log's head or, if the log has no
+    head, the one in the image or state text `given`; otherwise a new device. Raises Fault if one of
+    the two texts is invalid, or if they belong to different devices.
     """
     begun = first_of(script)
     if begun is None:

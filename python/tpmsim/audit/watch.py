@@ -60,9 +60,9 @@ def view_of(device: Model, handle: int) -> View:
 
 @dataclass
 class Seen:
-    """An event. `known` is the command, if it passed the general checks, with a view of each handle
-    before the command; `event` is what is known about the command, if it was accepted; `placed` is
-    the object of a context, if the completing layer loaded one for the command.
+    """An event. If the command passed the general checks, `known` is the command with a view of
+    each handle before it. If the command was accepted, `event` is what is known about it. If the
+    completing layer loaded the object of a context for the command, `placed` is that object.
     """
 
     buffer: bytes = b""
@@ -92,8 +92,8 @@ class Seen:
 
     @property
     def of_device(self) -> Outcome:
-        """The outcome of the latest command that the device executed: the one that the completing
-        layer sent, if it sent one.
+        """The outcome of the latest command that the device executed. If the completing layer sent
+        a command, that is the latest one.
         """
         assert self.explained is not None
         return self.explained.sent or self.outcome

@@ -83,15 +83,17 @@ class Caller(Calls, PreparedCommands):
         return self.session(kind=SE_TRIAL, algorithm=algorithm)
 
     def policy(self, words: str, algorithm: int | str = SHA256, **choices: Any) -> Use:
-        """Starts a policy session, executes a policy in words (docs/USING.md) in it, and returns
-        the session, ready for use in a command. Tries the branches of an `either` in order until
-        the device accepts one. Raises Refused if the device refuses them all.
+        """Starts a policy session, executes the commands of a policy in words (docs/USING.md) in
+        it, and returns the session, ready for use in a command. Tries the branches of an `either`
+        in order until the device accepts one. Raises Refused if the device refuses them all.
         """
         session = self.session(kind=SE_POLICY, algorithm=algorithm, **choices)
         return self.tell(session, words)
 
     def tell(self, session: Session, words: str) -> Use:
-        """Executes a policy in words in a session, and returns a use of the session."""
+        """Executes the commands of a policy in words in a session, and returns a use of the
+        session.
+        """
         use = Use(session)
         for step in steps_of(policy_of(words), session.algorithm):
             self.tell_step(use, step)

@@ -54,11 +54,11 @@ class Knowledge:
         self.publics: dict[int, nv.Public] = {}
 
     def auth_value(self, handle: int | None) -> bytes:
-        """Returns the known authorization value of a handle; empty if none is known."""
+        """Returns the known authorization value of a handle; empty if the value is unknown."""
         return b"" if handle is None else self.auth_values.get(handle, b"")
 
     def name(self, handle: int) -> bytes:
-        """Returns the known Name of a handle; if none is known, the handle itself."""
+        """Returns the known Name of a handle, or the handle itself if the Name is unknown."""
         return self.names.get(handle) or sessions.name_of(handle)
 
     def note(self, handle: int, name: bytes, auth_value: bytes) -> None:

@@ -15,7 +15,7 @@ HERE = Attribute.FIXED_TPM | Attribute.FIXED_PARENT
 OPEN = Attribute.USER_WITH_AUTH | Attribute.NO_DA
 STORES = Attribute.RESTRICTED | Attribute.DECRYPT
 
-# Attributes that say who may write and read an index, and the handle of the first index.
+# Attributes that determine who may write and read an index, and the handle of the first index.
 BY_OWNER = nv.Attribute.OWNERWRITE | nv.Attribute.OWNERREAD
 BY_PLATFORM = nv.Attribute.PPWRITE | nv.Attribute.PPREAD
 BY_VALUE = nv.Attribute.AUTHWRITE | nv.Attribute.AUTHREAD

@@ -98,8 +98,8 @@ class Comparison:
         return self.report
 
     def begin(self, step: records.Begin, is_begun: bool) -> None:
-        """Reads a head, which must be of a new device, or of the same device again. A state text of
-        the same device changes nothing.
+        """Reads a head, which must belong to a new device, or again to the same device. A state
+        text of the same device changes nothing.
         """
         if is_begun and self.here.is_device_of(step):
             if not records.is_state_text(step.content):
@@ -161,8 +161,8 @@ class Comparison:
         self.lose(asked, event, line)
 
     def can_be_sent(self, buffer: bytes) -> bool:
-        """Whether a buffer can be sent. In a stream, only the size field shows where a command
-        ends. Microsoft's protocol and a file mark the end in another way.
+        """Whether a buffer can be sent. In a stream, only a command's size field shows where the
+        command ends. Microsoft's protocol and files mark the end in another way.
         """
         if isinstance(self.other, (FileDevice, SimulatorDevice)):
             return True
@@ -200,8 +200,8 @@ class Comparison:
         elif not codes[0]:
             self.lose(asked, event, self.line)
         elif there:
-            # If the entity exists only on the other TPM, removes it there, if one command can do
-            # that.
+            # If the entity exists only on the other TPM, and one command can remove it there, sends
+            # that command.
             self.flush(there.handle)
             if asked.code == CC.NV_DefineSpace:
                 self.other.execute(self.translation.undefining(there))

@@ -104,7 +104,7 @@ class Reference:
         return True
 
     def open_empty(self, step: records.Begin) -> bool:
-        """Continues with the device of a head, if that device was just powered on and contains only
+        """Continues with the device in a head, if that device was just powered on and contains only
         what a new device contains. Returns False for any other device, which is not opened.
         """
         begun = opened(step.content, step.start)

@@ -86,10 +86,10 @@ def lines_told(event: str | Executed) -> list[str]:
 
 class Snapshot(bytes):
     """A device's state text (docs/table/state_text.md), which may be stored, compared and restored
-    anywhere. It also has what the text does not contain: the locality of the next commands, the
-    milliseconds that pass before the next one, and the events so far. `begun` is the image or state
-    text from which the device started, before those events. It is empty for a script's device, and
-    None if unknown.
+    anywhere. It also has attributes that the text does not contain: the locality of the next
+    commands, the milliseconds that pass before the next command, and the events so far. `begun` is
+    the image or state text from which the device started, before those events. `begun` is empty for
+    the device that runs a script, and None if unknown.
     """
 
     locality: int
@@ -143,7 +143,8 @@ class Transport(ABC):
 
     @abstractmethod
     def execute(self, buffer: bytes) -> Answered:
-        """Returns the response to a command; raises DeviceEnded if there is none."""
+        """Executes a command and returns its response; raises DeviceEnded if there is no response.
+        """
 
     def wait(self, milliseconds: int) -> None:
         """Lets milliseconds pass before the next command, at most 4,294,967,295."""
@@ -163,7 +164,7 @@ class Transport(ABC):
         raise Unsupported("the power cannot be switched here")
 
     def save(self) -> bytes:
-        """Returns the image, which is what the device keeps without power.
+        """Returns the image, which contains everything that the device keeps while it has no power.
 
         >>> with Device() as device:
         ...     device.save()[:4]
@@ -184,8 +185,8 @@ class Transport(ABC):
         raise Unsupported("there are no snapshots")
 
     def close(self) -> None:
-        """Ends the device, or the connection to it, as the end of a `with` block does. If the
-        device has an image file, the file then contains the clock.
+        """Closes the device, or the connection to it, as leaving a `with` block does. If the device
+        has an image file, this also saves the clock to it.
 
         >>> device = Device()
         >>> device.close()

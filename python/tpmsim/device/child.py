@@ -20,9 +20,9 @@ NO_STATE_TEXT = "tpmsim: snapshot "
 
 
 def program_found() -> str:
-    """Returns the path of `tpmsim`: the one that $TPMSIM names, the one of this repository, one
-    on the path, or the one next to the interpreter, where a wheel installs it. Raises
-    FileNotFoundError if there is none.
+    """Returns the path of `tpmsim`: the one that $TPMSIM names, the one of this repository, one on
+    the path, or the one next to the interpreter, where a wheel installs it. Raises
+    FileNotFoundError if none of these exists.
     """
     found = os.environ.get("TPMSIM")
     if not found and os.access(shipped("tpmsim"), os.X_OK):
@@ -42,9 +42,9 @@ def remove(folder: str, process: int) -> None:
 
 class ChildDevice(InStep, Device):
     """A device in a child process. Without an image it is manufactured with the bytes 00 to ff, and
-    its state is in a folder of its own until it is closed. With an image it is the device of that
-    file, or a new one with random seeds. Each change is in the file before the response is
-    returned.
+    its state is in a folder of its own until it is closed. With an image it is the device in that
+    file, or a new device with random seeds if the file does not exist. Each change is in the file
+    before the response is returned.
 
     >>> with ChildDevice() as device:
     ...     device.execute(b"").check
@@ -77,7 +77,7 @@ class ChildDevice(InStep, Device):
         return os.path.join(self.folder, name)
 
     def begin(self, image: bytes) -> None:
-        """Starts the device of an image. If the bytes are not an image, the first command raises
+        """Starts the device from an image. If the bytes are not an image, the first command raises
         DeviceEnded.
         """
         self.image = pathlib.Path(self.within("image"))
@@ -139,7 +139,7 @@ class ChildDevice(InStep, Device):
         self.heard()
 
     def save(self) -> bytes:
-        """Returns the bytes of the image file, whose clock is that of the last change."""
+        """Returns the bytes of the image file. Its clock is that of the last change."""
         if self.image is None:
             raise Unsupported("only a device with an image can be saved")
         return self.image.read_bytes()
@@ -165,7 +165,7 @@ class ChildDevice(InStep, Device):
             time.sleep(0.001)
 
     def resume(self, text: bytes) -> None:
-        """Replaces the process by one that continues from the state text."""
+        """Replaces the process with one that continues from the state text."""
         self.check_folder()
         if not self.removal.alive:
             raise DeviceEnded(CLOSED)

@@ -16,9 +16,8 @@ from tpmsim.device.shipped import shipped
 from tpmsim.device.told import Device, NothingReplaced, Path, RANDOM_BYTES
 from tpmsim.model.image import BODY_AT, DIGEST_AT_END, HIERARCHIES
 
-# Sizes in an image: the seed and the proof of a hierarchy; the fields between the last
-# authorization value and the clock, which are one byte and the dictionary attack protection; and
-# the clock.
+# The sizes of parts of an image: the seed and the proof of a hierarchy; the fields between the last
+# authorization value and the clock (one byte and the dictionary attack protection); and the clock.
 SECRETS_BYTES, BEFORE_CLOCK, CLOCK_BYTES = 64, 18, 8
 
 OWNER_ALONE = 0o600
@@ -75,7 +74,7 @@ class ImageFile:
             return b""
 
     def keep(self, image: bytes) -> None:
-        """Writes an image if it differs from the last written one in more than the clock."""
+        """Writes an image if it differs from the last written image in anything but the clock."""
         if not self.kept or but_clock(image) != but_clock(self.kept):
             self.write(image)
 

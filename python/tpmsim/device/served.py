@@ -59,7 +59,7 @@ class Connection:
         return int.from_bytes(self.receive(4), "big")
 
     def response(self) -> bytes:
-        """Receives a response, whose header says its size."""
+        """Receives a response, whose header contains its size."""
         header = self.receive(10)
         return header + self.receive(max(int.from_bytes(header[2:6], "big") - 10, 0))
 
@@ -77,8 +77,9 @@ class OtherDevice(Transport):
     at: int | None = None
 
     def execute(self, buffer: bytes) -> Answered:
-        """Sends a command and returns the response; raises TimeoutError if none comes in time. If
-        the device asks for the command again (TPM_RC_RETRY), sends it again, as every driver does.
+        """Sends a command and returns the response; raises TimeoutError if no response comes in
+        time. If the device asks for the command again (TPM_RC_RETRY), sends it again, as every
+        driver does.
         """
         for _ in range(MOST_TIMES):
             response = self.exchange(buffer)

@@ -80,7 +80,7 @@ class SwtpmDevice(InStep, LocatedDevice):
         self.tell(INIT, number(0, 4))
 
     def save(self) -> bytes:
-        """Returns swtpm's blob of the state that survives without power."""
+        """Returns swtpm's blob with the state that survives a loss of power."""
         return self.whole(lambda: self.blob(PERMANENT))
 
     def blob(self, kind: int) -> bytes:

@@ -24,15 +24,15 @@ Done = TypeVar("Done")
 
 
 class NothingReplaced(TpmsimError, MemoryError):
-    """There is not enough memory for the device of a state text; the previous device is unchanged.
+    """There is not enough memory for the device in a state text; the previous device is unchanged.
     """
 
 
 class Device(Transport):
-    """A fresh device that was just powered on, or the device of an image, which writes its changes
-    to the image's file. It is in this process if the library is found, and otherwise in a child
-    process. Its seeds and its random bytes are fresh; if you pass a seed, they are the same in each
-    run.
+    """A fresh device that was just powered on, or the device that an image contains. If the device
+    comes from an image, it writes its changes to the image's file. The device runs in this process
+    if the library is found, and otherwise in a child process. Its seeds and its random bytes are
+    fresh; if you pass a seed, they are the same in each run.
 
     >>> from tpmsim.caller import Caller
     >>> with Device(seed=b"mine") as device:
@@ -61,7 +61,7 @@ class Device(Transport):
 
     @classmethod
     def open(cls, image: bytes, seed: bytes | None = None) -> Self:
-        """Opens the device of an image, as after a power cycle; raises BadImage if the bytes are
+        """Opens the device from an image, as after a power cycle; raises BadImage if the bytes are
         not an image.
 
         >>> with Device() as device, Device.open(device.save()) as other:
@@ -79,9 +79,9 @@ class Device(Transport):
 
     @property
     def trace(self) -> list[str]:
-        """The events so far as lines of a script. Unless the device started as every script's
-        device does, the first line is a comment with the image or the state text from which it
-        started.
+        """The events so far as lines of a script. If the device started from an image or a state
+        text, unlike the device of a script, the first line is a comment with that image or state
+        text.
         """
         word = "state" if self.begun.startswith(state_text.MAGIC) else "image"
         begun = [f"# {word} {self.begun.hex()}"] if self.begun else []
@@ -100,7 +100,7 @@ class Device(Transport):
         return done
 
     def begin(self, image: bytes) -> None:
-        """Replaces this device by the device of an image."""
+        """Replaces this device with the one in an image."""
         raise NotImplementedError
 
     def state(self) -> bytes:
@@ -108,8 +108,8 @@ class Device(Transport):
         raise NotImplementedError
 
     def resume(self, text: bytes) -> None:
-        """Replaces this device by the device of a state text. Raises BadState if it is not a state
-        text. If it raises BadState, Unsupported or NothingReplaced, the device is unchanged.
+        """Replaces this device with the one in a state text. Raises BadState if `text` is not a
+        state text. If it raises BadState, Unsupported or NothingReplaced, the device is unchanged.
         """
         raise NotImplementedError
 
@@ -207,9 +207,8 @@ class Device(Transport):
 
     def restore(self, snapshot: object) -> None:
         """Restores the state in a snapshot of any device, or in a state text. The events are then
-        those of the snapshot; after a plain state text, or a kept device's snapshot, there are
-        none. Raises BadState for other bytes, which change nothing, and TypeError for anything
-        else.
+        those of the snapshot; a plain state text, or a kept device's snapshot, has no events.
+        Raises BadState for other bytes, which change nothing, and TypeError for anything else.
 
         >>> with Device() as device:
         ...     before = device.snapshot()

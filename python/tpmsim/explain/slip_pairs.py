@@ -39,8 +39,8 @@ class Turned:
 
 
 def hmacs_of(those: Sequence[Slip], right: Ingredients) -> Iterator[tuple[Slip, Slip, bytes]]:
-    """Yields pairs of mistakes, the inner one first, with the HMAC that each pair makes. Likely
-    pairs come first.
+    """Yields pairs of mistakes, with the HMAC that each pair produces. In each pair, the inner
+    mistake comes first. Likely pairs come first.
     """
     turned = [Turned(it, right) for it in those]
     for first, second in combinations(turned, 2):

@@ -146,7 +146,9 @@ def check_asker(public: Public, asker: int, by_owner: Attribute, by_platform: At
 
 
 def check_writing(public: Public, asker: int, kind: Type) -> None:
-    """Makes the checks that precede every change of an index, which must have the type `kind`."""
+    """Checks whether an index may be changed; every change makes these checks first. The index must
+    have the type `kind`.
+    """
     check_asker(public, asker, *WRITERS)
     if public.has(Attribute.WRITELOCKED):
         raise Refusal("NV_LOCKED", "A2")

@@ -1,4 +1,4 @@
-"""The commands of objects (TPM 2.0 Library, Part 3, sections 12, 15 and 24)."""
+"""The object commands (TPM 2.0 Library, Part 3, sections 12, 15 and 24)."""
 
 from dataclasses import replace
 from typing import Any

@@ -17,7 +17,7 @@ DECIMAL, HEX = re.compile(rb"0*([0-9]{1,19})"), re.compile(rb"(?:[0-9A-Fa-f]{2})
 
 
 class BadLine(TpmsimError):
-    """A line that is not a line of a script."""
+    """A line that is not a valid script line."""
 
 
 def found(form: re.Pattern[bytes], text: bytes) -> re.Match[bytes]:

@@ -1,7 +1,8 @@
 """The commands on sequence objects, which the completing layer answers (TPM 2.0 Library, Part 3,
 sections 17 and 28.4). For two of these commands, the layer sends another command to the device:
-TPM2_HMAC with empty data for HMAC_Start, and TPM2_PCR_Extend for EventSequenceComplete. If an HMAC
-session authorizes SequenceUpdate or SequenceComplete, the layer sends TPM2_GetRandom of no bytes.
+TPM2_HMAC with an empty message for HMAC_Start, and TPM2_PCR_Extend for EventSequenceComplete. If an
+HMAC session authorizes SequenceUpdate or SequenceComplete, the layer sends TPM2_GetRandom for zero
+bytes.
 """
 
 from __future__ import annotations

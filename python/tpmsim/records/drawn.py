@@ -1,6 +1,6 @@
 """Recovers the random bytes of a command from its response, if a log does not record them: the
-bytes that the command requested, and the nonces of its sessions. So logs of other devices, which
-contain only commands and responses, can be replayed.
+bytes that the command requested, and the nonces of its sessions. Therefore logs of other
+devices, which contain only commands and responses, can be replayed.
 """
 
 from tpmsim.model.sequence_commands import AUTHORIZED, HMAC_START

@@ -71,7 +71,7 @@ class HeadMark:
 
 @dataclass(frozen=True)
 class Mark:
-    """An entry's mark: facts about the entry's command, and the checksum of the response."""
+    """An entry's mark: data about the entry's command, and the checksum of the response."""
 
     elapsed: int
     locality: int

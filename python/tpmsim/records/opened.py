@@ -1,5 +1,5 @@
-"""The device at the start of a log: the device of an image, just powered on, or the device of a
-state text, which continues where it stopped.
+"""The device at the start of a log: either the device in an image, which was just powered on, or
+the device in a state text, which continues where it stopped.
 """
 
 from __future__ import annotations

@@ -7,9 +7,9 @@ from typing import Iterator
 
 from tpmsim.records.marks import HEAD, Mark, MARK
 
-# The head of a log that Python's devices and pytest write. Since a word in a comment may happen to
-# be hex, the digits must begin with a magic. Otherwise there must be at least 84 of them, as in the
-# shortest image or state text.
+# The head of a log that Python's devices and pytest write. Because a word in a comment may happen
+# to be hex, the digits must either begin with the magic of images and state texts, or be at least
+# as many as in the shortest image or state text, 84.
 REPORTED = re.compile(rb"^# (image|state) (?=54504d|[0-9a-f]{84})", re.MULTILINE)
 
 # The head of a journal, or of a log that Python wrote. If a crash cut off a journal, no newline

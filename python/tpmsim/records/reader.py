@@ -39,7 +39,7 @@ OTHER_LINES = "the record is damaged: its lines are not those of its mark"
 
 @dataclass(frozen=True)
 class Begin:
-    """The device of an image is powered on, or the device of a state text continues. `start` is the
+    """The device in an image is powered on, or the device in a state text continues. `start` is the
     number by which a completing layer that starts here identifies its contexts; `damage` says what
     is wrong with the head.
     """

@@ -101,7 +101,7 @@ class Assembler:
         return self.knowledge.prepare(asked.code, asked.handles, asked.parameters, *means)
 
     def means(self, asked: Prepared, place: int, token: Token) -> bytes | Use:
-        """Returns what authorizes in one entry: a password, or the use of a session."""
+        """Returns the means of authorization in one entry: a password, or the use of a session."""
         entry = asked.entries[place - 1]
         if entry.handle == RS_PW:
             return entry.hmac

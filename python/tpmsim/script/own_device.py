@@ -29,7 +29,7 @@ class OwnModelDevice(OwnDevice, ModelDevice):
 
 
 def own_device() -> OwnDevice:
-    """Returns a fresh device, which the library executes if it is found, and otherwise the model in
-    Python.
+    """Returns a fresh device: one of the library if the library is found, and otherwise the model
+    in Python.
     """
     return OwnLibraryDevice() if is_there() else OwnModelDevice()

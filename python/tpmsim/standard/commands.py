@@ -56,10 +56,10 @@ class Kind(enum.Enum):
 
 
 class Fact(enum.Enum):
-    """Other facts about a command. NO_SESSIONS: the command takes no entries. ADMIN: the role of
+    """Other properties of a command. NO_SESSIONS: the command takes no entries. ADMIN: the role of
     its handle is ADMIN instead of USER. READS_NV: an NV index that authorizes the command needs the
-    attributes for reading instead of those for writing. KEEPS_SAVED: if the command succeeds, what
-    a shutdown saved is not discarded.
+    attributes for reading instead of those for writing. KEEPS_SAVED: if the command succeeds, the
+    state that a shutdown saved is not discarded.
     """
 
     NO_SESSIONS = enum.auto()
@@ -74,7 +74,7 @@ READS_NV, KEEPS_SAVED = Fact.READS_NV, Fact.KEEPS_SAVED
 
 @dataclass(frozen=True)
 class Handle:
-    """A handle of a command. An `@` before its name says that it needs authorization."""
+    """A handle of a command. An `@` before its name means that it needs authorization."""
 
     name: str
     kind: HandleKind
@@ -106,8 +106,8 @@ KINDS = {it.value for it in Kind}
 class CC(enum.IntEnum):
     """TPM_CC (Part 2, section 6.5.2): each command by its name in the standard without `TPM2_`. An
     entry contains the command's number; its handles, the authorized ones first, and its parameters;
-    the handle and the parameters of a successful response; and its other facts. Names are those of
-    Part 3.
+    the handle and the parameters of a successful response; and its other properties. Names are
+    those of Part 3.
     """
 
     handles: tuple[Handle, ...]
@@ -238,10 +238,10 @@ class CC(enum.IntEnum):
         "@lockHandle:LOCKOUT newMaxTries:u32 newRecoveryTime:u32 lockoutRecovery:u32",
     )
 
-    # Facts that follow from an entry.
+    # Properties that follow from an entry.
 
     def has(self, fact: Fact) -> bool:
-        """Returns whether a fact holds for the command."""
+        """Returns whether the command has a property."""
         return fact in self.facts
 
     @property

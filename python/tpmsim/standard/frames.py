@@ -295,7 +295,7 @@ NULL_TICKET = ticket(ST_AUTH_SECRET, RH_NULL, b"")
 
 
 def refusal(code: int) -> bytes:
-    """Returns the response of a refused command, which has only a header."""
+    """Returns the response to a refused command, which has only a header."""
     tag = BAD_TAG_ANSWER if code == CODES["BAD_TAG"] else NO_SESSIONS
     return HEADER.pack(tag, HEADER_BYTES, code)
 

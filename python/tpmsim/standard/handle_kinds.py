@@ -17,7 +17,7 @@ PROVISIONERS, CLEARERS = (RH_OWNER, RH_PLATFORM), (RH_LOCKOUT, RH_PLATFORM)
 
 
 def first_byte(handle: int) -> int:
-    """Returns the first byte of a handle, which says the type of its entity."""
+    """Returns the first byte of a handle, which determines the type of its entity."""
     return handle >> 24
 
 

@@ -62,7 +62,7 @@ HANDLE_NAMES = {
 
 
 def of_form(form: re.Pattern[bytes], token: bytes) -> re.Match[bytes]:
-    """Returns the match of a whole token; raises Wrong if there is none."""
+    """Matches a form against a whole token; raises Wrong if it does not match."""
     found = form.fullmatch(token)
     if not found:
         raise Wrong(BAD_FIELD)
@@ -163,13 +163,14 @@ class Words:
 
 
 def integer(kind: Kind, size: int, shown: str = "{}") -> Words:
-    """Returns the words of integers with this size, in bytes."""
+    """Returns the words for integers of this size, in bytes."""
     most = 2 ** (8 * size) - 1
     return Words(kind, f"u{8 * size}", lambda token: number_up_to(most, token), shown.format)
 
 
 def buffer_of(token: bytes) -> bytes:
-    """Returns a buffer, cut to 65,535 bytes. A longer one would make the command too long anyway.
+    """Returns a buffer, truncated to 65,535 bytes. A longer buffer would make the command too long
+    anyway.
     """
     return bytes_of(token)[:0xFFFF]
 

@@ -66,12 +66,16 @@ def session_key(algorithm: int, auth_value: bytes, nonce_tpm: bytes, nonce_calle
 
 
 def command_hash(algorithm: int, code: int, names: Iterable[bytes], parameters: bytes) -> bytes:
-    """Returns cpHash (18.7), over the handles' Names and the parameters as sent."""
+    """Returns cpHash (18.7), the digest of the command code, the handles' Names, and the
+    parameters as sent.
+    """
     return digest(algorithm, number(code, 4) + b"".join(names) + parameters)
 
 
 def response_hash(algorithm: int, code: int, parameters: bytes) -> bytes:
-    """Returns rpHash (18.8), over the response parameters as sent, encrypted or not."""
+    """Returns rpHash (18.8), the digest of SUCCESS, the command code, and the response parameters
+    as sent, encrypted or not.
+    """
     return digest(algorithm, number(SUCCESS, 4) + number(code, 4) + parameters)
 
 

@@ -118,7 +118,7 @@ def numbers(size: int) -> Values:
 
 
 def write_buffer(value: bytes | bytearray | memoryview | HasText) -> bytes:
-    """Returns a sized buffer of bytes or of a structure's encoding."""
+    """Returns a sized buffer that contains bytes or a structure's encoding."""
     return sized(bytes(value) if isinstance(value, BYTES) else value.text)
 
 

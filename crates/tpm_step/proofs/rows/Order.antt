@@ -198,8 +198,8 @@ pub behind_index : {X : Type 0} (r : Record) (rules : List HandleRule) (handles 
     → Orders r rules handles kinds text (index_or_refusal r h >>= f)
 behind_index r rules handles role h kinds text f fits more = behind_found r rules handles (index_at r.nv h) kinds text f (λ fit. index_there r role h (fits fit)) more
 
--- `Orders` holds for a row that begins by reading authHandle, nvIndex and the index's attributes,
--- if it holds for the rest of the row
+-- Suppose that a row begins by reading authHandle, nvIndex and the index's attributes. If `Orders`
+-- holds for the rest of the row, it holds for the whole row.
 pub behind_target : {X : Type 0} (r : Record) (first : HandleRule) (others : List HandleRule)
     (handles : List Handle) (kinds : List ParameterKind) (text : List ℕ)
     (f : Target → Result X Refused)
@@ -226,8 +226,8 @@ behind_target r first others (h ∷ k ∷ hs) kinds text f more =
     found (Some i) there next = next i.public.attributes there
     found None there next = record { order = inl (refl, λ fit. false≢true (there fit)) }
 
--- `Orders` holds for a row that begins by making an assertion from authHandle, nvIndex and the
--- index's attributes, if it holds for the row after these are read
+-- Suppose that a row begins by making an assertion from authHandle, nvIndex and the index's
+-- attributes. If `Orders` holds for the rest of the row, it holds for the whole row.
 pub behind_target_asserted : {A X : Type 0} (r : Record) (first : HandleRule)
     (others : List HandleRule) (handles : List Handle) (kinds : List ParameterKind) (text : List ℕ)
     (g : Target → Result A Refused) (f : A → Result X Refused)

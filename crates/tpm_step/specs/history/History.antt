@@ -94,8 +94,8 @@ abbrev pub with_placed : Option Handle → Object → History → History
 with_placed (Some handle) object history = ObjectPlaced handle object ∷ history
 with_placed None object history = history
 
--- the history with one more event, which was executed on this record; the event's row reported this
--- check
+-- the history extended by one event, which was executed on this record; `check` is the check in the
+-- event's row
 abbrev pub recorded : Record → PlainEvent → (check : ℕ) → History → History
 recorded r (Given buffer locality elapsed random) check history =
     let t = ticked r elapsed in

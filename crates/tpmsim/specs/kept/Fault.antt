@@ -13,7 +13,7 @@ use Rattle.tpm_state_text.specs.declared.fault.StateFault.TheVariants as state
 use Rattle.tpmsim_folder.specs.declared.fault.Said.{Said}
 use Rattle.tpmsim_folder.specs.declared.fault.Said.TheVariants as said
 
--- how the program reports why a journal's entries could not all be executed again
+-- how the program reports why some of a journal's entries could not be executed again
 abbrev pub said_of_following : FollowFault → Said
 said_of_following following.Damaged = said.Keeper keeper.Damaged
 said_of_following following.Otherwise = said.WasAnsweredOtherwise

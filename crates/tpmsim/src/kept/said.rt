@@ -41,7 +41,7 @@ pub fn said_of_opening(fault: OpenFault) -> Said
     }
 }
 
-/// Returns the report of why a journal's entries could not all be executed again.
+/// Returns the report that says why some of a journal's entries could not be executed again.
 pub fn said_of_following(fault: FollowFault) -> Said
     ensures { result ≡ said_of_following fault }
 {
