@@ -88,7 +88,7 @@ func WithoutStartup() Option {
 }
 
 // WithCompletion puts the completing layer above the device. The layer answers commands on saved
-// contexts, and other commands that the device by design does not support.
+// contexts, and other commands that the device, by design, does not support.
 func WithCompletion() Option {
 	return func(it *opening) { it.tpm.completes = true }
 }

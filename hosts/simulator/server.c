@@ -30,7 +30,7 @@ struct server {
     struct source **of_clients;
     size_t count;
     size_t room;
-    /* Whether no client is accepted for a while. */
+    /* Whether the server temporarily accepts no clients. */
     bool is_full;
 };
 

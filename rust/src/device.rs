@@ -112,8 +112,8 @@ impl Device {
     }
 
     /// Executes a command with the completing layer above the device. The layer answers commands on
-    /// saved contexts, and other commands that the device by design does not support. The check of
-    /// the response is still that of the device.
+    /// saved contexts, and other commands that the device, by design, does not support. The check
+    /// of the response is still that of the device.
     ///
     /// # Panics
     ///

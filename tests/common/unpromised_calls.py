@@ -16,7 +16,7 @@ import re
 import sys
 
 BEGIN = "These public functions promise nothing"
-PUBLIC = re.compile(r"^\s*pub fn (\w+)", re.M)
+PUBLIC = re.compile(r"^\s*pub (?:extern \"C\" )?fn (\w+)", re.M)
 # A signature with clauses ends with a line that contains only a brace. A signature without clauses
 # ends with a brace at the end of its last line.
 BODY = re.compile(r"^\s*\{\}?$", re.M)

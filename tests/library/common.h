@@ -1,5 +1,5 @@
-/* Functions that the library's test programs share: decoding of hex, commands, and failures with a
- * message. */
+/* Functions that the library's test programs share, for example to decode hex, to execute commands,
+ * and to end the program with a message. */
 #ifndef COMMON_H
 #define COMMON_H
 #include "tpmsim.h"

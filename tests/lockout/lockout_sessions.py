@@ -119,8 +119,9 @@ def check(name, handle, use):
 
 
 def policy_without_value():
-    """The use of a policy that demands no authorization value is not an attempt to guess such a
-    value, whatever its HMAC is.
+    """Using a policy that demands no authorization value does not count as an attempt to guess the
+    entity's value, whatever HMAC the entry contains. But if the session is bound to a protected
+    entity, a wrong HMAC counts as an attempt to guess the value of that entity.
     """
     tpm.chapter(
         "A policy that demands no authorization value, and a session that is bound to nothing."

@@ -26,7 +26,9 @@ tpm = Teller(__name__, __doc__)
 
 
 def refusal(asker, allowed):
-    """Returns the outcome for an entity's password if only the entity `allowed` may authorize."""
+    """Returns the outcome of a command that `asker` authorizes with a password, if only `allowed`
+    may authorize it.
+    """
     if asker == allowed:
         return "SUCCESS"
     return "AUTH_UNAVAILABLE" if asker == "index" else "NV_AUTHORIZATION"

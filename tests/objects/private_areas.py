@@ -1,5 +1,6 @@
 """Makes private_areas.tpm. A private area is an integrity value, the first block of the cipher, and
-the encrypted sensitive area. TPM2_Load accepts it if its parent made it for this public area.
+the encrypted sensitive area. TPM2_Load accepts a private area if the parent made it for the public
+area that is loaded with it.
 """
 
 from dataclasses import dataclass

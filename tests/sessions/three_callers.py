@@ -72,7 +72,9 @@ def measuring(stage, caller):
 
 
 def unsealing(stage, caller):
-    """Unseals data with a policy on the value of PCR 10 after it was extended once with zeros."""
+    """Tries to unseal data whose policy requires the value that PCR 10 has after it has been
+    extended once with zeros.
+    """
     parent = caller.create_primary("The second caller makes a storage key", RH_OWNER, storage_key())
     yield
     template = sealed(attributes=HERE | ObjectAttribute.NO_DA, auth_policy=AUTH_POLICY)

@@ -68,7 +68,8 @@ abbrev pub run_of : (can completes : Bool) (c : Completion) (old : Record) (even
 run_of can false c old event seen passes = executed old event seen.step ∷ []
 run_of can true c old event seen completes = run_with can c old event seen completes
 
--- Executing an event extends the history that a device follows by all executions for the event.
+-- If a device follows a history and executes an event, it then follows that history extended by all
+-- executions that belong to the event.
 abbrev pub RunsFollow : Type 0
 RunsFollow =
     (can completes : Bool) (c : Completion) (old : Record) (event : PlainEvent) (seen : Seen)

@@ -35,7 +35,7 @@ fn is_stirred(parameters: &[u8]) -> bool
     }
 }
 
-/// Answers a TPM 1.2 command, with which firmware checks whether there is a TPM 1.2.
+/// Answers the TPM 1.2 command with which firmware looks for a TPM 1.2.
 #[tactic(auto, unfolding(crate::specs::Reply::probed))]
 fn probe(layer: &Completion, buffer: &[u8], text: &mut Response)
     ensures { record { response = text.new.items; after = layer.now }

@@ -10,4 +10,6 @@ pub mod SequencesNamed
 pub mod SequencesSaved
 pub mod SequencesLoaded
 pub mod SessionEntries
+pub mod SentCommands
 pub mod SequencesStarted
+pub mod AcceptedProofs

@@ -1,35 +1,29 @@
 -- TPM2_HMAC_Start starts a sequence with the hash and the key that the device uses for TPM2_HMAC.
-use Rattle.std.proofs.Common.{arith, ◌≡◌, ℕ, ◌+◌, ◌^◌, ◌<◌, ◌≤◌, Bool, true, false, cond, List, [], ◌∷◌, ◌++◌, length, drop, Option, Some, None, option_map, Result, Ok, Err, IfOk, refl, sym, ap, subst, ◌∙◌, append-nil, length-append, eqb-true, ltb-false}
-use Rattle.std.specs.Prelude.{◌==◌, ◌&&◌, ◌||◌, bit_and, nat_lt, not, ok_or, option_and_then, slice_get, if◌then◌else◌}
+use Rattle.std.proofs.Common.{arith, ◌≡◌, ℕ, ◌^◌, ◌<◌, ◌≤◌, Bool, true, false, cond, List, [], ◌∷◌, ◌++◌, length, drop, Option, Some, None, option_map, Result, Ok, Err, IfOk, refl, sym, ap, subst, ◌∙◌, eqb-true}
+use Rattle.std.specs.Prelude.{◌==◌, ◌&&◌, bit_and, nat_lt, not, ok_or, option_and_then, slice_get, if◌then◌else◌}
 use Rattle.std.specs.Int.{w16, w32, to_be_bytes}
 use Rattle.std.specs.List.{AllByRecursion, list_any}
 use Rattle.std.specs.Option.{option_map_or}
 use Rattle.std.proofs.lemmas.Nat.{and_assoc, and_le_l}
-use Rattle.tpm_bytes.proofs.Fields.{AreBytes, number_or_takes, ok_is, or_fault_ok, passed, sized_again, wide32}
-use Rattle.tpm_bytes.specs.Reading.{◌>>=◌, number_at, or_fault, refused_if, sized_at}
+use Rattle.tpm_bytes.proofs.Fields.{AreBytes, ok_is, or_fault_ok, passed, sized_again}
+use Rattle.tpm_bytes.specs.Reading.{◌>>=◌, refused_if, sized_at}
 use Rattle.tpm_bytes.specs.Writing.{sized_text}
 use Rattle.tpm_bytes.specs.declared.cursor.SizedFault.TheVariants as fault
 use Rattle.tpm_mac.specs.Hmac.{hmac_of}
 use Rattle.tpm_mac.specs.declared.algorithm.HashAlg.{HashAlg}
 use Rattle.tpm_types.specs.declared.action_check.ActionCheck.TheVariants as action
-use Rattle.tpm_types.specs.declared.check.Check.{Check}
 use Rattle.tpm_types.specs.declared.check.Check.TheVariants as check
 use Rattle.tpm_types.specs.declared.handle.Handle.{Handle}
 use Rattle.tpm_types.specs.declared.rc.Place.TheVariants as place
 use Rattle.tpm_types.specs.declared.rc.Rc.{Rc}
 use Rattle.tpm_types.specs.declared.rc.ResponseCode.TheVariants as code
 use Rattle.tpm_types.specs.declared.refused.Refused.{Refused}
-use Rattle.tpm_types.specs.declared.session_type.SessionType.{SessionType}
-use Rattle.tpm_types.specs.declared.session_type.SessionType.TheVariants as type
 use Rattle.tpm_types.specs.Algorithm.{hash_number, hash_or_null_at, hash_or_null_number}
 use Rattle.tpm_types.specs.Buffer.{buffer_at, or_sized_rc}
-use Rattle.tpm_types.specs.Check.{check_number}
-use Rattle.tpm_types.specs.Handle.{password_handle}
 use Rattle.tpm_types.specs.Limits.{data_limit}
 use Rattle.tpm_types.specs.Rc.{at, plain}
 use Rattle.tpm_types.specs.Refused.{checked}
-use Rattle.tpm_types.specs.SessionAttributes.{audits, has_reserved_bits, uses_cipher}
-use Rattle.tpm_types.specs.SessionType.{type_byte}
+use Rattle.tpm_types.specs.SessionAttributes.{uses_cipher}
 use Rattle.tpm_types.proofs.HashLaws.{hash_or_null_spelled}
 use Rattle.tpm_types_object.specs.ObjectAttributes.{has}
 use Rattle.tpm_types_object.specs.declared.object_attributes.ObjectAttribute.TheVariants as attribute
@@ -37,24 +31,16 @@ use Rattle.tpm_types_object.specs.declared.public.KeyedHashScheme.{KeyedHashSche
 use Rattle.tpm_types_object.specs.declared.public.KeyedHashScheme.TheVariants as scheme
 use Rattle.tpm_types_object.specs.declared.public.PublicParameters.{PublicParameters}
 use Rattle.tpm_types_object.specs.declared.public.PublicParameters.TheVariants.{KeyedHash, SymCipher}
-use Rattle.tpm_types_command.proofs.CommandLaws.{command_again, command_body_text-is, command_size-is, command_text-is, length-body}
-use Rattle.tpm_types_command.proofs.EntryLaws.{area_takes, length-auth_entry_text}
-use Rattle.tpm_types_command.specs.AuthArea.{area_at}
-use Rattle.tpm_types_command.specs.AuthEntry.{Entry, IsEntry, auth_entry_text}
-use Rattle.tpm_types_command.specs.Command.{IsCommand, Whole, command_at, command_body_text, command_text, sessions_text}
-use Rattle.tpm_types_command.specs.Header.{header_text}
-use Rattle.tpm_types_command.specs.declared.tag.Tag.TheVariants.{Sessions}
+use Rattle.tpm_types_command.specs.AuthEntry.{Entry, IsEntry}
+use Rattle.tpm_types_command.specs.Command.{Whole}
 use Rattle.tpm_commands.specs.CommandCode.{authorized_handles, code_number, shape_of}
 use Rattle.tpm_commands.specs.declared.command_code.CommandCode.TheVariants as command
-use Rattle.tpm_containers.specs.Numbered.{at_number, if_of_kind, kind_of, place_of}
-use Rattle.tpm_containers.specs.Slots.{at_place}
 use Rattle.tpm_object.specs.declared.object.Object.{Object}
 use Rattle.tpm_sequence.proofs.SequenceLaws.{hmac_sequence_is_hmac}
 use Rattle.tpm_sequence.specs.Sequence.{hmac_sequence}
 use Rattle.tpm_sequence.specs.Sequence.{object_of as sequence_object}
 use Rattle.tpm_session.specs.FirstBuffer.{has_first_buffer}
 use Rattle.tpm_session.specs.ParameterHash.{HashedParts, OfResponse}
-use Rattle.tpm_session.specs.Sessions.{session_at, session_byte}
 use Rattle.tpm_session.specs.declared.session.Session.{Session}
 use Rattle.tpm_record.specs.Entity.{object_of}
 use Rattle.tpm_record.specs.Record.{Record}
@@ -68,28 +54,25 @@ use Rattle.tpm_auth.specs.Grant.{authorize, authorized, grant, grants_pass}
 use Rattle.tpm_auth.specs.declared.session_grant.Grant.{Grant}
 use Rattle.tpm_actions_object.specs.Hmac.{Parameters, chosen_hash, hmac_row, own_hash, parameters_in, scheme_of}
 use Rattle.tpm_actions_object.specs.Loaded.{loaded_at}
-use Rattle.tpm_step.proofs.rows.Binding.{ok_at, ok_bind, ok_bind_is, ok_checked, ok_in_command, ok_then, ok_weaker, some_is}
-use Rattle.tpm_step.proofs.step.Decoding.{general_reads}
+use Rattle.tpm_step.proofs.rows.Binding.{asked, ok_at, ok_bind, ok_bind_is, ok_then, some_is}
 use Rattle.tpm_step.proofs.rows.Acceptance.{accepted_is}
 use Rattle.tpm_step.specs.step.Answer.{answer_to, framed, success_text, written_of}
 use Rattle.tpm_step.specs.step.Entries.{entries_answer, entries_rolled, entry_answer, password_answer, session_answer}
-use Rattle.tpm_step.specs.step.General.{general}
 use Rattle.tpm_step.specs.step.Granted.{Granted}
 use Rattle.tpm_step.specs.step.Parameters.{asks_for, entry_parameters, session_parameters}
-use Rattle.tpm_step.specs.step.Step.{Accepted, acceptance, accepted, request_in, stepped_of, success_step}
+use Rattle.tpm_step.specs.step.Step.{Accepted, accepted, request_in, stepped_of, success_step}
 use Rattle.tpm_step.specs.step.Table.{row_of}
 use Rattle.tpm_step.specs.declared.direction.Direction.{Direction}
 use Rattle.tpm_step.specs.declared.direction.Direction.TheVariants as direction
 use Rattle.tpm_step.specs.declared.refused_command.RefusedCommand.{RefusedCommand}
 use Rattle.tpm_step.specs.rows.Acceptance.{IsAcceptance}
-use Rattle.tpm_completion.specs.Authorizing.{entries_at, entry_passes, entry_refused, first_passes, handle_at, names_hmac_session, only_entry}
-use Rattle.tpm_completion.specs.Sending.{HmacStart, area_of, hmac_command, hmac_start_in, key_hash, keyed_sequence, start_asked, start_covered, start_entry, start_sent, start_work}
+use Rattle.tpm_completion.specs.Authorizing.{entries_at, handle_at, only_entry}
+use Rattle.tpm_completion.specs.Sending.{HmacStart, hmac_command, hmac_start_in, key_hash, keyed_sequence, start_asked, start_covered, start_entry, start_sent, start_work}
 use Rattle.tpm_completion.specs.SequenceRows.{authorized_success, full_refused}
 use Rattle.tpm_completion.specs.Sequences.{free_slot}
-use Rattle.tpm_completion.specs.SessionEntry.{Covered, entry_sent, sent_hmac}
 use Rattle.tpm_completion.specs.declared.completion.Completion.{Completion}
 use Rattle.tpm_completion.specs.declared.sending.Work.TheVariants.{Starts}
-use Rattle.tpm_completion_laws.proofs.SessionEntries.{few_bytes}
+use Rattle.tpm_completion_laws.proofs.SentCommands.{IsPlain, accepted_one, check_some, entries_are, handle_is, no_session, only_is, sent_plain, with_one}
 use Rattle.tpm_completion_laws.specs.Sequences.{StartsLikeTheDevice, StartsWithTheKey, hmac_request}
 
 -- ---- results of several steps
@@ -97,102 +80,38 @@ use Rattle.tpm_completion_laws.specs.Sequences.{StartsLikeTheDevice, StartsWithT
 bind_is : {A B E : Type 0} (x : Result A E) (f : A → Result B E) (a : A) (y : Result B E) → x ≡ Ok a → f a ≡ y → (x >>= f) ≡ y
 bind_is x f a y is rest = rw is rest
 
--- if `refused_if` does not refuse, its condition is false
-unrefused : {E : Type 0} (P : Type 0) (b : Bool) (fault : E) → (b ≡ false → P) → IfOk (refused_if b fault) (λ u. P)
-unrefused P true fault all = tt
-unrefused P false fault all = all refl
-
-neither : (a b : Bool) → (a || b) ≡ false → (a ≡ false) × (b ≡ false)
-neither true b e = absurd cc
-neither false b e = (refl, e)
-
 not_false : (b : Bool) → not b ≡ false → b ≡ true
 not_false true e = refl
 not_false false e = absurd cc
 
 -- ---- what TPM2_HMAC_Start asks for
 
--- The nonce of an entry, and its HMAC or password, have at most 32 bytes. The entry neither
--- decrypts nor encrypts a parameter.
-record IsPlain (e : Entry) : Type 0 where
-  nonce : length e.nonce ≤ 32
-  hmac : length e.hmac ≤ 32
-  cipher : uses_cipher e.attributes ≡ false
-
 -- The handle and the entry can be encoded, and the entry passes the layer's checks.
-record IsStart (start : HmacStart) : Type 0 where
-  handle : start.handle.number < 2 ^ 32
-  entry : IsEntry start.entry
-  plain : IsPlain start.entry
+pub record IsStart (start : HmacStart) : Type 0 where
+  pub handle : start.handle.number < 2 ^ 32
+  pub entry : IsPlain start.entry
 
-handle_is : (text : List ℕ) → AreBytes text → IfOk (handle_at 1 text) (λ x. (x.0.number < 2 ^ 32) × AreBytes x.1)
-unfolding handle_at
-handle_is text fits =
-    ok_bind_is _ (or_fault (number_at w32 text) _) _ (λ number is.
-    let t = number_or_takes w32 (2 ^ 32) wide32 _ text number fits is in (t.1, t.0.rest_fits))
-
-entries_are : (text : List ℕ) → AreBytes text → IfOk (entries_at text) (λ x. AllByRecursion IsEntry x.0)
-unfolding entries_at
-entries_are text fits = ok_checked _ check.Entries (area_at text) (by (area_at text) refl)
-  where
-    by : (x : Result (List Entry × List ℕ) Rc) → area_at text ≡ x → IfOk x (λ y. AllByRecursion IsEntry y.0)
-    by (Ok y) is = (area_takes text y fits is).2
-    by (Err e) is = tt
-
-plain_is : (n : ℕ) (allowed : Bool) (e : Entry) → IfOk (entry_passes n allowed e) (λ u. IsPlain e)
-unfolding entry_passes
-plain_is n allowed e =
-    let sizes : Bool = nat_lt 32 (length e.nonce) || nat_lt 32 (length e.hmac) in
-    ok_bind_is (λ u. IsPlain e) (refused_if sizes (entry_refused n code.Size)) _ (λ one first.
-    ok_bind (λ u. IsPlain e) (refused_if (not allowed) (entry_refused n code.Handle)) _ (λ two.
-    ok_bind (λ u. IsPlain e) (refused_if (has_reserved_bits e.attributes) (entry_refused n code.ReservedBits)) _ (λ three.
-    let small = neither (nat_lt 32 (length e.nonce)) (nat_lt 32 (length e.hmac)) (passed sizes (entry_refused n code.Size) one first) in
-    unrefused (IsPlain e) (audits e.attributes || uses_cipher e.attributes) (entry_refused n code.Attributes) (λ other. record {
-      nonce = ltb-false _ _ small.0;
-      hmac = ltb-false _ _ small.1;
-      cipher = (neither (audits e.attributes) (uses_cipher e.attributes) other).1;
-    }))))
-
-only_is : (entries : List Entry) → AllByRecursion IsEntry entries → IfOk (only_entry entries) (λ e. IsEntry e × IsPlain e)
-unfolding only_entry
-only_is [] are = tt
-only_is (e ∷ []) are = ok_then (λ u. IsPlain e) _ (first_passes e) _ (plain_is 1 (is_password e || names_hmac_session e) e) (λ valid plain. (are.0, plain))
-only_is (e ∷ f ∷ more) are = ok_bind _ (first_passes e) _ (λ valid. tt)
-
-start_is : (c : Completion) (text : List ℕ) → AreBytes text → IfOk (hmac_start_in c text) IsStart
+pub start_is : (c : Completion) (text : List ℕ) → AreBytes text → IfOk (hmac_start_in c text) IsStart
 unfolding hmac_start_in
 start_is c text fits =
-    ok_then (λ x. (x.0.number < 2 ^ 32) × AreBytes x.1) IsStart (handle_at 1 text) _ (handle_is text fits) (λ handle is.
+    ok_then (λ x. (x.0.number < 2 ^ 32) × AreBytes x.1) IsStart (handle_at 1 text) _ (handle_is 1 text fits) (λ handle is.
     ok_then (λ x. AllByRecursion IsEntry x.0) IsStart (entries_at handle.1) _ (entries_are handle.1 is.1) (λ entries are.
-    ok_then (λ e. IsEntry e × IsPlain e) IsStart (only_entry entries.0) _ (only_is entries.0 are) (λ entry one.
+    ok_then IsPlain IsStart (only_entry entries.0) _ (only_is entries.0 are) (λ entry one.
     ok_bind IsStart (parameter 1 (buffer_at 32 entries.1)) _ (λ auth.
     ok_bind IsStart (parameter 2 (hash_or_null_at auth.1)) _ (λ hash.
     ok_bind IsStart (all_read hash.1) _ (λ ended.
     ok_bind IsStart (ok_or (free_slot c) full_refused) _ (λ slot.
-    record { handle = is.0; entry = one.0; plain = one.1 })))))))
-
--- ---- the entry that is sent
-
--- the HMAC or password in the entry that the layer sends has at most 32 bytes
-few_sent : (r : Record) (asked sent : Covered) (e : Entry) → length e.hmac ≤ 32 → length (entry_sent r asked sent e).hmac ≤ 32
-few_sent r asked sent e few = by (session_of r e)
-  where
-    by : (found : Option Session) → length (option_map_or (λ (s : Session). sent_hmac s asked sent e) found e.hmac) ≤ 32
-    by None = few
-    by (Some s) = few_bytes s asked sent e
+    record { handle = is.0; entry = one })))))))
 
 -- the same request, with the entry that the layer sends
 abbrev with_sent : Record → HmacStart → HmacStart
 with_sent r start = record start { entry = start_entry r start }
 
 sent_is : (r : Record) (start : HmacStart) → IsStart start → IsStart (with_sent r start)
-sent_is r start is =
-    let few : length (start_entry r start).hmac ≤ 32 = few_sent r (start_asked r start) (start_covered r start) start.entry is.plain.hmac in
-    record {
-      handle = is.handle;
-      entry = record { session = is.entry.session; nonce = is.entry.nonce; attributes = is.entry.attributes; hmac = omega (arith, few) };
-      plain = record { nonce = is.plain.nonce; hmac = few; cipher = is.plain.cipher };
-    }
+sent_is r start is = record {
+  handle = is.handle;
+  entry = sent_plain r (start_asked r start) (start_covered r start) start.entry is.entry;
+}
 
 -- ---- the command that is sent
 
@@ -202,86 +121,15 @@ parameters_text start message = sized_text message ++ to_be_bytes w16 (hash_or_n
 
 -- the command as the device decodes it
 abbrev hmac_whole : HmacStart → Whole
-hmac_whole start = record {
-  code = command.Hmac;
-  handles = start.handle ∷ [];
-  entries = start.entry ∷ [];
-  parameters = parameters_text start [];
-}
-
-body_is : (start : HmacStart) → command_body_text (hmac_whole start) ≡ to_be_bytes w32 start.handle.number ++ area_of start.entry ++ parameters_text start []
-body_is start =
-    let front : List ℕ = to_be_bytes w32 start.handle.number in
-    command_body_text-is (hmac_whole start)
-    ∙ ap (λ (entries : List ℕ). front ++ (to_be_bytes w32 (length entries) ++ entries) ++ parameters_text start []) (append-nil (auth_entry_text start.entry))
-
-text_is : (start : HmacStart) → command_text (hmac_whole start) ≡ hmac_command start.handle start.entry start.hash
-unfolding header_text hmac_command
-text_is start =
-    let c : Whole = hmac_whole start in
-    command_text-is c
-    ∙ ap (λ (size : ℕ). header_text Sessions size command.Hmac ++ command_body_text c) (command_size-is c)
-    ∙ ap (λ (body : List ℕ). header_text Sessions (10 + length body) command.Hmac ++ body) (body_is start)
-
-area_size : (e : Entry) → length (sessions_text (e ∷ [])) ≡ 13 + length e.nonce + length e.hmac
-area_size e = omega (arith, length-append (auth_entry_text e) [], length-auth_entry_text e)
-
-is_command : (start : HmacStart) → IsStart start → IsCommand (hmac_whole start)
-unfolding shape_of
-is_command start is =
-    let c : Whole = hmac_whole start in
-    let size = command_size-is c in
-    let body = length-body c in
-    let area = area_size start.entry in
-    let nonce = is.plain.nonce in
-    let hmac = is.plain.hmac in
-    record {
-      handle_count = refl;
-      handles = (is.handle, tt);
-      entry_count = omega arith;
-      entries = (is.entry, tt);
-      size = omega (arith, size, body, area, nonce, hmac);
-    }
-
-acceptance_command : (t : Record) (c : Whole) (locality : ℕ) (random : List ℕ) → IfOk (acceptance t c locality random) (λ a. a.command ≡ c)
-unfolding acceptance
-acceptance_command t c locality random =
-    ok_bind _ (authorize t c locality) _ (λ grants.
-    ok_bind _ (row_of t c.code (request_in t c grants locality random)) _ (λ success. refl))
-
-accepted_reads : (t : Record) (buffer : List ℕ) (locality : ℕ) (random : List ℕ) → IfOk (accepted t buffer locality random) (λ a. command_at buffer ≡ Ok (a.command, []))
-unfolding accepted
-accepted_reads t buffer locality random =
-    ok_then (λ c. command_at buffer ≡ Ok (c, [])) _ (general t buffer) _ (general_reads t buffer) (λ c reads.
-    ok_in_command _ c.code (acceptance t c locality random)
-    (ok_weaker (λ a. a.command ≡ c) _ (acceptance t c locality random) (acceptance_command t c locality random)
-    (λ a same. subst (λ (d : Whole). command_at buffer ≡ Ok (d, [])) (sym same) reads)))
+hmac_whole start = with_one command.Hmac (start.handle ∷ []) start.entry (parameters_text start [])
 
 accepted_whole : (t : Record) (start : HmacStart) (locality : ℕ) (random : List ℕ) → IsStart start
     → IfOk (accepted t (hmac_command start.handle start.entry start.hash) locality random) (λ a. a.command ≡ hmac_whole start)
+unfolding hmac_command shape_of
 accepted_whole t start locality random is =
-    let buffer = hmac_command start.handle start.entry start.hash in
-    ok_weaker (λ a. command_at buffer ≡ Ok (a.command, [])) _ (accepted t buffer locality random) (accepted_reads t buffer locality random) (λ a reads.
-    ap (λ (x : Whole × List ℕ). x.0)
-    (ok_is {E = Rc} (a.command, []) (hmac_whole start, [])
-    (sym reads ∙ ap command_at (sym (text_is start)) ∙ command_again (hmac_whole start) (is_command start is))))
+    accepted_one t command.Hmac (start.handle ∷ []) start.entry (parameters_text start []) locality random refl (is.handle, tt) is.entry.entry
 
--- ---- a password is no session
-
-apart : (kind : SessionType) → (kind_of 0x4000_0009 == type_byte kind) ≡ false
-apart type.Hmac = refl
-apart type.Policy = refl
-apart type.Trial = refl
-
-no_session : (places : List (Option Session)) (handle : Handle) → (handle.number == password_handle.number) ≡ true → session_at places handle ≡ None
-unfolding session_at at_number
-no_session places handle is = by (at_place places (place_of handle.number))
-  where
-    by : (o : Option Session) → option_and_then (if_of_kind session_byte handle.number) o ≡ None
-    by None = refl
-    by (Some s) =
-        ap (λ (n : ℕ). if kind_of n == session_byte s then Some s else None) (eqb-true handle.number password_handle.number is)
-        ∙ ap (λ (b : Bool). if b then Some s else None) (apart s.kind)
+-- ---- the answer to a password
 
 password_answered : (r : Record) (hashed : HashedParts) (g : Option Grant) (e : Entry) → session_of r e ≡ None → entry_answer r hashed g e ≡ password_answer
 unfolding entry_answer
@@ -477,7 +325,7 @@ accepted_starts : (r : Record) (start : HmacStart) (locality : ℕ) (random : Li
 accepted_starts r start locality random a begun is same =
     let t : Record = ticked r 0 in
     let c : Whole = hmac_whole start in
-    let none : uses_cipher start.entry.attributes ≡ false = begun.plain.cipher in
+    let none : uses_cipher start.entry.attributes ≡ false = begun.entry.cipher in
     let granted : authorize t c locality ≡ Ok a.grants = subst (λ (d : Whole). authorize t d locality ≡ Ok a.grants) same is.granted in
     let one : IsOneGrant a.grants = ok_at IsOneGrant (authorize t c locality) a.grants (one_grant t start locality) granted in
     let asked : a.request ≡ hmac_request start locality random [] =
@@ -508,22 +356,6 @@ accepted_starts r start locality random a begun is same =
           ∙ answer_is t start one.0 random mac none;
       password = area_of_password t start.entry one.0 random mac;
     }
-
--- the number of every check is greater than 0
-check_some : (c : Check) → check_number c ≡ 0 → ⊥
-check_some check.Length zero = absurd cc
-check_some check.Tag zero = absurd cc
-check_some check.Size zero = absurd cc
-check_some check.Code zero = absurd cc
-check_some check.Started zero = absurd cc
-check_some check.Handles zero = absurd cc
-check_some check.Sessions zero = absurd cc
-check_some check.Entries zero = absurd cc
-check_some check.Authorization zero = absurd cc
-check_some check.Others zero = absurd cc
-check_some check.Parameters zero = absurd cc
-check_some (check.Action a) zero = omega (arith, zero)
-check_some check.Memory zero = absurd cc
 
 stepped_starts : (r : Record) (start : HmacStart) (locality : ℕ) (random : List ℕ) (x : Result Accepted RefusedCommand) → IsStart start
     → IfOk x (IsAcceptance (ticked r 0) locality random) → IfOk x (λ a. a.command ≡ hmac_whole start) → (stepped_of (ticked r 0) random x).row.check ≡ 0

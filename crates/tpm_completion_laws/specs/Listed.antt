@@ -104,9 +104,9 @@ PcrPropertiesHold =
 
 -- ---- counts
 
--- Loaded and saved sessions together are all sessions. The number in use and the number available
--- add up to the limit, for loaded sessions (HR_LOADED and HR_LOADED_AVAIL), for active sessions
--- (HR_ACTIVE and HR_ACTIVE_AVAIL), and for transient objects (HR_TRANSIENT_AVAIL).
+-- Every session is either loaded or saved. The number in use and the number available add up to the
+-- limit, for loaded sessions (HR_LOADED and HR_LOADED_AVAIL), for active sessions (HR_ACTIVE and
+-- HR_ACTIVE_AVAIL), and for transient objects (HR_TRANSIENT_AVAIL).
 pub record AddsUp (r : Record) (c : Completion) : Type 0 where
   pub all : active_count r c ≡ length (session_elements r)
   pub loaded : session_count r c false + (session_limit - session_count r c false) ≡ session_limit

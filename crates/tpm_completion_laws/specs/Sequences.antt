@@ -170,8 +170,7 @@ pub record StartsLikeTheDevice (r : Record) (start : HmacStart) (planned : Optio
         → length message ≤ data_limit
         → hmac_row r (hmac_request start locality random message)
         ≡ Ok (unchanged r (answer_of (Sized (hmac_of hash key message))))
-    pub response : text
-        ≡ authorized_success [] (sized_text (hmac_of hash key [])) area
+    pub response : text ≡ authorized_success [] (sized_text (hmac_of hash key [])) area
     pub password : is_password start.entry ≡ true → area ≡ password_answer
 
 -- If the device accepts the TPM2_HMAC that the layer sends for a TPM2_HMAC_Start, the layer starts

@@ -12,7 +12,10 @@ ghost use Rattle.tpm_completion_laws.specs.Listed.{PcrPropertiesHold, Properties
 ghost use Rattle.tpm_completion_laws.specs.Objects.{LoadsObjects, SavesObjects, StaysValidThrough};
 ghost use Rattle.tpm_completion_laws.specs.Sequences.{IsNamedOnce, LoadsSequences, SavesSequences};
 ghost use Rattle.tpm_completion_laws.specs.Sequences.{SequencesStayValidThrough, SlotIsNamed, StartsWithTheKey};
-ghost use Rattle.tpm_completion_laws.specs.SessionEntries.{CarriesTheProof, ComparesLikeTheDevice};
+ghost use Rattle.tpm_completion_laws.specs.SessionEntries.{AcceptsOnlyProofs, CarriesTheProof};
+ghost use Rattle.tpm_completion_laws.specs.SessionEntries.{ComparesLikeTheDevice};
+ghost use Rattle.tpm_completion_laws.specs.SessionEntries.{EventsAcceptOnlyProofs};
+ghost use Rattle.tpm_completion_laws.specs.SessionEntries.{SequencesAcceptOnlyProofs};
 
 /// The context of a session can be loaded only once. A context from another start of the layer is
 /// always refused.
@@ -50,11 +53,15 @@ pub fn sequence_laws()
 {}
 
 /// The HMAC that the layer sends to the device is right if and only if the client's HMAC is. The
-/// device compares the HMAC of the sent command as the layer's definition does.
+/// device compares the HMAC of the sent command as the layer's definition does. So if the device
+/// accepts the command that the layer sends, the client's HMAC is right.
 #[inline(always)]
 pub fn session_laws()
     ensures carried { CarriesTheProof }
     ensures compared { ComparesLikeTheDevice }
+    ensures starts { AcceptsOnlyProofs }
+    ensures sequences { SequencesAcceptOnlyProofs }
+    ensures events { EventsAcceptOnlyProofs }
 {}
 
 /// The layer serves only its own commands, and lists and counts each of them. Commands and

@@ -88,8 +88,9 @@ pub fn growth_laws()
         → IfOk (row_of r c q) (λ s. GrowsAsShaped c r s.after) }
 {}
 
-/// A row does not refuse parameters of the kinds in its command's shape. It refuses all other
-/// parameters with their first fault, unless it refuses a handle first.
+/// If a command's parameters have the kinds that its shape lists, its row does not refuse their
+/// encoding. Otherwise, the row refuses the command with the first fault in the parameters, unless
+/// it refuses a handle first.
 #[inline(always)]
 #[tactic(auto, using(crate::proofs::rows::Table::row_reads))]
 pub fn parameter_laws()

@@ -151,9 +151,9 @@ pub extern "C" fn device_save(holder: &mut Holder, buffer: &mut [u8]) -> usize
     size
 }
 
-/// If they fit, writes the data that the device keeps without power, except its clock, to the start
-/// of a buffer. Returns the size of these data, even if they do not fit, or 0 if the holder is
-/// empty.
+/// Writes the data that the device keeps while its power is off, except its clock, to the start of a
+/// buffer, if the data fit. Returns the size of the data, even if they do not fit, or 0 if the
+/// holder is empty.
 #[unsafe(no_mangle)]
 pub extern "C" fn device_kept(holder: &mut Holder, buffer: &mut [u8]) -> usize
     ensures told { MatchOption holder.old.device ((result ≡ 0) × (buffer.new ≡ buffer.old))

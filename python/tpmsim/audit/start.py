@@ -72,8 +72,9 @@ def add_state(history: History, device: Model) -> None:
 
 def of_log(script: bytes, given: bytes | None) -> Start:
     """Returns the device with which a log starts: the one in the log's head or, if the log has no
-    head, the one in the image or state text `given`; otherwise a new device. Raises Fault if one of
-    the two texts is invalid, or if they belong to different devices.
+    head, the one in `given`, an image or a state text. If there is neither, the device is new.
+    Raises Fault if the head or `given` is invalid, if only one of them is a state text, or if they
+    belong to different devices.
     """
     begun = first_of(script)
     if begun is None:

@@ -1,4 +1,6 @@
-"""Explains, with numbers, the refusals by the checks that commands on objects make themselves."""
+"""Explains refusals by the checks that are specific to a command on objects, with the values
+involved.
+"""
 
 from tpmsim.explain import ingredients
 from tpmsim.explain.reason import Check, Look

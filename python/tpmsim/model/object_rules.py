@@ -189,8 +189,8 @@ def made(template: Template, key: bytes, seed_value: bytes) -> tuple[Public, Sen
 
 
 def primary(template: Template, hierarchy: int, seed: bytes) -> Object:
-    """Returns the primary object of a template and a hierarchy's seed. The same template and seed
-    always give the same object.
+    """Returns the primary object that results from a template and a hierarchy's seed. The same
+    template and seed always give the same object.
     """
     algorithm = template.public.name_algorithm
     size = digest_bytes(algorithm)

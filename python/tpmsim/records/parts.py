@@ -69,8 +69,9 @@ def whole_of(part: Part) -> Part:
 
 
 def is_cut(entry: bytes) -> bool:
-    """Whether these bytes are an incomplete entry. Their first line must be the mark of an entry,
-    they must be shorter than that entry, and their lines must end where the entry's lines end.
+    """Whether these bytes are an incomplete entry. Their first line must be the mark of an entry.
+    They must be shorter than the entry that this mark describes, and each newline in them must be
+    at an offset where that entry has a newline.
     """
     mark = Mark.read(entry.partition(b"\n")[0])
     ends = {it.start() for it in LINE_END.finditer(entry)}
