@@ -65,7 +65,7 @@ enum tpmsim_told {
     TPMSIM_IMAGE_MAGIC = 5,
     /* The version of the image is not 1 or 2. */
     TPMSIM_IMAGE_VERSION = 6,
-    /* The length field is not the number of bytes. */
+    /* The length field does not match the number of bytes. */
     TPMSIM_IMAGE_LENGTH = 7,
     /* The last 32 bytes are not the SHA-256 of the bytes before them. */
     TPMSIM_IMAGE_DIGEST = 8,
@@ -84,7 +84,7 @@ enum tpmsim_told {
     TPMSIM_STATE_MAGIC = 14,
     /* The version of the state text is not 1 or 2. */
     TPMSIM_STATE_VERSION = 15,
-    /* The length field is not the number of bytes. */
+    /* The length field does not match the number of bytes. */
     TPMSIM_STATE_LENGTH = 16,
     /* The last 32 bytes are not the SHA-256 of the bytes before them. */
     TPMSIM_STATE_DIGEST = 17,
@@ -94,8 +94,9 @@ enum tpmsim_told {
     TPMSIM_NO_WORD = 19,
     /* The keeper has no response to a TPM command. */
     TPMSIM_NO_ANSWER = 20,
-    /* The journal begins with a state text of version 1, whose completing layer answered otherwise. Save the
-       device with the library that wrote the journal (tpmsim_snapshot), and restore it with this one. */
+    /* The journal begins with a state text of version 1, whose completing layer gave different
+       responses. Save the device with the library that wrote the journal (tpmsim_snapshot), and
+       restore it with this one. */
     TPMSIM_STATE_EARLIER = 21
 };
 
@@ -109,13 +110,14 @@ enum { TPMSIM_RECORD_ROOM = 9216 };
 typedef struct tpmsim_answered {
     /* The size of the response in bytes, 10 to 4,096. */
     size_t size;
-    /* The number of random bytes that the command drew, from the front of the 256: 0 if it was
-       refused. The bytes after these were not used, and may be passed again. */
+    /* The number of random bytes that the command drew, counted from the beginning of the 256; 0 if
+       the command was refused. The bytes after these were not used, and may be passed again. */
     size_t drawn;
     /* The command code, TPM_CC; 0 if the buffer contains none. */
     uint32_t code;
-    /* The number of the check that refused the command, 0 if none did: n for the general check Gn,
-       20 + n for the command's own check An, 255 for memory. Memory never fails here. */
+    /* The check that refused the command, as a number: n for the general check Gn, 20 + n for the
+       command's own check An, 255 if memory was exhausted (which never happens here), and 0 if no
+       check refused. */
     uint8_t check;
 } tpmsim_answered;
 
@@ -144,8 +146,8 @@ static inline char *tpmsim_check_text(uint8_t check, char text[5]) {
 uint32_t tpmsim_version(void);
 
 /* Makes a new device, with these random bytes as its seeds and proofs. The handle's previous device is
-   freed. The new device expects TPM2_Startup. The same bytes always make the same device: if its secrets
-   must be secret, pass random bytes of the system.
+   freed. The new device expects TPM2_Startup. The same bytes always make the same device: if its
+   secrets must be secret, pass random bytes from the system.
 
    Returns TPMSIM_DONE or TPMSIM_NO_MEMORY. */
 uint8_t tpmsim_manufacture(tpmsim *device, const uint8_t random[256]);
@@ -155,7 +157,7 @@ uint8_t tpmsim_manufacture(tpmsim *device, const uint8_t random[256]);
    the one for a bad command size.
 
    `random` contains the random bytes that the command may draw. Pass new ones for each command;
-   `drawn` says how many it drew. The same bytes make the same nonces again.
+   `drawn` says how many it drew. Passing the same bytes again produces the same nonces.
 
    The response is written to the front of `response`; the other bytes there are unchanged. `answered`
    contains its size. A command that the device refuses also has a response, and the call returns
@@ -176,36 +178,40 @@ uint8_t tpmsim_complete(tpmsim *device, const uint8_t *buffer, size_t size, uint
                         uint32_t elapsed_ms, const uint8_t random[256], uint8_t response[4096],
                         tpmsim_answered *answered);
 
-/* Power-cycles the device: it retains only what it keeps without power, and expects TPM2_Startup. The
-   completing layer loses its sequences.
+/* Power-cycles the device: it retains only what it keeps while it has no power, and expects
+   TPM2_Startup. The completing layer loses its sequences.
 
    Returns TPMSIM_DONE or TPMSIM_NO_DEVICE. */
 uint8_t tpmsim_power_cycle(tpmsim *device);
 
-/* Saves the device: writes its image, which is what it keeps without power, to the front of `buffer` if
-   all of it fits; otherwise writes nothing. The device is unchanged.
+/* Saves the device: writes its image, which contains everything that it keeps while it has no
+   power, to the front of `buffer` if all of it fits; otherwise writes nothing. The device is
+   unchanged.
 
    Returns the size of the image, written or not, at most 28,361; 0 if there is no device. If the result
    is greater than `size`, it is the size that the buffer needs. */
 size_t tpmsim_save(tpmsim *device, uint8_t *buffer, size_t size);
 
-/* Writes what the device keeps without power, except Clock, to the front of `buffer` if all of it fits;
-   otherwise writes nothing. The device is unchanged. The text changes only if more of the image changes
-   than Clock and the digest. So save the device again when this text has changed.
+/* Writes what the device keeps while it has no power, except Clock, to the front of `buffer` if all
+   of it fits; otherwise writes nothing. The device is unchanged. The text changes only if something
+   in the image changes other than Clock and the digest. So save the device again when this text has
+   changed.
 
    Returns the size of the text, written or not, at most 28,319; 0 if there is no device. */
 size_t tpmsim_kept(tpmsim *device, uint8_t *buffer, size_t size);
 
-/* Opens the device of an image, in the state after a power cycle. The handle's previous device is freed.
+/* Opens the device from an image, in the state after a power cycle. The handle's previous device is
+ * freed.
 
    Returns TPMSIM_DONE; TPMSIM_IMAGE_SHORT to TPMSIM_IMAGE_BODY if the bytes are not an image;
    TPMSIM_NO_MEMORY only if they are one. */
 uint8_t tpmsim_open(tpmsim *device, const uint8_t *image, size_t size);
 
 /* Writes the state text of the device to the front of `buffer` if all of it fits; otherwise writes
-   nothing. The text is the whole state: what the device keeps without power, its PCRs, sessions,
-   transient objects and times, and the completing layer's memory. The device is unchanged, and
-   the call allocates no memory. The text contains the device's secrets, in the clear.
+   nothing. The text is the whole state: what the device keeps while it has no power, its PCRs,
+   sessions, transient objects and times, and the completing layer's memory. The device is
+   unchanged, and the call allocates no memory. The text contains the device's secrets, in the
+   clear.
 
    Returns the size of the text, written or not, at most TPMSIM_STATE_SIZE; 0 without a device. */
 size_t tpmsim_snapshot(tpmsim *device, uint8_t *buffer, size_t size);
@@ -220,7 +226,7 @@ size_t tpmsim_snapshot(tpmsim *device, uint8_t *buffer, size_t size);
    counters, failed tries and nonces.
 
    Returns TPMSIM_DONE; TPMSIM_STATE_SHORT to TPMSIM_STATE_BODY if the bytes are not a state text;
-   TPMSIM_NO_MEMORY, whatever the bytes are. */
+   or, whatever the bytes are, TPMSIM_NO_MEMORY. */
 uint8_t tpmsim_restore(tpmsim *device, const uint8_t *text, size_t size);
 
 /* Power-cycles the device, and writes the head of its new journal to the front of `buffer`, if all of it
@@ -238,9 +244,9 @@ size_t tpmsim_journal_begin(tpmsim *device, uint64_t now_ms, uint8_t *buffer, si
    Returns the size of the head, written or not, at most 73,940; 0 without a device. */
 size_t tpmsim_journal_checkpoint(tpmsim *device, uint64_t now_ms, uint8_t *buffer, size_t size);
 
-/* Opens the device of a journal. The handle's previous device is freed. `taken` is the size of the head
-   and the complete records. After them there may be a record that a crash cut off: the front of a
-   record, followed by zeros or nothing. The caller removes it before adding a record.
+/* Opens the device from a journal. The handle's previous device is freed. `taken` is the size of
+   the head and the complete records. After them there may be a record that a crash cut off: the
+   front of a record, followed by zeros or nothing. The caller removes it before adding a record.
 
    Returns TPMSIM_DONE, TPMSIM_NO_JOURNAL, TPMSIM_DAMAGED, TPMSIM_OTHERWISE or TPMSIM_NO_MEMORY;
    TPMSIM_IMAGE_SHORT to TPMSIM_IMAGE_BODY if the image in the head is invalid; TPMSIM_STATE_SHORT to
@@ -254,16 +260,17 @@ uint8_t tpmsim_journal_open(tpmsim *device, const uint8_t *text, size_t size, si
    Returns TPMSIM_DONE, TPMSIM_DAMAGED, TPMSIM_OTHERWISE or TPMSIM_NO_DEVICE. */
 uint8_t tpmsim_journal_follow(tpmsim *device, const uint8_t *text, size_t size, size_t *taken);
 
-/* Executes a command like tpmsim_execute, at a time of the host's clock in milliseconds, and writes its
-   record. The caller adds the record to the journal before it releases the response. A buffer of more
-   than 4,097 bytes is truncated to 4,097 bytes, which are refused in the same way.
+/* Executes a command like tpmsim_execute, but at a given time of the host's clock, in milliseconds, and
+   also writes the command's record. The caller adds the record to the journal before it releases the
+   response. A buffer of more than 4,097 bytes is truncated to 4,097 bytes, which are refused in the same
+   way.
 
    If `completes` is not 0, the completing layer is above the device for this command, and the record
-   says so. The device is asked first. The layer responds where the device by design does not:
-   to TPM2_ContextSave, TPM2_ContextLoad, TPM2_StirRandom, to more of TPM2_GetCapability, and to the
-   command by which firmware looks for a TPM 1.2. TPM2_ContextLoad of an object's context puts the object
-   into a free slot. `code` and `check` are the device's own. The layer's memory belongs to the journal:
-   it is empty after each head except that of a checkpoint.
+   says so. The device answers first. The layer then answers what the device by design does not
+   support: TPM2_ContextSave, TPM2_ContextLoad, TPM2_StirRandom, more of TPM2_GetCapability, and the
+   command with which firmware looks for a TPM 1.2. TPM2_ContextLoad of an object's context puts the
+   object into a free slot. `code` and `check` are the device's own. The layer's memory belongs to
+   the journal: it is empty after each head except that of a checkpoint.
 
    Returns TPMSIM_DONE, TPMSIM_NO_LOCALITY or TPMSIM_NO_DEVICE. */
 uint8_t tpmsim_journal_execute(tpmsim *device, const uint8_t *buffer, size_t size,
@@ -276,8 +283,8 @@ uint8_t tpmsim_journal_execute(tpmsim *device, const uint8_t *buffer, size_t siz
 
    A keeper decides how a host keeps a device in a folder, which several processes may use: what to lock,
    read, write, sync to the disk and rename, and when to release the response. After any kill, failure
-   or crash the device is still the one that executed the answered commands. A keeper does no input and
-   no output itself. docs/LIBRARY.md shows a host's loop, and the encodings of commands and seeds.
+   or crash the device is still the one that executed the answered commands. A keeper itself does no
+   input or output. docs/LIBRARY.md shows a host's loop, and the encodings of commands and seeds.
 
    Use a handle of a keeper like one of a device: initialize it with zeros, `tpmsim_keeper keeper = {0};`.
    It then has no keeper. */
@@ -293,7 +300,7 @@ enum tpmsim_force { TPMSIM_FORCE_NEVER = 0, TPMSIM_FORCE_POWER = 1, TPMSIM_FORCE
 /* The size of the report at the start of a response to a command of the standard. */
 enum { TPMSIM_REPORT_SIZE = 7 };
 
-/* What a keeper is asked to do. */
+/* What a host can ask a keeper to do. */
 enum tpmsim_job {
     /* Execute the command in the text. */
     TPMSIM_JOB_EXECUTE = 0,
@@ -303,9 +310,10 @@ enum tpmsim_job {
     TPMSIM_JOB_SHOW = 2,
     /* Check that there is a device, or make one from the seed in the text. */
     TPMSIM_JOB_BEGIN = 3,
-    /* Remove damage: restart a damaged journal with the device of its head and of the records before
-       the damage. Nothing else changes. If the keeper had opened the device before the damage, this call
-       ends with TPMSIM_FAULT_DAMAGED, and the next call removes the damage. The text is ignored. */
+    /* Remove damage: restart a damaged journal with the device that its head and the records before
+       the damage result in. Nothing else changes. If the keeper had opened the device before the
+       damage, this call ends with TPMSIM_FAULT_DAMAGED, and the next call removes the damage. The
+       text is ignored. */
     TPMSIM_JOB_CUT = 4
 };
 
@@ -334,7 +342,7 @@ enum tpmsim_task {
     TPMSIM_TASK_UNLOCK = 9
 };
 
-/* The reason why a call was not done. */
+/* The reason why a call failed. */
 enum tpmsim_fault {
     TPMSIM_FAULT_NONE = 0,
     /* No call was begun, or the call was abandoned. */
@@ -350,7 +358,7 @@ enum tpmsim_fault {
     TPMSIM_FAULT_SETTLE = 9,
     /* There is no journal. */
     TPMSIM_FAULT_ABSENT = 10,
-    /* The text for a new device is not a seed. */
+    /* A new device cannot be made from the passed content. */
     TPMSIM_FAULT_UNREADABLE = 11,
     /* The text to execute is not a command. */
     TPMSIM_FAULT_NO_COMMAND = 12,
@@ -393,15 +401,15 @@ enum tpmsim_got { TPMSIM_GOT_DONE = 0, TPMSIM_GOT_GONE = 1, TPMSIM_GOT_FAILED = 
 uint8_t tpmsim_keeper_new(tpmsim_keeper *keeper, uint8_t force, uint64_t limit);
 
 /* Sets whether later calls cut damage. If `cuts` is not 0, a call that finds a damaged journal does the job
-   of TPMSIM_JOB_CUT, and then begins again. Otherwise the call ends with TPMSIM_FAULT_DAMAGED; so it does
-   after tpmsim_keeper_new.
+   of TPMSIM_JOB_CUT, and then begins again. Otherwise the call ends with TPMSIM_FAULT_DAMAGED.
+   After tpmsim_keeper_new, calls do not cut damage.
 
    Returns TPMSIM_DONE or TPMSIM_NO_DEVICE. */
 uint8_t tpmsim_keeper_cuts(tpmsim_keeper *keeper, uint8_t cuts);
 
-/* Begins a call. If the host abandoned the previous call, that call is dropped; such a host, or a fork of
-   it, first closes its lock file. If the result is not TPMSIM_DONE, nothing has changed, and the host does
-   no task.
+/* Begins a call. If the host abandoned the previous call, that call is dropped. Such a host, or a
+   forked child of it, first closes its lock file. If the result is not TPMSIM_DONE, nothing has
+   changed, and the host does no task.
 
    Returns TPMSIM_DONE, TPMSIM_NO_WORD, TPMSIM_NO_DEVICE or TPMSIM_NO_MEMORY. */
 uint8_t tpmsim_keeper_begin(tpmsim_keeper *keeper, uint8_t job, const uint8_t *text, size_t size);
@@ -422,18 +430,18 @@ uint8_t tpmsim_keeper_power(tpmsim_keeper *keeper, uint64_t now_ms, uint64_t sta
 /* What a new device is made from: 256 random bytes; an image, as after a power cycle; or a state text. */
 enum tpmsim_seed { TPMSIM_SEED_RANDOM = 0, TPMSIM_SEED_IMAGE = 1, TPMSIM_SEED_STATE = 2 };
 
-/* Begins the call that checks whether there is a device, and makes one from the content if there is none.
-   `seed` is a number of tpmsim_seed. If it is another number, or if the content does not fit it, the call
-   ends with TPMSIM_FAULT_UNREADABLE when it has to make a device.
+/* Begins the call that checks whether there is a device and, if not, makes one from the content.
+   `seed` is a number of tpmsim_seed. If it is another number, or if the content does not fit it,
+   the call ends with TPMSIM_FAULT_UNREADABLE when it has to make a device.
 
    Returns TPMSIM_DONE, TPMSIM_NO_DEVICE or TPMSIM_NO_MEMORY. */
 uint8_t tpmsim_keeper_seed(tpmsim_keeper *keeper, uint8_t seed, uint64_t now_ms, uint64_t start,
                            const uint8_t *content, size_t size);
 
-/* Begins the call that replaces the device by the device of a state text. A damaged journal is cut first.
-   The response is one byte: 1, or 0 if the text is not a state text; then the device is unchanged. `start` is
-   the start of the completing layer, which no earlier start of the device had: contexts that were made before
-   the call do not load.
+/* Begins the call that replaces the device with the one in a state text. If the journal is damaged,
+   it is cut first. The response is one byte: 1, or 0 if the text is not a state text; then the
+   device is unchanged. `start` is the number of the completing layer's start. No earlier start of
+   the layer may have had this number, so that contexts that were made before the call do not load.
 
    Returns TPMSIM_DONE, TPMSIM_NO_DEVICE or TPMSIM_NO_MEMORY. */
 uint8_t tpmsim_keeper_restore(tpmsim_keeper *keeper, uint64_t now_ms, uint64_t start, const uint8_t *state,

@@ -34,7 +34,7 @@ namespace libtpmsim {
 using Told = std::uint8_t;
 inline constexpr Told NO_RANDOM = 255;
 
-/* Returns the name in tpmsim.h of what a call returned. */
+/* Returns the name that tpmsim.h gives to the result of a call. */
 inline std::string name_of(Told told) {
     static const char *const names[] = {
         "DONE",          "NO_DEVICE",     "NO_LOCALITY",  "NO_MEMORY",    "IMAGE_SHORT",
@@ -157,7 +157,7 @@ class Device {
             return tpmsim_manufacture(&device.holder, device.drawable.data());
         });
     }
-    /* Opens the device of an image, in the state after a power cycle. */
+    /* Opens the device from an image, in the state after a power cycle. */
     static std::optional<Device> open(Bytes image, Told &told, Random source = system_random) {
         return made(told, std::move(source), [image](Device &device) {
             return tpmsim_open(&device.holder, start_of(image), image.size());
@@ -166,7 +166,7 @@ class Device {
     Response execute(Bytes buffer, Told &told) { return executed(tpmsim_execute, buffer, told); }
     /* Executes a command with the completing layer above the device. */
     Response complete(Bytes buffer, Told &told) { return executed(tpmsim_complete, buffer, told); }
-    /* Restores the device of a state text. */
+    /* Restores the device from a state text. */
     void restore(Bytes text, Told &told) {
         told = tpmsim_restore(&holder, start_of(text), text.size());
     }
