@@ -1,3 +1,4 @@
+pub mod Asking
 pub mod EmptyHmac
 pub mod Granting
 pub mod Resolving

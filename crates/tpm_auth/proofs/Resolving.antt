@@ -1,7 +1,9 @@
 -- The code looks up the entity of the handle at each position, and computes the Names from these
 -- entities.
-use Rattle.std.proofs.Common.{◌≡◌, ℕ, zero, suc, ◌<◌, ◌≤◌, List, [], ◌∷◌, ◌++◌, length, map, take, slice_get, slice_index_or, Some, None, option_map, refl, sym, subst, ap, ◌∙◌, arith}
+use Rattle.std.proofs.Common.{◌≡◌, ℕ, zero, suc, ◌<◌, ◌≤◌, List, [], ◌∷◌, ◌++◌, length, map, take, slice_get, slice_index_or, Option, Some, None, option_map, refl, sym, subst, ap, ◌∙◌, arith}
+use Rattle.std.specs.Borrow.{Bor}
 use Rattle.std.specs.Option.{ForSome}
+use Rattle.std.specs.Prelude.{option_copied}
 use Rattle.tpm_session.specs.declared.session.Session.{Session}
 use Rattle.tpm_types.specs.declared.handle.Handle.{Handle}
 use Rattle.tpm_types_command.specs.AuthEntry.{entry_of}
@@ -11,7 +13,8 @@ use Rattle.tpm_record.specs.Record.{Record}
 use Rattle.tpm_record.specs.Resolved.{AreFound, Found, IsFound, found_at, found_by}
 use Rattle.tpm_record.specs.declared.entity.Resolved.{Resolved}
 use Rattle.tpm_auth.specs.SessionGrant.{takes_value}
-use Rattle.tpm_auth.specs.Used.{IsToGrant, IsUsed, IsUsedFor, grant_by}
+use Rattle.tpm_auth.specs.Entries.{session_of}
+use Rattle.tpm_auth.specs.Used.{AreSessions, IsToGrant, IsUsed, IsUsedFor, grant_by}
 use Rattle.tpm_auth.specs.declared.used.Granted.{Granted}
 
 -- The first entity found belongs to the first handle, and the others to the other handles.
@@ -111,7 +114,26 @@ one_to_grant r session granted used takes other same =
     let those : granted ≡ other = cc in
     subst (IsToGrant r session) those (record { used = used; takes = takes })
 
--- ---- entries
+-- ---- entries and their sessions
+
+-- There is one session, or None, for each entry.
+pub sessions_as_many : (r : Record) (sessions : List (Option (Bor Session))) (entries : List AuthEntry) → AreSessions r sessions (map entry_of entries) → length sessions ≡ length entries
+sessions_as_many r [] [] are = refl
+sessions_as_many r [] (e ∷ es) are = absurd cc
+sessions_as_many r (s ∷ ss) [] are = absurd cc
+sessions_as_many r (s ∷ ss) (e ∷ es) are =
+    let others : AreSessions r ss (map entry_of es) = cc in
+    ap suc (sessions_as_many r ss es others)
+
+-- The session at a position is the session that the entry at the same position names.
+pub session_at_place : (r : Record) (sessions : List (Option (Bor Session))) (entries : List AuthEntry) (place : ℕ) (d : Option (Bor Session)) (e : AuthEntry) → AreSessions r sessions (map entry_of entries) → place < length entries → option_copied (slice_index_or sessions place d) ≡ session_of r (entry_of (slice_index_or entries place e))
+session_at_place r [] [] place d x are within = absurd (omega (arith, within))
+session_at_place r [] (e ∷ es) place d x are within = absurd cc
+session_at_place r (s ∷ ss) [] place d x are within = absurd cc
+session_at_place r (s ∷ ss) (e ∷ es) zero d x are within = cc
+session_at_place r (s ∷ ss) (e ∷ es) (suc place) d x are within =
+    let others : AreSessions r ss (map entry_of es) = cc in
+    session_at_place r ss es place d x others (omega (arith, within))
 
 -- If there is only one entry, it is the whole list of entries.
 pub only_entry : (entries : List AuthEntry) (d : AuthEntry) → 1 ≤ length entries → length entries < 2 → map entry_of entries ≡ entry_of (slice_index_or entries 0 d) ∷ []

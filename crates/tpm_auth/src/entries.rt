@@ -1,14 +1,18 @@
 //! Checks each authorization entry on its own: its session, attributes, sizes and cipher. Only
 //! later checks determine what the entry authorizes.
 
-ghost use Rattle.std.specs.Prelude.{◌≡◌, ◌+◌, ◌≤◌, ◌==◌, [], length, map};
+ghost use Rattle.std.specs.Prelude.{◌≡◌, ◌+◌, ◌≤◌, ◌==◌, [], OnOk, length, map, option_copied};
 ghost use Rattle.std.specs.List.{list_any};
 ghost use Rattle.tpm_types_command.specs.AuthEntry.{entry_of};
 ghost use Rattle.tpm_types.specs.Handle.{session_kind};
-ghost use Rattle.tpm_auth.specs.Entries.{decrypts, encrypts, entries_pass, entry_passes, has_wrong_attributes, is_misplaced, kind_passes, lacks_cipher, reference_of};
+ghost use Rattle.tpm_auth.specs.Entries.{decrypts, encrypts, entries_pass, entry_passes, has_wrong_attributes, is_misplaced, kind_passes, lacks_cipher, reference_of, session_of};
+ghost use Rattle.tpm_record.specs.Record.{Record};
+ghost use Rattle.tpm_auth.specs.Used.{AreSessions};
 
+use arrayvec::ArrayVec;
 use tpm_commands::CommandCode;
 use tpm_record::Keep;
+use tpm_session::Session;
 use tpm_types::{DIGEST_LIMIT, Handle, Rc, ResponseCode, SessionKind, SymmetricDefinition};
 use tpm_types_command::AuthEntry;
 
@@ -37,13 +41,15 @@ pub fn reference_of(number: u8) -> Rc
     }
 }
 
-fn check_kind<K: Keep>(keep: &K, number: u8, entry: &AuthEntry) -> Result<(), Rc>
-    ensures { result ≡ kind_passes (K.record_of keep.now) number (entry_of entry.now)
-        (session_kind entry.now.session) }
+/// Refuses an entry whose handle is of a wrong kind, or names no session. `session` is the session
+/// that the entry names, if there is one.
+fn check_kind(session: Option<&Session>, number: u8, entry: &AuthEntry) -> Result<(), Rc>
+    ensures { (r : Record) → option_copied session.entry ≡ session_of r (entry_of entry.now)
+        → result ≡ kind_passes r number (entry_of entry.now) (session_kind entry.now.session) }
 {
     match entry.session.session_kind() {
         SessionKind::Other => Err(ResponseCode::Value.anywhere().at_session(number)),
-        SessionKind::Session => match keep.sessions().get(entry.session) {
+        SessionKind::Session => match session {
             Some(_) => Ok(()),
             None => Err(reference_of(number)),
         },
@@ -103,34 +109,35 @@ fn has_wrong_attributes(code: CommandCode, before: &[AuthEntry], entry: &AuthEnt
         || encrypts(entry) && (any_encrypts(before) || !code.shape().sized_answer)
 }
 
-fn lacks_cipher<K: Keep>(keep: &K, entry: &AuthEntry) -> bool
-    ensures { result ≡ lacks_cipher (K.record_of keep.now) (entry_of entry.now) }
+fn lacks_cipher(session: Option<&Session>, entry: &AuthEntry) -> bool
+    ensures { (r : Record) → option_copied session.entry ≡ session_of r (entry_of entry.now)
+        → result ≡ lacks_cipher r (entry_of entry.now) }
 {
     if !entry.attributes.uses_cipher() {
         return false;
     }
-    match keep.sessions().get(entry.session) {
+    match session {
         Some(session) => session.symmetric() == SymmetricDefinition::Null,
         None => false,
     }
 }
 
 #[tactic(auto, unfolding(crate::specs::Entries::entry_passes))]
-fn check_entry<K: Keep>(
-    keep: &K,
+fn check_entry(
+    session: Option<&Session>,
     code: CommandCode,
     before: &[AuthEntry],
     entry: &AuthEntry,
 ) -> Result<(), Rc>
     requires { length before.now ≤ 2 }
-    ensures { result ≡ entry_passes (K.record_of keep.now) code (map entry_of before.now)
-        (entry_of entry.now) }
+    ensures { (r : Record) → option_copied session.entry ≡ session_of r (entry_of entry.now)
+        → result ≡ entry_passes r code (map entry_of before.now) (entry_of entry.now) }
 {
     let number = before.len() as u8 + 1;
     if entry.nonce.len() > DIGEST_LIMIT || entry.hmac.len() > DIGEST_LIMIT {
         return Err(ResponseCode::Size.anywhere().at_session(number));
     }
-    check_kind(keep, number, entry)?;
+    check_kind(session, number, entry)?;
     if is_misplaced(code, number, before, entry) {
         return Err(ResponseCode::Handle.anywhere().at_session(number));
     }
@@ -140,19 +147,32 @@ fn check_entry<K: Keep>(
     if has_wrong_attributes(code, before, entry) {
         return Err(ResponseCode::Attributes.anywhere().at_session(number));
     }
-    if lacks_cipher(keep, entry) {
+    if lacks_cipher(session, entry) {
         return Err(ResponseCode::Symmetric.anywhere().at_session(number));
     }
     Ok(())
 }
 
-/// Checks each entry of a command on its own; returns the first error.
-pub fn check_entries<K: Keep>(keep: &K, code: CommandCode, entries: &[AuthEntry]) -> Result<(), Rc>
-    requires { length entries.now ≤ 3 }
-    ensures { result ≡ entries_pass (K.record_of keep.now) code [] (map entry_of entries.now) }
+/// Checks each entry of a command on its own; returns the first error. Adds the session of each
+/// entry, or None for a password entry. Each session is looked up once.
+pub fn check_entries<'a, K: Keep>(
+    keep: &'a K,
+    code: CommandCode,
+    entries: &[AuthEntry],
+    sessions: &mut ArrayVec<Option<&'a Session>, 3>,
+) -> Result<(), Rc>
+    requires few { length entries.now ≤ 3 }
+    requires empty { sessions.old.items ≡ [] }
+    ensures checked { result
+        ≡ entries_pass (K.record_of keep.now) code [] (map entry_of entries.now) }
+    ensures found { OnOk result
+        (AreSessions (K.record_of keep.now) sessions.new.items (map entry_of entries.now)) }
 {
     for index in 0..entries.len() {
-        check_entry(keep, code, &entries[..index], &entries[index])?;
+        let entry = &entries[index];
+        let session = keep.sessions().get(entry.session);
+        check_entry(session, code, &entries[..index], entry)?;
+        sessions.push(session);
     }
     Ok(())
 }

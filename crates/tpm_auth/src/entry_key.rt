@@ -7,10 +7,11 @@ ghost use Rattle.tpm_types_command.specs.AuthEntry.{entry_of};
 ghost use Rattle.tpm_types_command.specs.Command.{whole_of};
 ghost use Rattle.tpm_record.specs.Resolved.{IsFound};
 ghost use Rattle.tpm_auth.specs.Entries.{decrypts};
-ghost use Rattle.tpm_auth.specs.SessionGrant.{entry_nonce, hashed_command, is_authentic, is_bound_to, nonce_where, only_encrypts, other_entries, takes_value, used_auth_value};
+ghost use Rattle.tpm_auth.specs.SessionGrant.{comparison_holds, entry_nonce, hashed_command, is_bound_to, nonce_where, only_encrypts, other_entries, takes_value, used_auth_value};
 ghost use Rattle.tpm_auth.specs.Used.{IsToGrant, grant_by};
 
 use crate::cache::LatestName;
+use crate::comparison::is_password_of;
 use crate::entries::{decrypts, encrypts};
 use crate::session_grant::Grant;
 use crate::used::{Granted, SessionEntry};
@@ -192,10 +193,11 @@ fn value_in_key<'a, K: Keep>(
     }
 }
 
-/// Whether an entry's HMAC is correct. `granted` is the handle that the entry has to authorize, if
-/// any.
-#[tactic(auto, unfolding(crate::specs::SessionGrant::is_authentic, crate::specs::SessionGrant::entry_parts))]
-pub fn is_authentic<K: Keep>(
+/// Whether the HMAC field of an entry is correct. If the session's policy requires a password, the
+/// field must contain the password; otherwise, it must contain the HMAC. `granted` is the handle that
+/// the entry has to authorize, if any.
+#[tactic(auto, unfolding(crate::specs::SessionGrant::comparison_holds, crate::specs::SessionGrant::is_authentic, crate::specs::SessionGrant::entry_parts, tpm_record::specs::Entity::auth_value_of))]
+pub fn comparison_holds<K: Keep>(
     keep: &K,
     command: &Command,
     by: &SessionEntry,
@@ -205,12 +207,18 @@ pub fn is_authentic<K: Keep>(
 ) -> bool
     requires hashed { hashes.old ≡ hashed_command (K.record_of keep.now) (whole_of command.now) }
     requires used { ForSome granted (IsToGrant (K.record_of keep.now) by.now.session.now) }
-    ensures value { result ≡ is_authentic (K.record_of keep.now) (whole_of command.now)
+    ensures value { result ≡ comparison_holds (K.record_of keep.now) (whole_of command.now)
         by.now.number (option_map grant_by granted.entry) (entry_of by.now.entry.now)
         by.now.session.now }
     ensures same { hashes.new ≡ hashes.old }
 {
     let (entry, session) = (by.entry, by.session);
+    match granted {
+        Some(granted) if granted.demand == Demand::Password => {
+            return is_password_of(granted.used.auth_value(keep), entry.hmac);
+        }
+        _ => {}
+    }
     let value = value_in_key(keep, session, granted);
     if session.key().as_slice().is_empty() && value.is_empty() && entry.hmac.is_empty() {
         return true;

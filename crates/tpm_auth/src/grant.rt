@@ -2,7 +2,7 @@
 //! handle at its position. [`Grants`] lists what each entry authorizes.
 
 ghost use Rattle.tpm_bytes.specs.Reading.{Gives};
-ghost use Rattle.std.specs.Prelude.{◌≡◌, ◌+◌, ◌<◌, ◌≤◌, ℕ, [], ◌∷◌, length, map, not, option_map, slice_get, take};
+ghost use Rattle.std.specs.Prelude.{◌≡◌, ◌+◌, ◌<◌, ◌≤◌, [], ◌∷◌, length, map, not, option_copied, option_map, slice_get, take};
 ghost use Rattle.std.specs.Option.{ForSome};
 ghost use Rattle.tpm_session.specs.FirstBuffer.{has_first_buffer};
 ghost use Rattle.tpm_types_command.specs.AuthEntry.{entry_of};
@@ -15,18 +15,19 @@ ghost use Rattle.tpm_record.specs.Entity.{name_of};
 ghost use Rattle.tpm_record.specs.Resolved.{AreFound, IsFound};
 ghost use Rattle.tpm_auth.specs.Grant.{AreGranted, authorize, authorized, grant, granted_by, grants_pass, password_grant};
 ghost use Rattle.tpm_auth.specs.SessionGrant.{hashed_command};
-ghost use Rattle.tpm_auth.specs.Used.{IsResolved, IsUsed, used_handle};
+ghost use Rattle.tpm_auth.specs.Entries.{session_of};
+ghost use Rattle.tpm_auth.specs.Used.{AreSessions, IsResolved, IsUsed, used_handle};
 
 use crate::cache::{Cache, LatestName};
 use crate::comparison::{check_of, failure, is_locked_out, is_password_of, lockout_refusal};
 use crate::entries::{any_decrypts, check_entries, reference_of};
 use crate::session_grant::{Grant, check_session};
-use crate::used::{Sent, SessionEntry, used_at};
+use crate::used::{Sent, SentEntry, SessionEntry, used_at};
 use arrayvec::ArrayVec;
 use tpm_commands::CommandCode;
 use tpm_policy::Demand;
 use tpm_record::{Keep, Means, Resolved, resolve};
-use tpm_session::{HashedParameters, ParameterHashes, Protection, first_size};
+use tpm_session::{HashedParameters, ParameterHashes, Protection, Session, first_size};
 use tpm_types::{Check, Handle, Locality, Refused, ResponseCode, SessionKind};
 use tpm_types_command::{AuthEntry, Command};
 use tpm_types_name::Name;
@@ -93,30 +94,33 @@ fn check_password<K: Keep>(
     }
 }
 
-/// Checks the entry with this number. If there is a handle at the entry's position, the entry has
-/// to authorize it. Returns what the entry authorizes.
+/// Checks an entry. If there is a handle to authorize at the entry's position, the entry has to
+/// authorize it. Returns what the entry authorizes.
 #[tactic(auto, unfolding(crate::specs::Grant::grant))]
 fn check_grant<K: Keep>(
     keep: &K,
     sent: &Sent,
-    number: u8,
-    used: Option<Resolved>,
-    entry: &AuthEntry,
+    by: &SentEntry,
     hashes: &mut ParameterHashes,
     cache: &mut Cache,
 ) -> Result<Option<Grant>, Refused>
-    requires number { 1 ≤ number }
+    requires few { by.now.place ≤ 2 }
+    requires session { option_copied by.now.session
+        ≡ session_of (K.record_of keep.now) (entry_of by.now.entry.now) }
     requires hashed { hashes.old
         ≡ hashed_command (K.record_of keep.now) (whole_of sent.now.command.now) }
-    requires used { ForSome used (IsUsed (K.record_of keep.now)) }
+    requires resolved { IsResolved (K.record_of keep.now) sent.now }
     ensures value { result ≡ grant (K.record_of keep.now) (whole_of sent.now.command.now)
-        (locality_number sent.now.locality) number (option_map used_handle used.entry)
-        (entry_of entry.now) }
+        (locality_number sent.now.locality) (by.now.place + 1)
+        (slice_get (authorized (whole_of sent.now.command.now)) by.now.place)
+        (entry_of by.now.entry.now) }
     ensures same { hashes.new ≡ hashes.old }
 {
+    let (number, entry) = (by.place as u8 + 1, by.entry);
+    let used = used_at(sent, by.place);
     match entry.session.session_kind() {
         SessionKind::Password => check_password(keep, sent.command.code, number, used, entry),
-        SessionKind::Session => match keep.sessions().get(entry.session) {
+        SessionKind::Session => match by.session {
             Some(session) => {
                 let by = &SessionEntry {
                     number,
@@ -132,34 +136,6 @@ fn check_grant<K: Keep>(
             Err(Refused::by(Check::Entries, rc))
         }
     }
-}
-
-/// Checks the remaining entries, and adds their grants to the grants of the earlier entries.
-/// Returns the error of the first entry that fails.
-fn check_grants<K: Keep>(
-    keep: &K,
-    sent: &Sent,
-    entries: &[AuthEntry],
-    hashes: &mut ParameterHashes,
-    cache: &mut Cache,
-    grants: &mut ArrayVec<Option<Grant>, 3>,
-) -> Result<(), Refused>
-    requires hashed { hashes.old
-        ≡ hashed_command (K.record_of keep.now) (whole_of sent.now.command.now) }
-    requires few { length grants.old.items + length entries.now ≤ 3 }
-    requires resolved { IsResolved (K.record_of keep.now) sent.now }
-    ensures { AreGranted (grants_pass (K.record_of keep.now) (whole_of sent.now.command.now)
-        (locality_number sent.now.locality) grants.old.items (map entry_of entries.now)) result
-        grants.new.items }
-{
-    let [entry, entries @ ..] = entries else {
-        return Ok(());
-    };
-    let before = grants.len();
-    let used = used_at(sent, before);
-    let grant = check_grant(keep, sent, before as u8 + 1, used, entry, hashes, cache)?;
-    grants.push(grant);
-    check_grants(keep, sent, entries, hashes, cache, grants)
 }
 
 /// Whether the first parameter, which has to be a sized buffer, is incomplete.
@@ -184,12 +160,12 @@ fn next_name<K: Keep>(keep: &K, sent: &Sent, names: &[Name], latest: &mut Latest
     requires resolved { IsResolved (K.record_of keep.now) sent.now }
     requires named { names.now ≡ map (name_of (K.record_of keep.now))
         (take (length names.now) (whole_of sent.now.command.now).handles) }
-    requires more { length names.now < length sent.now.resolved.now }
+    requires more { length names.now < length sent.now.entities.now }
     ensures { Some result ≡ option_map (name_of (K.record_of keep.now))
         (slice_get (whole_of sent.now.command.now).handles (length names.now)) }
 {
-    let resolved = resolved_at(sent.resolved, names.len());
-    let first = resolved_at(sent.resolved, 0);
+    let resolved = resolved_at(sent.entities, names.len());
+    let first = resolved_at(sent.entities, 0);
     match names.first() {
         Some(name) if first.handle == resolved.handle => name.copy(),
         _ => latest.name_of(&resolved),
@@ -215,10 +191,18 @@ fn make_names<K: Keep>(
     }
 }
 
-/// Checks that the entry at each position authorizes the handle at the same position, and then
-/// checks the remaining entries. Returns what each entry authorizes.
-fn check_resolved<K: Keep>(keep: &K, sent: &Sent, cache: &mut Cache) -> Result<Grants, Refused>
-    requires { IsResolved (K.record_of keep.now) sent.now }
+/// Checks the entries in order. The entry at each position has to authorize the handle at the same
+/// position, if that handle needs authorization. Returns what each entry authorizes.
+#[tactic(auto, using(crate::proofs::Resolving::sessions_as_many, crate::proofs::Resolving::session_at_place))]
+fn check_each<K: Keep>(
+    keep: &K,
+    sent: &Sent,
+    sessions: &[Option<&Session>],
+    cache: &mut Cache,
+) -> Result<Grants, Refused>
+    requires sessions { AreSessions (K.record_of keep.now) sessions.now
+        (whole_of sent.now.command.now).entries }
+    requires resolved { IsResolved (K.record_of keep.now) sent.now }
     ensures { Gives granted_by (grants_pass (K.record_of keep.now) (whole_of sent.now.command.now)
         (locality_number sent.now.locality) [] (whole_of sent.now.command.now).entries) result }
 {
@@ -230,8 +214,54 @@ fn check_resolved<K: Keep>(keep: &K, sent: &Sent, cache: &mut Cache) -> Result<G
     let mut hashes = ParameterHashes::new(hashed);
     let mut grants = ArrayVec::new();
     let entries = command.entries.as_slice();
-    check_grants(keep, sent, entries, &mut hashes, cache, &mut grants)?;
+    for place in 0..entries.len() {
+        let by = &SentEntry {
+            place,
+            entry: &entries[place],
+            session: sessions[place],
+        };
+        grants.push(check_grant(keep, sent, by, &mut hashes, cache)?);
+    }
     Ok(Grants { grants })
+}
+
+/// Checks a command whose only entry is a password.
+#[tactic(auto, unfolding(crate::specs::Grant::grant))]
+fn check_one_password<K: Keep>(keep: &K, sent: &Sent, entry: &AuthEntry) -> Result<Grants, Refused>
+    requires kind { session_kind entry.now.session ≡ kind.Password }
+    requires resolved { IsResolved (K.record_of keep.now) sent.now }
+    ensures { Gives granted_by (grants_pass (K.record_of keep.now)
+        (whole_of sent.now.command.now) (locality_number sent.now.locality) []
+        (entry_of entry.now ∷ [])) result }
+{
+    let grant = check_password(keep, sent.command.code, 1, used_at(sent, 0), entry)?;
+    let mut grants = ArrayVec::new();
+    grants.push(grant);
+    Ok(Grants { grants })
+}
+
+/// Checks all entries in order. Nothing is hashed if there is no entry, or only a password entry.
+fn check_all<K: Keep>(
+    keep: &K,
+    sent: &Sent,
+    sessions: &[Option<&Session>],
+    cache: &mut Cache,
+) -> Result<Grants, Refused>
+    requires sessions { AreSessions (K.record_of keep.now) sessions.now
+        (whole_of sent.now.command.now).entries }
+    requires resolved { IsResolved (K.record_of keep.now) sent.now }
+    ensures { Gives granted_by (grants_pass (K.record_of keep.now) (whole_of sent.now.command.now)
+        (locality_number sent.now.locality) [] (whole_of sent.now.command.now).entries) result }
+{
+    match sent.command.entries.as_slice() {
+        [] => Ok(Grants {
+            grants: ArrayVec::new(),
+        }),
+        [entry] if entry.session.session_kind() == SessionKind::Password => {
+            check_one_password(keep, sent, entry)
+        }
+        _ => check_each(keep, sent, sessions, cache),
+    }
 }
 
 /// Looks up the entities of a command's handles.
@@ -242,79 +272,6 @@ fn resolve_all<'a, K: Keep>(keep: &'a K, handles: &[Handle], all: &mut ArrayVec<
 {
     for handle in handles {
         all.push(resolve(keep, *handle));
-    }
-}
-
-/// Looks up the entity of each handle of a command, and checks the command's entries.
-fn check_sessions<K: Keep>(
-    keep: &K,
-    command: &Command,
-    locality: Locality,
-    cache: &mut Cache,
-) -> Result<Grants, Refused>
-    ensures { Gives granted_by (grants_pass (K.record_of keep.now) (whole_of command.now)
-        (locality_number locality) [] (whole_of command.now).entries) result }
-{
-    let mut resolved = ArrayVec::new();
-    resolve_all(keep, command.handles.as_slice(), &mut resolved);
-    let sent = &Sent {
-        command,
-        resolved: resolved.as_slice(),
-        locality,
-    };
-    check_resolved(keep, sent, cache)
-}
-
-/// The handle that the first entry of a command has to authorize, or None if that entry has nothing
-/// to authorize.
-fn first_used<'a, K: Keep>(keep: &'a K, command: &Command) -> Option<Resolved<'a>>
-    ensures handle { option_map used_handle result
-        ≡ slice_get (authorized (whole_of command.now)) 0 }
-    ensures used { ForSome result (IsUsed (K.record_of keep.now)) }
-{
-    let handles = &command.handles.as_slice()[..command.code.authorized_handles()];
-    match handles.first() {
-        Some(handle) => Some(resolve(keep, *handle)),
-        None => None,
-    }
-}
-
-/// Checks a command whose only entry is a password.
-#[tactic(auto, unfolding(crate::specs::Grant::grant))]
-fn check_one_password<K: Keep>(
-    keep: &K,
-    command: &Command,
-    entry: &AuthEntry,
-) -> Result<Grants, Refused>
-    requires { session_kind entry.now.session ≡ kind.Password }
-    ensures { (locality : ℕ) → Gives granted_by (grants_pass (K.record_of keep.now)
-        (whole_of command.now) locality [] (entry_of entry.now ∷ [])) result }
-{
-    let used = first_used(keep, command);
-    let grant = check_password(keep, command.code, 1, used, entry)?;
-    let mut entries = ArrayVec::new();
-    entries.push(grant);
-    Ok(Grants { grants: entries })
-}
-
-/// Checks all entries in order. Nothing is hashed if there is no entry, or only a password entry.
-fn check_all<K: Keep>(
-    keep: &K,
-    command: &Command,
-    locality: Locality,
-    cache: &mut Cache,
-) -> Result<Grants, Refused>
-    ensures { Gives granted_by (grants_pass (K.record_of keep.now) (whole_of command.now)
-        (locality_number locality) [] (whole_of command.now).entries) result }
-{
-    match command.entries.as_slice() {
-        [] => Ok(Grants {
-            grants: ArrayVec::new(),
-        }),
-        [entry] if entry.session.session_kind() == SessionKind::Password => {
-            check_one_password(keep, command, entry)
-        }
-        _ => check_sessions(keep, command, locality, cache),
     }
 }
 
@@ -329,28 +286,36 @@ pub fn authorize<K: Keep>(
     ensures { Gives granted_by (authorize (K.record_of keep.now) (whole_of command.now)
         (locality_number locality)) result }
 {
-    authorize_with(keep, command, locality, &mut Cache::new())
+    let mut entities = ArrayVec::new();
+    resolve_all(keep, command.handles.as_slice(), &mut entities);
+    let sent = &Sent {
+        command,
+        entities: entities.as_slice(),
+        locality,
+    };
+    authorize_sent(keep, sent, &mut Cache::new())
 }
 
-/// Checks the entries of a command as [`authorize`] does, and caches what the response and the next
-/// command may need again.
+/// Checks the entries of a command as [`authorize`] does. The entities of the command's handles have
+/// already been looked up. Caches what the response and the next command may need again.
 #[tactic(auto, unfolding(crate::specs::Grant::authorize))]
-pub fn authorize_with<K: Keep>(
-    keep: &K,
-    command: &Command,
-    locality: Locality,
-    cache: &mut Cache,
-) -> Result<Grants, Refused>
-    ensures { Gives granted_by (authorize (K.record_of keep.now) (whole_of command.now)
-        (locality_number locality)) result }
+pub fn authorize_sent<K: Keep>(keep: &K, sent: &Sent, cache: &mut Cache) -> Result<Grants, Refused>
+    requires { IsResolved (K.record_of keep.now) sent.now }
+    ensures { Gives granted_by (authorize (K.record_of keep.now) (whole_of sent.now.command.now)
+        (locality_number sent.now.locality)) result }
 {
+    let command = sent.command;
     let entries = command.entries.as_slice();
-    check_entries(keep, command.code, entries).map_err(|rc| Refused::by(Check::Entries, rc))?;
+    let mut sessions = ArrayVec::new();
+    check_entries(keep, command.code, entries, &mut sessions).map_err(|rc| Refused::by(
+        Check::Entries,
+        rc,
+    ))?;
     if entries.len() < command.code.authorized_handles() {
         let rc = ResponseCode::AuthMissing.anywhere();
         return Err(Refused::by(Check::Entries, rc));
     }
-    let grants = check_all(keep, command, locality, cache)?;
+    let grants = check_all(keep, sent, sessions.as_slice(), cache)?;
     if any_decrypts(entries) && is_cut(command.parameters) {
         let rc = ResponseCode::Insufficient.anywhere().at_parameter(1);
         return Err(Refused::by(Check::Others, rc));

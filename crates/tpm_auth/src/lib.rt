@@ -5,7 +5,8 @@
 //!
 //! [`authorize`] first checks each entry on its own. Then it checks each handle that needs
 //! authorization against the entry at the same position, and returns in [`Grants`] what each entry
-//! authorizes. A [`Cache`] stores the latest HMAC key and Name, so that neither is computed again.
+//! authorizes. [`authorize_sent`] does the same for a command whose entities have been looked up. A
+//! [`Cache`] stores the latest HMAC key and Name, so that neither is computed again.
 //! The code uses tpm_record, and is proved to match the definitions in `specs/` for every
 //! implementation of the record.
 
@@ -21,5 +22,6 @@ mod used;
 pub use cache::{Cache, LatestName};
 pub use entries::{any_decrypts, decrypts, encrypts};
 pub use entry_key::used_auth_value;
-pub use grant::{Grants, authorize, authorize_with};
+pub use grant::{Grants, authorize, authorize_sent};
 pub use session_grant::{Grant, empty_hmac_laws, granted_value};
+pub use used::Sent;

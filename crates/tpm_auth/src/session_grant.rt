@@ -2,7 +2,8 @@
 //! session may authorize the handle, whether the entity whose authorization value the entry uses is
 //! locked out, and whether the password or HMAC is correct.
 
-ghost use Rattle.std.specs.Prelude.{◌≡◌, ◌≤◌, length, option_map};
+ghost use Rattle.std.specs.Prelude.{◌≡◌, ◌≤◌, IfOk, length, option_map};
+ghost use Rattle.tpm_bytes.specs.Reading.{Gives};
 ghost use Rattle.std.specs.Option.{ForSome};
 ghost use Rattle.tpm_types_command.specs.AuthEntry.{entry_of};
 ghost use Rattle.tpm_types_command.specs.Command.{whole_of};
@@ -12,20 +13,18 @@ ghost use Rattle.tpm_record.specs.Entity.{entity_policy, entity_seen};
 ghost use Rattle.tpm_session.specs.ParameterHash.{parameter_hash_of};
 ghost use Rattle.tpm_auth.specs.Comparison.{is_locked_out};
 ghost use Rattle.tpm_auth.specs.EmptyHmac.{EmptyHmacHasNoKey};
-ghost use Rattle.tpm_auth.specs.SessionGrant.{binding_protection, by_policy, comparison, comparison_holds, demanded, entry_protection, granted_value, hashed_command, or_protection, session_grant, takes_value, use_of};
+ghost use Rattle.tpm_auth.specs.SessionGrant.{binding_protection, by_policy, demanded, entry_protection, granted_value, hashed_command, or_protection, session_grant, takes_value, use_of};
 ghost use Rattle.tpm_record.specs.Resolved.{IsFound};
-ghost use Rattle.tpm_auth.specs.Used.{IsToGrant, IsUsed, grant_by, used_handle};
+ghost use Rattle.tpm_auth.specs.Used.{IsToGrant, IsUsed, asked_grant, grant_asked, grant_by, used_handle};
 
-use crate::cache::Cache;
-use crate::comparison::{check_of, failure, is_locked_out, is_password_of, lockout_refusal};
-use crate::entry_key::{is_authentic, takes_value};
+use crate::cache::{Cache, LatestName};
+use crate::comparison::{check_of, failure, is_locked_out, lockout_refusal};
+use crate::entry_key::{comparison_holds, takes_value};
 use crate::used::{Granted, Sent, SessionEntry};
-use tpm_mac::KeyedMac;
 use tpm_policy::{Demand, EntityPolicy, Use};
 use tpm_record::{Keep, Means, Resolved, auth_value_of};
 use tpm_session::{ParameterHashes, Protection, Session};
 use tpm_types::{Check, Handle, Refused, ResponseCode, SessionType};
-use tpm_types_command::Command;
 
 /// A handle that an entry authorizes, and what the policy requires in that entry.
 #[derive(Clone, Copy, PartialEq, Eq)]
@@ -211,32 +210,6 @@ pub fn granted_value<'a, K: Keep>(keep: &'a K, grant: Option<Grant>) -> &'a [u8]
     }
 }
 
-/// Whether the HMAC field of an entry is correct. If the session's policy requires a password, the
-/// field must contain the password; otherwise, it must contain the HMAC.
-#[tactic(auto, unfolding(crate::specs::SessionGrant::comparison_holds, tpm_record::specs::Entity::auth_value_of))]
-fn comparison_holds<K: Keep>(
-    keep: &K,
-    command: &Command,
-    by: &SessionEntry,
-    granted: Option<Granted>,
-    hashes: &mut ParameterHashes,
-    keyed: &mut KeyedMac,
-) -> bool
-    requires hashed { hashes.old ≡ hashed_command (K.record_of keep.now) (whole_of command.now) }
-    requires used { ForSome granted (IsToGrant (K.record_of keep.now) by.now.session.now) }
-    ensures value { result ≡ comparison_holds (K.record_of keep.now) (whole_of command.now)
-        by.now.number (option_map grant_by granted.entry) (entry_of by.now.entry.now)
-        by.now.session.now }
-    ensures same { hashes.new ≡ hashes.old }
-{
-    match granted {
-        Some(granted) if granted.demand == Demand::Password => {
-            is_password_of(granted.used.auth_value(keep), by.entry.hmac)
-        }
-        _ => is_authentic(keep, command, by, granted, hashes, keyed),
-    }
-}
-
 /// Returns the grant: the handle and what the policy requires, without the handle's entity.
 fn grant_of(granted: Option<Granted>) -> Option<Grant>
     ensures { result ≡ option_map grant_by granted.entry }
@@ -247,38 +220,43 @@ fn grant_of(granted: Option<Granted>) -> Option<Grant>
     }
 }
 
-/// Checks the password or HMAC of a session's entry, unless the entity is locked out. Returns the
-/// entry's grant, if the entry has a handle to authorize.
-#[inline(always)]
-fn compare<K: Keep>(
+/// If a session's entry has a handle to authorize, checks whether the session can authorize it.
+/// Returns the handle with what the session's policy requires in the entry.
+fn granted_to<'a, K: Keep>(
     keep: &K,
-    command: &Command,
+    sent: &Sent,
     by: &SessionEntry,
-    granted: Option<Granted>,
+    used: Option<Resolved<'a>>,
     hashes: &mut ParameterHashes,
-    keyed: &mut KeyedMac,
-) -> Result<Option<Grant>, Refused>
-    requires hashed { hashes.old ≡ hashed_command (K.record_of keep.now) (whole_of command.now) }
-    requires used { ForSome granted (IsToGrant (K.record_of keep.now) by.now.session.now) }
-    ensures value { result ≡ comparison (K.record_of keep.now) (whole_of command.now)
-        by.now.number (option_map grant_by granted.entry) (entry_of by.now.entry.now)
-        by.now.session.now }
+    latest: &mut LatestName,
+) -> Result<Option<Granted<'a>>, Refused>
+    requires number { 1 ≤ by.now.number }
+    requires hashed { hashes.old
+        ≡ hashed_command (K.record_of keep.now) (whole_of sent.now.command.now) }
+    requires used { ForSome used (IsUsed (K.record_of keep.now)) }
+    ensures value { Gives grant_asked (asked_grant (K.record_of keep.now)
+        (whole_of sent.now.command.now) (locality_number sent.now.locality) by.now.number
+        (option_map used_handle used.entry) by.now.session.now) result }
+    ensures found { IfOk result (λ granted.
+        ForSome granted (IsToGrant (K.record_of keep.now) by.now.session.now)) }
     ensures same { hashes.new ≡ hashes.old }
 {
-    let grant = grant_of(granted);
-    if is_barred(keep, by.session, granted) {
-        return Err(lockout_refusal(grant));
-    }
-    if comparison_holds(keep, command, by, granted, hashes, keyed) {
-        return Ok(grant);
-    }
-    let protection = entry_protection(keep, by.session, granted);
-    Err(failure(check_of(grant), by.number, protection))
+    let Some(used) = used else {
+        return Ok(None);
+    };
+    let demand = demand_of(keep, sent, by, &used, hashes)?;
+    let takes_value = takes_value(keep, by.session, &used, demand, latest);
+    Ok(Some(Granted {
+        used,
+        demand,
+        takes_value,
+    }))
 }
 
 /// Checks whether a session can authorize the entry's handle, if the entry has one to authorize,
-/// and whether the password or HMAC in the entry is correct. Returns the entry's grant, if any.
-#[tactic(auto, unfolding(crate::specs::SessionGrant::session_grant))]
+/// and whether the password or HMAC in the entry is correct. Nothing is compared if the entity whose
+/// authorization value the entry uses is locked out. Returns the entry's grant, if any.
+#[tactic(auto, using(crate::proofs::Asking::asked_first))]
 pub fn check_session<K: Keep>(
     keep: &K,
     sent: &Sent,
@@ -296,17 +274,16 @@ pub fn check_session<K: Keep>(
         (entry_of by.now.entry.now) by.now.session.now }
     ensures same { hashes.new ≡ hashes.old }
 {
-    let Some(used) = used else {
-        return compare(keep, sent.command, by, None, hashes, &mut cache.keyed);
-    };
-    let demand = demand_of(keep, sent, by, &used, hashes)?;
-    let takes_value = takes_value(keep, by.session, &used, demand, &mut cache.name);
-    let granted = Some(Granted {
-        used,
-        demand,
-        takes_value,
-    });
-    compare(keep, sent.command, by, granted, hashes, &mut cache.keyed)
+    let granted = granted_to(keep, sent, by, used, hashes, &mut cache.name)?;
+    let grant = grant_of(granted);
+    if is_barred(keep, by.session, granted) {
+        return Err(lockout_refusal(grant));
+    }
+    if comparison_holds(keep, sent.command, by, granted, hashes, &mut cache.keyed) {
+        return Ok(grant);
+    }
+    let protection = entry_protection(keep, by.session, granted);
+    Err(failure(check_of(grant), by.number, protection))
 }
 
 /// If a session's entry is accepted with an empty HMAC, then the HMAC key was empty or a policy

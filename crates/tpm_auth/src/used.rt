@@ -1,5 +1,5 @@
-//! The handle that an entry has to authorize, together with its entity, which is looked up only
-//! once.
+//! A command's handles and entries, together with their entities and sessions, each of which is
+//! looked up only once; and what an entry has to authorize.
 
 ghost use Rattle.std.specs.Prelude.{◌≡◌, length, slice_get, take};
 ghost use Rattle.tpm_types_command.specs.Command.{whole_of};
@@ -19,11 +19,21 @@ use tpm_types_command::{AuthEntry, Command};
 #[derive(Clone, Copy)]
 pub struct Sent<'a, 'b> {
     pub command: &'a Command<'b>,
-    pub resolved: &'a [Resolved<'a>],
+    /// The entity of each handle, as found in the device's state.
+    pub entities: &'a [Resolved<'a>],
     pub locality: Locality,
 }
 
-/// An entry of a command, with its number and the session that it names.
+/// An entry of a command, with its position, counted from 0, and the session that it names, if there
+/// is one.
+#[derive(Clone, Copy)]
+pub struct SentEntry<'a, 'b> {
+    pub place: usize,
+    pub entry: &'a AuthEntry<'b>,
+    pub session: Option<&'a Session>,
+}
+
+/// An entry that names a session, with its number and this session.
 #[derive(Clone, Copy)]
 pub struct SessionEntry<'a, 'b> {
     pub number: u8,
@@ -55,18 +65,18 @@ impl Granted<'_> {
 
 /// The handles of a command that need authorization, with their entities.
 fn authorized<'a>(sent: &Sent<'a, '_>) -> &'a [Resolved<'a>]
-    requires { length sent.now.resolved.now ≡ length (whole_of sent.now.command.now).handles }
+    requires { length sent.now.entities.now ≡ length (whole_of sent.now.command.now).handles }
     ensures { result.now ≡ take (authorized_handles (whole_of sent.now.command.now).code)
-        sent.now.resolved.now }
+        sent.now.entities.now }
 {
-    &sent.resolved[..sent.command.code.authorized_handles()]
+    &sent.entities[..sent.command.code.authorized_handles()]
 }
 
 /// The handle that the entry at a position has to authorize, or None if that entry has nothing to
 /// authorize.
 #[tactic(auto, using(crate::proofs::Resolving::used_in, crate::proofs::Resolving::nothing_in))]
 pub fn used_at<'a>(sent: &Sent<'a, '_>, place: usize) -> Option<Resolved<'a>>
-    requires { length sent.now.resolved.now ≡ length (whole_of sent.now.command.now).handles }
+    requires { length sent.now.entities.now ≡ length (whole_of sent.now.command.now).handles }
     ensures { (r : Record) → IsResolved r sent.now
         → IsUsedFor r (slice_get (authorized (whole_of sent.now.command.now)) place) result }
 {

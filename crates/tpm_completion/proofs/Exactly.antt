@@ -7,9 +7,9 @@ use Rattle.tpm_record.specs.Record.{Record}
 use Rattle.tpm_step.specs.step.Events.{PlainEvent, Given, Cycled, Placed}
 use Rattle.tpm_step.specs.step.Step.{Stepped, step}
 use Rattle.tpm_context.specs.declared.fault.ContextFault.{ContextFault}
-use Rattle.tpm_completion.specs.Completed.{behind, completed, completed_with, done_after, loaded_after, passed, sending_after}
+use Rattle.tpm_completion.specs.Completed.{completed, completed_after, completed_with, done_after, loaded_after, passed, sending_after}
 use Rattle.tpm_completion.specs.Completion.{forgotten}
-use Rattle.tpm_completion.specs.Execution.{AsksFirst, Behind, Completes, CompletesIf, Loads, Passes, PlacesIf, Seen, Sends, asked_after, opened_after, placed_after, sent_after, sent_effect, sent_event}
+use Rattle.tpm_completion.specs.Execution.{AsksFirst, GoesOn, Completes, CompletesIf, Loads, Passes, PlacesIf, Seen, Sends, asked_after, opened_after, placed_after, sent_after, sent_effect, sent_event}
 use Rattle.tpm_completion.specs.declared.completion.Completion.{Completion}
 use Rattle.tpm_completion.specs.declared.sending.Sent.{Sent}
 
@@ -33,14 +33,14 @@ sends_exactly first buffer locality random (Some sent) seen (second, p, is) =
     is ∙ ap (λ (s : Seen). sent_effect first s sent) (passes_exactly first.layer first.step.after (sent_event sent locality random) second p)
 sends_exactly first buffer locality random None seen is = is
 
-behind_exactly : (first : Seen) (buffer : List ℕ) (locality : ℕ) (random : List ℕ) (asked : Option (List ℕ)) (seen : Seen) → Behind false first buffer locality random asked seen → seen ≡ done_after first buffer locality random asked
-behind_exactly first buffer locality random (Some context) seen loads = loads_exactly first (opened_after first context) seen loads
-behind_exactly first buffer locality random None seen sends = sends_exactly first buffer locality random (sent_after first buffer) seen sends
+after_exactly : (first : Seen) (buffer : List ℕ) (locality : ℕ) (random : List ℕ) (asked : Option (List ℕ)) (seen : Seen) → GoesOn false first buffer locality random asked seen → seen ≡ done_after first buffer locality random asked
+after_exactly first buffer locality random (Some context) seen loads = loads_exactly first (opened_after first context) seen loads
+after_exactly first buffer locality random None seen sends = sends_exactly first buffer locality random (sent_after first buffer) seen sends
 
 asks_first_exactly : (c : Completion) (old : Record) (buffer : List ℕ) (locality elapsed : ℕ) (random : List ℕ) (seen : Seen) → AsksFirst false c old buffer locality elapsed random seen → seen ≡ completed_with c old (Given buffer locality elapsed random)
 asks_first_exactly c old buffer locality elapsed random seen (first, p, b) =
-    behind_exactly first buffer locality random (asked_after first buffer) seen b
-    ∙ ap (λ (f : Seen). behind f buffer locality random) (passes_exactly c old (Given buffer locality elapsed random) first p)
+    after_exactly first buffer locality random (asked_after first buffer) seen b
+    ∙ ap (λ (f : Seen). completed_after f buffer locality random) (passes_exactly c old (Given buffer locality elapsed random) first p)
 
 pub completes_exactly : (c : Completion) (old : Record) (event : PlainEvent) (seen : Seen) → Completes false c old event seen → seen ≡ completed_with c old event
 completes_exactly c old (Given buffer locality elapsed random) seen x = asks_first_exactly c old buffer locality elapsed random seen x

@@ -7,7 +7,7 @@ use Rattle.tpm_object.specs.declared.object.Object.{Object}
 use Rattle.tpm_record.specs.Record.{Record}
 use Rattle.tpm_step.specs.step.Events.{PlainEvent, Given, Cycled, Placed}
 use Rattle.tpm_context.specs.declared.fault.ContextFault.{ContextFault}
-use Rattle.tpm_completion.specs.Execution.{AsksFirst, Behind, Completes, CompletesIf, Loads, PlacesIf, Seen, Sends, asked_after, opened_after, sent_after}
+use Rattle.tpm_completion.specs.Execution.{AsksFirst, GoesOn, Completes, CompletesIf, Loads, PlacesIf, Seen, Sends, asked_after, opened_after, sent_after}
 use Rattle.tpm_completion.specs.Run.{RunsFollow, run_after, run_command, run_loading, run_of, run_placing, run_sending, run_with}
 use Rattle.tpm_completion.specs.declared.completion.Completion.{Completion}
 use Rattle.tpm_completion.specs.declared.sending.Sent.{Sent}
@@ -27,13 +27,13 @@ sending_leads : (can : Bool) (first : Seen) (buffer : List ℕ) (locality : ℕ)
 sending_leads can first buffer locality random (Some sent) seen (second, passes, is) = (refl, passes.executes, after_is seen _ is)
 sending_leads can first buffer locality random None seen is = after_is seen _ is
 
-behind_leads : (can : Bool) (first : Seen) (buffer : List ℕ) (locality : ℕ) (random : List ℕ) (asked : Option (List ℕ)) (seen : Seen) (behind : Behind can first buffer locality random asked seen) → Leads can first.step.after (run_after can first buffer locality random asked seen behind) seen.step.after
-behind_leads can first buffer locality random (Some context) seen loads = loading_leads can first (opened_after first context) seen loads
-behind_leads can first buffer locality random None seen sends = sending_leads can first buffer locality random (sent_after first buffer) seen sends
+after_leads : (can : Bool) (first : Seen) (buffer : List ℕ) (locality : ℕ) (random : List ℕ) (asked : Option (List ℕ)) (seen : Seen) (rest : GoesOn can first buffer locality random asked seen) → Leads can first.step.after (run_after can first buffer locality random asked seen rest) seen.step.after
+after_leads can first buffer locality random (Some context) seen loads = loading_leads can first (opened_after first context) seen loads
+after_leads can first buffer locality random None seen sends = sending_leads can first buffer locality random (sent_after first buffer) seen sends
 
 command_leads : (can : Bool) (c : Completion) (old : Record) (buffer : List ℕ) (locality elapsed : ℕ) (random : List ℕ) (seen : Seen) (asks : AsksFirst can c old buffer locality elapsed random seen) → Leads can old (run_command can c old buffer locality elapsed random seen asks) seen.step.after
-command_leads can c old buffer locality elapsed random seen (first, passes, behind) =
-    (refl, passes.executes, behind_leads can first buffer locality random (asked_after first buffer) seen behind)
+command_leads can c old buffer locality elapsed random seen (first, passes, rest) =
+    (refl, passes.executes, after_leads can first buffer locality random (asked_after first buffer) seen rest)
 
 with_leads : (can : Bool) (c : Completion) (old : Record) (event : PlainEvent) (seen : Seen) (completes : Completes can c old event seen) → Leads can old (run_with can c old event seen completes) seen.step.after
 with_leads can c old (Given buffer locality elapsed random) seen completes = command_leads can c old buffer locality elapsed random seen completes

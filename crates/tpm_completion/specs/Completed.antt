@@ -43,13 +43,13 @@ done_after first buffer locality random (Some context) =
 done_after first buffer locality random None =
     sending_after first buffer locality random (sent_after first buffer)
 
-abbrev pub behind : Seen → (buffer : List ℕ) → (locality : ℕ) → (random : List ℕ) → Seen
-behind first buffer locality random =
+abbrev pub completed_after : Seen → (buffer : List ℕ) → (locality : ℕ) → (random : List ℕ) → Seen
+completed_after first buffer locality random =
     done_after first buffer locality random (asked_after first buffer)
 
 abbrev pub completed_with : Completion → Record → PlainEvent → Seen
 completed_with c old (Given buffer locality elapsed random) =
-    behind (passed c old (Given buffer locality elapsed random)) buffer locality random
+    completed_after (passed c old (Given buffer locality elapsed random)) buffer locality random
 completed_with c old Cycled = passed c old Cycled
 completed_with c old (Placed object) = passed c old (Placed object)
 

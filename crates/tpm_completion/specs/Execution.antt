@@ -157,11 +157,11 @@ Sends can first buffer locality random None seen =
 
 -- After the device has executed a command, the context of an object is loaded, or the layer sends a
 -- command to the device, or the layer answers, or the client gets the device's response.
-abbrev pub Behind : (can : Bool) → Seen → (buffer : List ℕ) → (locality : ℕ) → (random : List ℕ)
+abbrev pub GoesOn : (can : Bool) → Seen → (buffer : List ℕ) → (locality : ℕ) → (random : List ℕ)
     → Option (List ℕ) → Seen → Type 0
-Behind can first buffer locality random (Some context) seen =
+GoesOn can first buffer locality random (Some context) seen =
     Loads can first (opened_after first context) seen
-Behind can first buffer locality random None seen =
+GoesOn can first buffer locality random None seen =
     Sends can first buffer locality random (sent_after first buffer) seen
 
 -- The device executes the command first, and the layer may answer afterwards.
@@ -169,7 +169,7 @@ abbrev pub AsksFirst : Bool → Completion → Record → (buffer : List ℕ) �
     → List ℕ → Seen → Type 0
 AsksFirst can c old buffer locality elapsed random seen =
     (first : Seen) × Passes can c old (Given buffer locality elapsed random) first
-    × Behind can first buffer locality random (asked_after first buffer) seen
+    × GoesOn can first buffer locality random (asked_after first buffer) seen
 
 -- An event has this effect with the layer. The device alone executes a power cycle or a placed
 -- object.

@@ -9,7 +9,7 @@ use Rattle.tpm_record.specs.Record.{Record}
 use Rattle.tpm_step.specs.step.Events.{PlainEvent, Given, Cycled, Placed}
 use Rattle.tpm_step.specs.step.Step.{Stepped}
 use Rattle.tpm_context.specs.declared.fault.ContextFault.{ContextFault}
-use Rattle.tpm_completion.specs.Execution.{AsksFirst, Behind, Completes, CompletesIf, Loads, PlacesIf, Seen, Sends, asked_after, opened_after, sent_after, sent_event}
+use Rattle.tpm_completion.specs.Execution.{AsksFirst, GoesOn, Completes, CompletesIf, Loads, PlacesIf, Seen, Sends, asked_after, opened_after, sent_after, sent_event}
 use Rattle.tpm_completion.specs.declared.completion.Completion.{Completion}
 use Rattle.tpm_completion.specs.declared.sending.Sent.{Sent}
 
@@ -42,7 +42,7 @@ run_sending can first buffer locality random None seen is = []
 -- the device's executions after it executed the client's command
 abbrev pub run_after : (can : Bool) (first : Seen) (buffer : List ℕ) (locality : ℕ)
     (random : List ℕ) (asked : Option (List ℕ)) (seen : Seen)
-    → Behind can first buffer locality random asked seen → List Execution
+    → GoesOn can first buffer locality random asked seen → List Execution
 run_after can first buffer locality random (Some context) seen loads =
     run_loading can first (opened_after first context) seen loads
 run_after can first buffer locality random None seen sends =
@@ -51,9 +51,9 @@ run_after can first buffer locality random None seen sends =
 abbrev pub run_command : (can : Bool) (c : Completion) (old : Record) (buffer : List ℕ)
     (locality elapsed : ℕ) (random : List ℕ) (seen : Seen)
     → AsksFirst can c old buffer locality elapsed random seen → List Execution
-run_command can c old buffer locality elapsed random seen (first, passes, behind) =
+run_command can c old buffer locality elapsed random seen (first, passes, rest) =
     executed old (Given buffer locality elapsed random) first.step
-    ∷ run_after can first buffer locality random (asked_after first buffer) seen behind
+    ∷ run_after can first buffer locality random (asked_after first buffer) seen rest
 
 abbrev pub run_with : (can : Bool) (c : Completion) (old : Record) (event : PlainEvent)
     (seen : Seen) → Completes can c old event seen → List Execution

@@ -5,7 +5,7 @@ ghost use Rattle.tpm_types.specs.Locality.{locality_number};
 ghost use Rattle.tpm_step.specs.step.Events.{Given, plain_event};
 ghost use Rattle.tpm_machine.specs.State.{state_of};
 ghost use Rattle.tpm_completion.specs.Completed.{completed};
-ghost use Rattle.tpm_completion.specs.Execution.{AsksFirst, Behind, Completes, CompletesIf, Loads, Passes, Sends, asked_after, opened_after, seen_of, sent_after};
+ghost use Rattle.tpm_completion.specs.Execution.{AsksFirst, GoesOn, Completes, CompletesIf, Loads, Passes, Sends, asked_after, opened_after, seen_of, sent_after};
 
 use crate::answer::answer;
 use crate::codes::{MEMORY, OBJECT_MEMORY, SUCCESS};
@@ -124,7 +124,7 @@ fn answer_after<K: Keep>(
     random: &[u8; 256],
     outcome: &mut Outcome,
 )
-    ensures { Behind K.can_refuse (seen_of K.record_of machine.old layer.old outcome.old)
+    ensures { GoesOn K.can_refuse (seen_of K.record_of machine.old layer.old outcome.old)
         buffer.now (locality_number locality) random.now
         (asked_after (seen_of K.record_of machine.old layer.old outcome.old) buffer.now)
         (seen_of K.record_of machine.new layer.new outcome.new) }

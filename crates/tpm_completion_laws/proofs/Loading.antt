@@ -36,7 +36,7 @@ use Rattle.tpm_context.proofs.Reading.{cipher_small, integrity_size}
 use Rattle.tpm_record.specs.declared.hierarchy.Hierarchies.{Hierarchies}
 use Rattle.tpm_completion.proofs.Loaded.{loads_what_was_saved}
 use Rattle.tpm_completion.specs.Command.{Command}
-use Rattle.tpm_completion.specs.Completed.{behind, done_after, loaded_after}
+use Rattle.tpm_completion.specs.Completed.{completed_after, done_after, loaded_after}
 use Rattle.tpm_completion.specs.Completion.{forgotten}
 use Rattle.tpm_completion.specs.Context.{is_of_sequence, is_of_session, names_own, saved_handle_at}
 use Rattle.tpm_completion.specs.Execution.{Seen, placed_after}
@@ -151,7 +151,7 @@ loads_objects r later c d number o locality elapsed random small is whole starte
     let first = lacking_effect t d drawn in
     let asked = asked_again t 0x161 context (omega arith) few started ∙ asked_is context (names_none r.fixed.hierarchies (binding_of r c) number o small) in
     let opens = loads_what_was_saved r t c (forgotten t d) number o small is (still_valid r later c d o elapsed stays) in
-    let effect = ap (λ (seen : Seen). behind seen buffer locality random) (passed_lacks later d buffer locality elapsed random lacks)
+    let effect = ap (λ (seen : Seen). completed_after seen buffer locality random) (passed_lacks later d buffer locality elapsed random lacks)
     ∙ ap (done_after first buffer locality random) asked ∙ ap (loaded_after first) opens in
     subst (IsLoaded t o (next_handle later.objects)) (sym effect)
     (loaded_as t d drawn o (lowest_free t.objects) refl (omega (arith, whole.objects)))

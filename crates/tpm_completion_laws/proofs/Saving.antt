@@ -16,7 +16,7 @@ use Rattle.tpm_step.specs.step.Step.{Stepped, step}
 use Rattle.tpm_types.specs.Handle.{is_transient}
 use Rattle.tpm_types.specs.declared.handle.Handle.{Handle}
 use Rattle.tpm_completion.specs.Answer.{refusal, success}
-use Rattle.tpm_completion.specs.Completed.{behind, done_after, passed, sending_after}
+use Rattle.tpm_completion.specs.Completed.{completed_after, done_after, passed, sending_after}
 use Rattle.tpm_completion.specs.Completion.{forgotten}
 use Rattle.tpm_completion.specs.Execution.{Seen, answered}
 use Rattle.tpm_completion.specs.Loaded.{saved_context}
@@ -75,7 +75,7 @@ unfolding forgotten
 kept_count t c = refl
 
 saved_effect : (t : Record) (c : Completion) (handle : Handle) (object : Object) (locality drawn : ℕ) (random : List ℕ) → t.fixed.started ≡ true → handle.number < 2 ^ 32 → is_transient handle ≡ true → (forgotten t c).count < 2 ^ 64 - 1 → object_at t.objects handle ≡ Some object
-    → behind (lacking_effect t c drawn) (save_buffer handle) locality random ≡ answered (lacking_effect t c drawn) (saved_reply t (forgotten t c) object)
+    → completed_after (lacking_effect t c drawn) (save_buffer handle) locality random ≡ answered (lacking_effect t c drawn) (saved_reply t (forgotten t c) object)
 saved_effect t c handle object locality drawn random started small transient less there =
     let first = lacking_effect t c drawn in
     ap (done_after first (save_buffer handle) locality random) (asked_again t 0x162 (to_be_bytes w32 handle.number) (omega arith) (omega arith) started)
@@ -90,6 +90,6 @@ saves_objects r c handle object locality elapsed random started small transient 
     let buffer = save_buffer handle in
     let lacks = step_lacks r buffer locality elapsed random (header_lacks 0x162 (to_be_bytes w32 handle.number) lacks_save (omega arith)) in
     let drawn = drawn_by r (Given buffer locality elapsed random) (lacking_step t).row.check in
-    let effect = ap (λ (first : Seen). behind first buffer locality random) (passed_lacks r c buffer locality elapsed random lacks)
+    let effect = ap (λ (first : Seen). completed_after first buffer locality random) (passed_lacks r c buffer locality elapsed random lacks)
     ∙ saved_effect t c handle object locality drawn random started small transient (subst (λ (n : ℕ). n < 2 ^ 64 - 1) (sym (kept_count t c)) less) there in
     subst (IsSaved t (forgotten t c) object) (sym effect) (record { response = refl; device = refl; layer = refl })

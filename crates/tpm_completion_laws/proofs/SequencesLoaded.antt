@@ -27,7 +27,7 @@ use Rattle.tpm_context.specs.declared.head.SavedHandle.TheVariants as saved
 use Rattle.tpm_context.proofs.Reading.{encrypted_size, integrity_size}
 use Rattle.tpm_completion.proofs.Loaded.{loads_saved_sequence}
 use Rattle.tpm_completion.specs.Answer.{refusal}
-use Rattle.tpm_completion.specs.Completed.{behind, done_after, sending_after}
+use Rattle.tpm_completion.specs.Completed.{completed_after, done_after, sending_after}
 use Rattle.tpm_completion.specs.Completion.{forgotten}
 use Rattle.tpm_completion.specs.Context.{is_of_sequence, is_of_session, names_own, names_sequence, names_session, saved_handle_at}
 use Rattle.tpm_completion.specs.Execution.{Seen, answered}
@@ -137,7 +137,7 @@ loads_sequences r later c d number o locality elapsed random small is whole star
     let asked = asked_again t 0x161 context (omega arith) few started ∙ no_object context (is_own context own) in
     let opens = loads_saved_sequence r t c layer number o small is (still_valid r later c d elapsed stays) in
     let same = kept_sequences t d started in
-    let effect = ap (λ (seen : Seen). behind seen buffer locality random) (passed_lacks later d buffer locality elapsed random lacks)
+    let effect = ap (λ (seen : Seen). completed_after seen buffer locality random) (passed_lacks later d buffer locality elapsed random lacks)
     ∙ ap (done_after first buffer locality random) asked
     ∙ ap (sending_after first buffer locality random) (none_sent t layer 0x161 context few)
     ∙ ap (answered first)

@@ -12,7 +12,7 @@ use Rattle.tpm_step.specs.step.Events.{Given}
 use Rattle.tpm_types.specs.Handle.{is_transient}
 use Rattle.tpm_types.specs.declared.handle.Handle.{Handle}
 use Rattle.tpm_completion.specs.Answer.{refusal, success}
-use Rattle.tpm_completion.specs.Completed.{behind, done_after, sending_after}
+use Rattle.tpm_completion.specs.Completed.{completed_after, done_after, sending_after}
 use Rattle.tpm_completion.specs.Completion.{forgotten}
 use Rattle.tpm_completion.specs.Execution.{Seen, answered}
 use Rattle.tpm_completion.specs.Loaded.{saved_sequence}
@@ -57,7 +57,7 @@ unfolding forgotten
 kept_sequences t c started = ap (λ (b : Bool). if b then c.sequences else no_sequences) started
 
 saved_effect : (t : Record) (c : Completion) (handle : Handle) (object : SequenceObject) (locality drawn : ℕ) (random : List ℕ) → t.fixed.started ≡ true → handle.number < 2 ^ 32 → (forgotten t c).count < 2 ^ 64 - 1 → object_at t.objects handle ≡ None → sequence_of (forgotten t c) handle ≡ Some object
-    → behind (lacking_effect t c drawn) (save_buffer handle) locality random ≡ answered (lacking_effect t c drawn) (saved_reply t (forgotten t c) object)
+    → completed_after (lacking_effect t c drawn) (save_buffer handle) locality random ≡ answered (lacking_effect t c drawn) (saved_reply t (forgotten t c) object)
 saved_effect t c handle object locality drawn random started small less none there =
     let first = lacking_effect t c drawn in
     ap (done_after first (save_buffer handle) locality random) (asked_again t 0x162 (to_be_bytes w32 handle.number) (omega arith) (omega arith) started)
@@ -78,7 +78,7 @@ saves_sequences r c handle object locality elapsed random started small less non
     let lacks = step_lacks r buffer locality elapsed random (header_lacks 0x162 (to_be_bytes w32 handle.number) lacks_save (omega arith)) in
     let drawn = drawn_by r (Given buffer locality elapsed random) (lacking_step t).row.check in
     let own = same_named (forgotten t c) c handle (kept_sequences t c started) ∙ there in
-    let effect = ap (λ (first : Seen). behind first buffer locality random) (passed_lacks r c buffer locality elapsed random lacks)
+    let effect = ap (λ (first : Seen). completed_after first buffer locality random) (passed_lacks r c buffer locality elapsed random lacks)
     ∙ saved_effect t c handle object locality drawn random started small (subst (λ (n : ℕ). n < 2 ^ 64 - 1) (sym (kept_count t c)) less) none own in
     subst (IsSequenceSaved t (forgotten t c) handle object) (sym effect)
     (record { response = refl; device = refl; layer = refl; stays = counted_named (forgotten t c) ((forgotten t c).count + 1) handle ∙ own })

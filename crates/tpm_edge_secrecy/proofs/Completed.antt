@@ -1,7 +1,7 @@
 -- The effect of an event with the completing layer, on two devices that differ only in secret data.
 use Rattle.std.proofs.Common.{ap, refl, subst, sym, ◌∙◌}
 use Rattle.std.specs.Prelude.{Bool, Err, List, None, Ok, Option, Result, Some, [], false, option_map, true, ℕ, ◌&&◌, ◌==◌, ◌||◌, ◌∷◌, ◌≡◌}
-use Rattle.tpm_completion.specs.Completed.{behind, completed, completed_with, done_after, loaded_after, passed, sending_after}
+use Rattle.tpm_completion.specs.Completed.{completed, completed_after, completed_with, done_after, loaded_after, passed, sending_after}
 use Rattle.tpm_completion.specs.Completion.{forgotten}
 use Rattle.tpm_completion.specs.Execution.{Seen, answered, asked_after, opened_after, reply_after, sent_after, sent_effect, sent_event}
 use Rattle.tpm_completion.specs.Loading.{context_asked, object_opened, placed_reply}
@@ -174,8 +174,8 @@ module _ (indices : ℕ → Bool) (objects : Public → Bool) where
       (sent_behind_alike x y alike buffer (or_left starts (sent_reads s x locality random (sent_after x buffer)) free))
       (sending_alike x y alike buffer locality random (sent_after x buffer) (or_right starts (sent_reads s x locality random (sent_after x buffer)) free))
 
-  behind_alike : (x y : Seen) → CompletesAlike s false x y → (buffer : List ℕ) (locality : ℕ) (random : List ℕ) → reads_after s x buffer locality random ≡ false → CompletesAlike s (is_saved x buffer) (behind x buffer locality random) (behind y buffer locality random)
-  behind_alike x y alike buffer locality random free =
+  after_alike : (x y : Seen) → CompletesAlike s false x y → (buffer : List ℕ) (locality : ℕ) (random : List ℕ) → reads_after s x buffer locality random ≡ false → CompletesAlike s (is_saved x buffer) (completed_after x buffer locality random) (completed_after y buffer locality random)
+  after_alike x y alike buffer locality random free =
       subst (λ (asked : Option (List ℕ)). CompletesAlike s (is_saved x buffer) (done_after x buffer locality random (asked_after x buffer)) (done_after y buffer locality random asked)) (asked_alike x y alike buffer)
       (done_alike x y alike buffer locality random (asked_after x buffer) free)
 
@@ -190,7 +190,7 @@ module _ (indices : ℕ → Bool) (objects : Public → Bool) where
   with_alike : (c : Completion) (r t : Record) → DifferInSecrets s r t → (event also : PlainEvent) → EventsAlike s event also → is_reading s r event ≡ false → layer_reads s c r event ≡ false → CompletesAlike s (is_saving s c r event) (completed_with c r event) (completed_with c t also)
   with_alike c r t differ (Given buffer locality elapsed random) also same free none =
       subst (λ (e : PlainEvent). CompletesAlike s (is_saving s c r (Given buffer locality elapsed random)) (completed_with c r (Given buffer locality elapsed random)) (completed_with c t e)) (same_command buffer locality elapsed random also same)
-      (behind_alike (passed c r (Given buffer locality elapsed random)) (passed c t (Given buffer locality elapsed random))
+      (after_alike (passed c r (Given buffer locality elapsed random)) (passed c t (Given buffer locality elapsed random))
       (passed_alike c r t differ (Given buffer locality elapsed random) (Given buffer locality elapsed random) refl free false) buffer locality random none)
   with_alike c r t differ Cycled (Given buffer locality elapsed random) same free none = absurd cc
   with_alike c r t differ Cycled Cycled same free none = passed_alike c r t differ Cycled Cycled same free false

@@ -19,7 +19,7 @@ use Rattle.tpm_step.specs.declared.refused_command.RefusedCommand.{RefusedComman
 use Rattle.tpm_machine.specs.Drawn.{drawn_by, drawn_by_command}
 use Rattle.tpm_completion.specs.Answer.{is_refusal, refusal}
 use Rattle.tpm_completion.specs.Command.{authorized_command, plain_command}
-use Rattle.tpm_completion.specs.Execution.{AsksFirst, Behind, CompletesIf, Loads, Passes, PlacesIf, Seen, Sends, asked_after, opened_after, sent_after}
+use Rattle.tpm_completion.specs.Execution.{AsksFirst, GoesOn, CompletesIf, Loads, Passes, PlacesIf, Seen, Sends, asked_after, opened_after, sent_after}
 use Rattle.tpm_completion.specs.Loading.{context_asked, object_context_in}
 use Rattle.tpm_completion.specs.Sending.{sent_for, sent_in}
 use Rattle.tpm_completion.specs.declared.completion.Completion.{Completion}
@@ -64,15 +64,15 @@ sends_within can first buffer random locality None seen few is =
     let same : seen.drawn ≡ first.drawn = ap (λ (s : Seen). s.drawn) is in
     omega (arith, few, same)
 
-pub behind_within : (can : Bool) (first : Seen) (buffer random : List ℕ) (locality : ℕ) (asked : Option (List ℕ)) (seen : Seen)
-    → first.drawn ≤ length random → Behind can first buffer locality random asked seen → seen.drawn ≤ length random
-behind_within can first buffer random locality (Some context) seen few loads = loads_within can first (opened_after first context) seen random few loads
-behind_within can first buffer random locality None seen few sends = sends_within can first buffer random locality (sent_after first buffer) seen few sends
+pub after_within : (can : Bool) (first : Seen) (buffer random : List ℕ) (locality : ℕ) (asked : Option (List ℕ)) (seen : Seen)
+    → first.drawn ≤ length random → GoesOn can first buffer locality random asked seen → seen.drawn ≤ length random
+after_within can first buffer random locality (Some context) seen few loads = loads_within can first (opened_after first context) seen random few loads
+after_within can first buffer random locality None seen few sends = sends_within can first buffer random locality (sent_after first buffer) seen few sends
 
 asks_within : (can : Bool) (layer : Completion) (old : Record) (buffer : List ℕ) (locality elapsed : ℕ) (random : List ℕ) (seen : Seen)
     → AsksFirst can layer old buffer locality elapsed random seen → seen.drawn ≤ length random
-asks_within can layer old buffer locality elapsed random seen (first, passes, behind) =
-    behind_within can first buffer random locality (asked_after first buffer) seen (no_more_drawn can layer old buffer locality elapsed random first passes) behind
+asks_within can layer old buffer locality elapsed random seen (first, passes, rest) =
+    after_within can first buffer random locality (asked_after first buffer) seen (no_more_drawn can layer old buffer locality elapsed random first passes) rest
 
 pub if_within : (can completes : Bool) (layer : Completion) (old : Record) (buffer : List ℕ) (locality elapsed : ℕ) (random : List ℕ) (seen : Seen)
     → CompletesIf can completes layer old (Given buffer locality elapsed random) seen → seen.drawn ≤ length random

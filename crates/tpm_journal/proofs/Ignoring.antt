@@ -9,14 +9,14 @@ use Rattle.tpm_machine.specs.Drawn.{drawn_by}
 use Rattle.tpm_machine.proofs.Following.{execution_follows}
 use Rattle.tpm_journal.specs.draw_laws.Bytes.{AgreeOnDrawn, zeros_behind}
 use Rattle.tpm_journal.proofs.draw_laws.Executions.{draws_alike, executes_alike, replays, replay_draws}
-use Rattle.tpm_completion.specs.Execution.{AsksFirst, Behind, CompletesIf, Passes, Seen, Sends, asked_after, sent_after}
+use Rattle.tpm_completion.specs.Execution.{AsksFirst, GoesOn, CompletesIf, Passes, Seen, Sends, asked_after, sent_after}
 use Rattle.tpm_completion.specs.declared.completion.Completion.{Completion}
 use Rattle.tpm_completion.specs.declared.sending.Sent.{Sent}
 use Rattle.tpm_journal_text.specs.Entry.{PlainEntry}
 use Rattle.tpm_journal.specs.Command.{given}
 use Rattle.tpm_journal.specs.Living.{Answers, IgnoresUndrawn, Lives}
 use Rattle.tpm_journal.proofs.Again.{lives_again}
-use Rattle.tpm_journal.proofs.Drawing.{asked_draws_none, behind_within, draws_within, no_more_drawn, sends_within, sent_draws_none}
+use Rattle.tpm_journal.proofs.Drawing.{asked_draws_none, after_within, draws_within, no_more_drawn, sends_within, sent_draws_none}
 
 -- replacing the random bytes of an event does not change the effect of passing the event to the
 -- device, if the device executes it in the same way and draws the same number of bytes
@@ -77,12 +77,12 @@ sends_first layer old first buffer locality elapsed random None seen given passe
     (passes_again layer old buffer locality elapsed random first passes)
 
 first_again : (layer : Completion) (old : Record) (first : Seen) (buffer : List ℕ) (locality elapsed : ℕ) (random : List ℕ) (asked : Option (List ℕ)) (seen : Seen)
-    → asked ≡ asked_after first buffer → Passes false layer old (Given buffer locality elapsed random) first → Behind false first buffer locality random asked seen
+    → asked ≡ asked_after first buffer → Passes false layer old (Given buffer locality elapsed random) first → GoesOn false first buffer locality random asked seen
     → Passes false layer old (Given buffer locality elapsed (kept seen random)) first
 first_again layer old first buffer locality elapsed random (Some context) seen given passes loads =
     let all : length random ≡ 256 = passes.executes.happens.2 in
     let few : seen.drawn ≤ length random =
-    behind_within false first buffer random locality (Some context) seen (no_more_drawn false layer old buffer locality elapsed random first passes) loads in
+    after_within false first buffer random locality (Some context) seen (no_more_drawn false layer old buffer locality elapsed random first passes) loads in
     passes_anyhow layer old buffer locality elapsed random (kept seen random) first passes
     (asked_draws_none layer old buffer locality elapsed random first context passes (sym given)) (zeros_many seen.drawn random few all)
 first_again layer old first buffer locality elapsed random None seen given passes sends =
@@ -101,17 +101,17 @@ sends_again first buffer locality random (Some sent) seen (second, passes, is) =
     )
 sends_again first buffer locality random None seen is = is
 
-behind_again : (first : Seen) (buffer : List ℕ) (locality : ℕ) (random : List ℕ) (asked : Option (List ℕ)) (seen : Seen)
-    → Behind false first buffer locality random asked seen → Behind false first buffer locality (kept seen random) asked seen
-behind_again first buffer locality random (Some context) seen loads = loads
-behind_again first buffer locality random None seen sends = sends_again first buffer locality random (sent_after first buffer) seen sends
+after_again : (first : Seen) (buffer : List ℕ) (locality : ℕ) (random : List ℕ) (asked : Option (List ℕ)) (seen : Seen)
+    → GoesOn false first buffer locality random asked seen → GoesOn false first buffer locality (kept seen random) asked seen
+after_again first buffer locality random (Some context) seen loads = loads
+after_again first buffer locality random None seen sends = sends_again first buffer locality random (sent_after first buffer) seen sends
 
 asks_again : (layer : Completion) (old : Record) (buffer : List ℕ) (locality elapsed : ℕ) (random : List ℕ) (seen : Seen)
     → AsksFirst false layer old buffer locality elapsed random seen → AsksFirst false layer old buffer locality elapsed (kept seen random) seen
-asks_again layer old buffer locality elapsed random seen (first, passes, behind) = (
+asks_again layer old buffer locality elapsed random seen (first, passes, rest) = (
   first,
-  first_again layer old first buffer locality elapsed random (asked_after first buffer) seen refl passes behind,
-  behind_again first buffer locality random (asked_after first buffer) seen behind,
+  first_again layer old first buffer locality elapsed random (asked_after first buffer) seen refl passes rest,
+  after_again first buffer locality random (asked_after first buffer) seen rest,
 )
 
 executed_again : (completes : Bool) (layer : Completion) (old : Record) (buffer : List ℕ) (locality elapsed : ℕ) (random : List ℕ) (seen : Seen)

@@ -3,7 +3,7 @@ use Rattle.std.proofs.Common.{◌≡◌, ◌<◌, ◌+◌, ◌==◌, ℕ, zero, 
 use Rattle.std.specs.List.{AllByRecursion}
 use Rattle.std.proofs.lemmas.Bool.{false≢true}
 use Rattle.std.proofs.lemmas.List.{length-take-le, take-append-drop}
-use Rattle.tpm_completion.specs.Execution.{AsksFirst, Behind, Completes, CompletesIf, Loads, PlacesIf, Seen, Sends, asked_after, opened_after, sent_after}
+use Rattle.tpm_completion.specs.Execution.{AsksFirst, GoesOn, Completes, CompletesIf, Loads, PlacesIf, Seen, Sends, asked_after, opened_after, sent_after}
 use Rattle.tpm_completion.specs.declared.completion.Completion.{Completion}
 use Rattle.tpm_completion.specs.declared.sending.Sent.{Sent}
 use Rattle.tpm_completion.proofs.Exactly.{exactly}
@@ -55,15 +55,15 @@ sends_record first buffer locality random (Some sent) seen is (second, passes, s
     subst (λ (s : Seen). IsRecord s.step.after) (sym same) passes.executes.is_record
 sends_record first buffer locality random None seen is same = subst (λ (s : Seen). IsRecord s.step.after) (sym same) is
 
-behind_record : (first : Seen) (buffer : List ℕ) (locality : ℕ) (random : List ℕ) (asked : Option (List ℕ)) (seen : Seen)
-    → IsRecord first.step.after → Behind false first buffer locality random asked seen → IsRecord seen.step.after
-behind_record first buffer locality random (Some context) seen is loads = loads_record first (opened_after first context) seen is loads
-behind_record first buffer locality random None seen is sends = sends_record first buffer locality random (sent_after first buffer) seen is sends
+after_record : (first : Seen) (buffer : List ℕ) (locality : ℕ) (random : List ℕ) (asked : Option (List ℕ)) (seen : Seen)
+    → IsRecord first.step.after → GoesOn false first buffer locality random asked seen → IsRecord seen.step.after
+after_record first buffer locality random (Some context) seen is loads = loads_record first (opened_after first context) seen is loads
+after_record first buffer locality random None seen is sends = sends_record first buffer locality random (sent_after first buffer) seen is sends
 
 asks_record : (c : Completion) (old : Record) (buffer : List ℕ) (locality elapsed : ℕ) (random : List ℕ) (seen : Seen)
     → AsksFirst false c old buffer locality elapsed random seen → IsRecord seen.step.after
-asks_record c old buffer locality elapsed random seen (first, passes, behind) =
-    behind_record first buffer locality random (asked_after first buffer) seen passes.executes.is_record behind
+asks_record c old buffer locality elapsed random seen (first, passes, rest) =
+    after_record first buffer locality random (asked_after first buffer) seen passes.executes.is_record rest
 
 completes_record : (c : Completion) (old : Record) (event : PlainEvent) (seen : Seen) → Completes false c old event seen → IsRecord seen.step.after
 completes_record c old (Given buffer locality elapsed random) seen is = asks_record c old buffer locality elapsed random seen is

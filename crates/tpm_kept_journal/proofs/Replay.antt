@@ -6,7 +6,7 @@ use Rattle.std.proofs.lemmas.List.{length-append, length-replicate, length-take-
 use Rattle.std.proofs.lemmas.Slice.Eq.{bytes_eq-Decides}
 use Rattle.tpm_completion.specs.Answer.{is_refusal, refusal}
 use Rattle.tpm_completion.specs.Command.{authorized_command, plain_command}
-use Rattle.tpm_completion.specs.Completed.{behind, completed, done_after, loaded_after, passed, sending_after}
+use Rattle.tpm_completion.specs.Completed.{completed, completed_after, done_after, loaded_after, passed, sending_after}
 use Rattle.tpm_completion.specs.Completion.{forgotten}
 use Rattle.tpm_completion.specs.Execution.{Seen, asked_after, opened_after, sent_after, sent_effect}
 use Rattle.tpm_completion.specs.Loading.{context_asked, object_context_in}
@@ -221,7 +221,7 @@ module _ (c : Completion) (old : Record) (buffer : List ℕ) (locality elapsed :
   completed_again false n is = passed_again c old buffer locality elapsed random n is all
   completed_again true n is =
       ap (λ (m : ℕ). completed true c old (Given buffer locality elapsed (zeros_behind m random))) is
-      ∙ ap (λ (f : Seen). behind f buffer locality (zeros_behind (done_after first buffer locality random (asked_after first buffer)).drawn random))
+      ∙ ap (λ (f : Seen). completed_after f buffer locality (zeros_behind (done_after first buffer locality random (asked_after first buffer)).drawn random))
       (first_again (asked_after first buffer) refl)
       ∙ done_again (asked_after first buffer)
 

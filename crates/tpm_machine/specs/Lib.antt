@@ -1,3 +1,4 @@
+pub mod Authorization
 pub mod State
 pub mod Latest
 pub mod Drawn

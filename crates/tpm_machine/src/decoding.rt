@@ -6,6 +6,7 @@ ghost use Rattle.tpm_bytes.specs.Reading.{AreBytes, Gives};
 ghost use Rattle.std.specs.Prelude.{◌≡◌, ◌≤◌, [], Ok, IfOk, length};
 ghost use Rattle.tpm_bytes.specs.Reading.{Reads};
 ghost use Rattle.tpm_commands.specs.CommandCode.{code_number, handle_count};
+ghost use Rattle.tpm_record.specs.Resolved.{AreFound, found_at, found_by};
 ghost use Rattle.tpm_types_command.specs.Command.{command_at, whole_of};
 ghost use Rattle.tpm_types.specs.Refused.{refusal};
 ghost use Rattle.tpm_step.specs.step.General.{body_of, general, header_check, header_refusal, in_command, present_handle_at, present_handles_at, sessions_pass};
@@ -13,7 +14,7 @@ ghost use Rattle.tpm_step.specs.step.General.{body_of, general, header_check, he
 use arrayvec::ArrayVec;
 use tpm_bytes::{Cursor, ReadableBy};
 use tpm_commands::{CommandCode, HandleRule};
-use tpm_record::{Keep, absence_rc, is_present};
+use tpm_record::{Keep, Resolved, absence_rc, resolve};
 use tpm_step::RefusedCommand;
 use tpm_types::{Check, Handle, Rc, Refused, ResponseCode};
 use tpm_types_command::{Command, Header, HeaderFault, Tag, read_sessions};
@@ -64,44 +65,53 @@ fn check_tag(code: CommandCode, tag: Tag) -> Result<(), Refused>
     Ok(())
 }
 
-/// Reads the handle with this number, counted from 1. The rule must allow the handle, and the
-/// entity that it names must exist.
-#[tactic(auto, unfolding(tpm_step::specs::step::General::present_handle_at))]
-fn read_handle<K: Keep>(
-    keep: &K,
+/// Reads the handle with this number, counted from 1, and looks up its entity. The rule must allow
+/// the handle, and the entity must exist.
+#[tactic(auto, unfolding(tpm_step::specs::step::General::present_handle_at, tpm_record::specs::Entity::is_present))]
+fn read_handle<'k, K: Keep>(
+    keep: &'k K,
     number: u8,
     rule: &HandleRule,
     text: &mut Cursor,
-) -> Result<Handle, Rc>
-    ensures { Reads (λ handle. handle)
+) -> Result<Resolved<'k>, Rc>
+    ensures exact { Reads (λ resolved. resolved.handle)
         (present_handle_at (K.record_of keep.now) number rule.now text.old)
         text.old result text.new }
+    ensures found { IfOk result (λ resolved. found_by resolved
+        ≡ found_at (K.record_of keep.now) resolved.handle) }
 {
     let mut ahead = Cursor::new(text.rest());
     let handle = Handle::read(number, rule, &mut ahead)?;
-    if !is_present(keep, handle) {
+    let resolved = resolve(keep, handle);
+    if !resolved.is_present(keep) {
         return Err(absence_rc(number, handle));
     }
     *text = ahead;
-    Ok(handle)
+    Ok(resolved)
 }
 
-/// Reads the handles of a command.
-fn read_handles<K: Keep>(
-    keep: &K,
+/// Reads the handles of a command, and looks up their entities.
+fn read_handles<'k, K: Keep>(
+    keep: &'k K,
     code: CommandCode,
     text: &mut Cursor,
+    entities: &mut ArrayVec<Resolved<'k>, 3>,
 ) -> Result<ArrayVec<Handle, 3>, Rc>
+    requires { entities.old.items ≡ [] }
     ensures exact { Reads (λ handles. handles.items)
         (present_handles_at (K.record_of keep.now) code text.old) text.old result text.new }
     ensures all { IfOk result (λ handles. length handles.items ≡ handle_count code) }
+    ensures found { IfOk result (λ handles. AreFound (K.record_of keep.now) entities.new.items
+        handles.items) }
 {
     let mut ahead = Cursor::new(text.rest());
     let mut handles = ArrayVec::new();
     let mut number = 1;
     let rules = code.shape().handles;
     for rule in rules {
-        handles.push(read_handle(keep, number, rule, &mut ahead)?);
+        let resolved = read_handle(keep, number, rule, &mut ahead)?;
+        handles.push(resolved.handle);
+        entities.push(resolved);
         number += 1;
     }
     *text = ahead;
@@ -111,13 +121,17 @@ fn read_handles<K: Keep>(
 /// Decodes the bytes after a command's header, or returns the refusal of the first check that
 /// fails.
 #[tactic(auto, unfolding(tpm_step::specs::step::General::body_of))]
-fn decode_body<'a, K: Keep>(
-    keep: &K,
+fn decode_body<'a, 'k, K: Keep>(
+    keep: &'k K,
     header: Header,
     mut text: Cursor<'a>,
+    entities: &mut ArrayVec<Resolved<'k>, 3>,
 ) -> Result<Command<'a>, RefusedCommand>
-    ensures { Gives whole_of (in_command header.code
+    requires { entities.old.items ≡ [] }
+    ensures decoded { Gives whole_of (in_command header.code
         (body_of (K.record_of keep.now) header text.entry)) result }
+    ensures found { IfOk result (λ command. AreFound (K.record_of keep.now) entities.new.items
+        (whole_of command).handles) }
 {
     let code = header.code;
     let is_startup = code.number() == CommandCode::Startup.number();
@@ -125,7 +139,7 @@ fn decode_body<'a, K: Keep>(
         let rc = ResponseCode::Initialize.anywhere();
         return Err(refusal_by(code, Check::Started, rc));
     }
-    let handles = match read_handles(keep, code, &mut text) {
+    let handles = match read_handles(keep, code, &mut text, entities) {
         Ok(handles) => handles,
         Err(rc) => return Err(refusal_by(code, Check::Handles, rc)),
     };
@@ -145,25 +159,40 @@ fn decode_body<'a, K: Keep>(
 
 #[inline(always)]
 #[tactic(auto, unfolding(tpm_step::specs::step::General::general))]
-fn decode_whole<'a, K: Keep>(keep: &K, buffer: &'a [u8]) -> Result<Command<'a>, RefusedCommand>
+fn decode_whole<'a, 'k, K: Keep>(
+    keep: &'k K,
+    buffer: &'a [u8],
+    entities: &mut ArrayVec<Resolved<'k>, 3>,
+) -> Result<Command<'a>, RefusedCommand>
+    requires { entities.old.items ≡ [] }
     ensures decoded { Gives whole_of (general (K.record_of keep.now) buffer.now) result }
+    ensures found { IfOk result (λ command. AreFound (K.record_of keep.now) entities.new.items
+        (whole_of command).handles) }
     ensures bytes { AreBytes buffer.now }
 {
     let mut text = Cursor::new(buffer);
     match Header::read(&mut text) {
-        Ok(header) => decode_body(keep, header, text),
+        Ok(header) => decode_body(keep, header, text, entities),
         Err(fault) => Err(header_refusal(fault)),
     }
 }
 
-/// Decodes a command's buffer, or returns the refusal of the first general check that fails.
+/// Decodes a command's buffer, or returns the refusal of the first general check that fails. Adds
+/// the entities of the command's handles, each of which is looked up once.
 #[tactic(auto, using(crate::proofs::DecodingLaws::decodes_reads, crate::proofs::DecodingLaws::decodes_short))]
-pub fn decode<'a, K: Keep>(keep: &K, buffer: &'a [u8]) -> Result<Command<'a>, RefusedCommand>
+pub fn decode<'a, 'k, K: Keep>(
+    keep: &'k K,
+    buffer: &'a [u8],
+    entities: &mut ArrayVec<Resolved<'k>, 3>,
+) -> Result<Command<'a>, RefusedCommand>
+    requires { entities.old.items ≡ [] }
     ensures decoded { Gives whole_of (general (K.record_of keep.now) buffer.now) result }
+    ensures found { IfOk result (λ command. AreFound (K.record_of keep.now) entities.new.items
+        (whole_of command).handles) }
 
     // The whole buffer encodes the decoded command.
     ensures read { IfOk result (λ command. command_at buffer.now ≡ Ok (whole_of command, [])) }
     ensures short { IfOk result (λ command. length command.parameters.now ≤ buffer_limit) }
 {
-    decode_whole(keep, buffer)
+    decode_whole(keep, buffer, entities)
 }

@@ -5,7 +5,7 @@ ghost use Rattle.std.specs.Prelude.{◌≡◌, ◌+◌, ◌*◌, ◌≤◌, ◌+
 ghost use Rattle.std.specs.List.{zip};
 ghost use Rattle.tpm_types_command.specs.AuthEntry.{entry_of};
 ghost use Rattle.tpm_auth.specs.SessionGrant.{demands_password};
-ghost use Rattle.tpm_step.specs.step.Entries.{answer_mac, draw_of, entries_answer, entries_ended, entries_rolled, entry_answer, entry_ended, entry_restarted, entry_rolled, session_answer};
+ghost use Rattle.tpm_step.specs.step.Entries.{answer_mac, draw_of, entries_answer, entries_ended, entries_rolled, entry_answer, entry_ended, entry_restarted, entry_rolled};
 
 use crate::draws::Draws;
 use tpm_auth::{Cache, Grant, used_auth_value};
@@ -100,29 +100,8 @@ fn answer_mac<K: Keep>(
     )
 }
 
-#[tactic(auto, unfolding(tpm_step::specs::step::Entries::session_answer))]
-fn answer_session<K: Keep>(
-    keep: &K,
-    hashes: &mut ParameterHashes,
-    cache: &mut Cache,
-    grant: Option<Grant>,
-    entry: &AuthEntry,
-    session: &Session,
-    area: &mut Sink<ENTRY_ANSWERS_LIMIT>,
-)
-    requires room { length area.old + 69 ≤ ENTRY_ANSWERS_LIMIT }
-    ensures text { area.new ≡ area.old ++ session_answer (K.record_of keep.now) hashes.old grant
-        (entry_of entry.now) session.now }
-    ensures grown { length area.new ≤ length area.old + 69 }
-    ensures same { hashes.new ≡ hashes.old }
-{
-    let mac = answer_mac(keep, hashes, cache, grant, entry, session);
-    area.append_sized(session.nonce_tpm().as_slice());
-    area.append_u8(entry.attributes.octet);
-    area.append_sized(mac.as_slice());
-}
-
-#[tactic(auto, unfolding(tpm_step::specs::step::Entries::entry_answer))]
+/// Appends the answer to an entry: the new nonceTPM, the attributes, and the HMAC.
+#[tactic(auto, unfolding(tpm_step::specs::step::Entries::entry_answer, tpm_step::specs::step::Entries::session_answer))]
 fn answer_entry<K: Keep>(
     keep: &K,
     hashes: &mut ParameterHashes,
@@ -138,7 +117,12 @@ fn answer_entry<K: Keep>(
     ensures same { hashes.new ≡ hashes.old }
 {
     match keep.sessions().get(entry.session) {
-        Some(session) => answer_session(keep, hashes, cache, grant, entry, session, area),
+        Some(session) => {
+            let mac = answer_mac(keep, hashes, cache, grant, entry, session);
+            area.append_sized(session.nonce_tpm().as_slice());
+            area.append_u8(entry.attributes.octet);
+            area.append_sized(mac.as_slice());
+        }
         None => area.append(&PASSWORD_ANSWER),
     }
 }

@@ -2,9 +2,10 @@
 
 //! The device, which executes one event at a time: a command or a power cycle.
 //!
-//! A command is executed in these steps. [`decoding`] decodes it and makes the general checks.
-//! tpm_auth checks its authorizations. If a session has the attribute decrypt, `parameters`
-//! decrypts the first parameter. [`table`] calls the command's row in tpm_actions_device,
+//! A command is executed in these steps. [`decoding`] decodes it, makes the general checks and
+//! looks up the entities of its handles. [`authorization`] passes these to tpm_auth, which checks
+//! the command's entries. If a session has the attribute decrypt, `parameters` decrypts the first
+//! parameter. [`table`] calls the command's row in tpm_actions_device,
 //! tpm_actions_policy, tpm_actions_object, tpm_actions_capability or tpm_nvactions. [`response`]
 //! writes the response; for this, `entries` draws new nonces, answers the entries and ends
 //! sessions.
@@ -14,6 +15,7 @@
 //! proved to follow these definitions, for every type that stores the state. A [`Saver`] saves a
 //! device while it is in use, and a [`Witness`] is called with each executed event.
 
+pub mod authorization;
 pub mod decoding;
 mod draws;
 mod entries;

@@ -17,11 +17,11 @@ ghost use Rattle.tpm_step.specs.history.History.{History};
 
 mod placing;
 
-use crate::decoding::decode;
+use crate::authorization::{Authorization, authorize_command};
 use crate::response::{write_refusal, write_success};
 use crate::table::accept;
 use std::alloc::Global;
-use tpm_auth::{Cache, Grants, authorize_with};
+use tpm_auth::Cache;
 use tpm_bytes::NoMemory;
 use tpm_commands::CommandCode;
 use tpm_record::rows::answer::Answer;
@@ -29,7 +29,6 @@ use tpm_record::tick::tick;
 use tpm_record::{Fixed, Keep, power_cycle, read_widths};
 use tpm_step::{Event, Outcome, RefusedCommand, Response, Row};
 use tpm_types::{Counted, Locality};
-use tpm_types_command::Command;
 
 /// The device, generic in the type that stores its state.
 #[derive(Drop)]
@@ -249,70 +248,63 @@ impl<K: Keep> Machine<K> {
             (accepted (state_of K.record_of self.old) buffer.now
             (locality_number locality) random.now) result.check }
     {
-        let command = match decode(&self.keep, buffer) {
-            Ok(command) => command,
-            Err(refusal) => return refuse(&mut self.keep, refusal, text),
-        };
-        match authorize_with(&self.keep, &command, locality, &mut self.cache) {
-            Ok(grants) => self.perform(&command, &grants, locality, random, text),
-            Err(refused) => refuse(
-                &mut self.keep,
-                RefusedCommand::of(command.code, refused),
-                text,
-            ),
+        match authorize_command(&self.keep, buffer, locality, &mut self.cache) {
+            Ok(authorization) => self.perform(&authorization, locality, random, text),
+            Err(refusal) => refuse(&mut self.keep, refusal, text),
         }
     }
 
     ghost use Rattle.std.specs.Prelude.{Ok};
-    ghost use Rattle.tpm_types_command.specs.Command.{whole_of};
-    ghost use Rattle.tpm_auth.specs.Grant.{authorize as authorization};
+    ghost use Rattle.tpm_auth.specs.Grant.{authorize};
+    ghost use Rattle.tpm_machine.specs.Authorization.{command_in, grants_in};
     ghost use Rattle.tpm_step.specs.step.General.{in_command};
     ghost use Rattle.tpm_step.specs.step.Step.{acceptance};
 
-    /// Executes an authorized command. `grants` says which handles its entries authorize.
+    /// Executes an authorized command.
     #[inline(always)]
     #[tactic(auto, using(crate::proofs::Accepting::acting))]
     fn perform(
         &mut self,
-        command: &Command,
-        grants: &Grants,
+        authorization: &Authorization,
         locality: Locality,
         random: &[u8; 256],
         text: &mut Response,
     ) -> Row
         requires empty { text.old.items ≡ [] }
-        requires size { length command.now.parameters.now ≤ buffer_limit }
-        requires granted { authorization (state_of K.record_of self.old) (whole_of command.now)
-            (locality_number locality) ≡ Ok grants.now.grants.items }
+        requires size { length authorization.now.command.parameters.now ≤ buffer_limit }
+        requires granted { authorize (state_of K.record_of self.old) (command_in authorization.now)
+            (locality_number locality) ≡ Ok (grants_in authorization.now) }
         requires none { latest_drawn self.old ≡ 0 }
         ensures answer { Answers K.can_refuse (state_of K.record_of self.old) random.now
-            (in_command command.now.code (acceptance (state_of K.record_of self.old)
-            (whole_of command.now) (locality_number locality) random.now))
+            (in_command authorization.now.command.code (acceptance (state_of K.record_of self.old)
+            (command_in authorization.now) (locality_number locality) random.now))
             (record {
               response = text.new.items;
               row = result;
               after = state_of K.record_of self.new;
             }) }
         ensures modest { result.check ≡ 0 → IfOk (acceptance (state_of K.record_of self.old)
-            (whole_of command.now) (locality_number locality) random.now) (IsModest random.now) }
+            (command_in authorization.now) (locality_number locality) random.now)
+            (IsModest random.now) }
         ensures fits { length text.new.items ≤ response_limit }
         ensures drawn { latest_drawn self.new ≡ drawn_by_command random.now
-            (in_command command.now.code (acceptance (state_of K.record_of self.old)
-            (whole_of command.now) (locality_number locality) random.now)) result.check }
+            (in_command authorization.now.command.code (acceptance (state_of K.record_of self.old)
+            (command_in authorization.now) (locality_number locality) random.now)) result.check }
     {
         self.answer.clear();
         let (keep, answer) = (&mut self.keep, &mut self.answer);
         let cache = &mut self.cache;
-        match accept(keep, command, grants, locality, random, answer) {
+        let code = authorization.command.code;
+        match accept(keep, authorization, locality, random, answer) {
             Ok(()) => {
-                self.drawn = write_success(keep, command, grants, answer, random, cache, text);
-                settle(keep, command.code);
+                self.drawn = write_success(keep, authorization, answer, random, cache, text);
+                settle(keep, code);
                 Row {
-                    code: command.code.number(),
+                    code: code.number(),
                     check: 0,
                 }
             }
-            Err(refused) => refuse(keep, RefusedCommand::of(command.code, refused), text),
+            Err(refused) => refuse(keep, RefusedCommand::of(code, refused), text),
         }
     }
 }

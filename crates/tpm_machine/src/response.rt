@@ -5,23 +5,24 @@ ghost use Rattle.std.specs.Prelude.{◌≡◌, ◌+◌, ◌≤◌, ◌++◌, [],
 ghost use Rattle.std.specs.Int.{w16, w32, to_be_bytes};
 ghost use Rattle.std.specs.List.{zip};
 ghost use Rattle.tpm_types_command.specs.AuthEntry.{entry_of};
-ghost use Rattle.tpm_types_command.specs.Command.{whole_of};
+ghost use Rattle.tpm_machine.specs.Authorization.{command_in, grants_in};
 ghost use Rattle.tpm_machine.specs.Drawn.{bytes_drawn};
 ghost use Rattle.tpm_step.specs.step.Answer.{answer_to, framed, handle_answer, refusal_tag, refusal_text, text_of};
 ghost use Rattle.tpm_step.specs.step.Entries.{DrawsFew};
 ghost use Rattle.tpm_step.specs.step.Parameters.{encrypted_answer};
 
+use crate::authorization::Authorization;
 use crate::draws::Draws;
 use crate::entries::{ENTRY_ANSWERS_LIMIT, answer_entries, end_entries, roll_entries};
 use crate::parameters::pass_parameters;
-use tpm_auth::{Cache, Grant, Grants};
+use tpm_auth::{Cache, Grant};
 use tpm_bytes::{Sink, append};
 use tpm_record::Keep;
 use tpm_record::rows::answer::{Answer, Parameters};
 use tpm_session::{HashedParameters, ParameterHashes};
 use tpm_step::{Direction, Response};
 use tpm_types::{ANSWER_LIMIT, Check, Handle, Refused};
-use tpm_types_command::{AuthEntry, Command, HEADER_SIZE, Tag};
+use tpm_types_command::{AuthEntry, HEADER_SIZE, Tag};
 
 /// The tag of the response to a command with an unknown tag (TPM_ST_RSP_COMMAND, TPM 2.0 Library,
 /// Part 2, section 6.9).
@@ -134,27 +135,27 @@ fn encrypt_answer<K: Keep>(
 #[inline(never)]
 fn write_with_sessions<K: Keep>(
     keep: &mut K,
-    command: &Command,
-    grants: &Grants,
+    authorization: &Authorization,
     answer: &mut Answer,
     random: &[u8; 256],
     cache: &mut Cache,
     text: &mut Response,
 ) -> usize
     requires empty { text.old.items ≡ [] }
-    requires some { 1 ≤ length (map entry_of command.now.entries.items) }
+    requires some { 1 ≤ length (map entry_of authorization.now.command.entries.items) }
     ensures answer { record { response = text.new.items; after = K.record_of keep.new }
-        ≡ answer_to (whole_of command.now) grants.now.grants.items
+        ≡ answer_to (command_in authorization.now) (grants_in authorization.now)
         (text_of answer.old) (K.record_of keep.old) random.now }
-    ensures drawn { DrawsFew random.now (K.record_of keep.old) (whole_of command.now).entries
-        answer.old.drawn }
+    ensures drawn { DrawsFew random.now (K.record_of keep.old)
+        (command_in authorization.now).entries answer.old.drawn }
     ensures count { result ≡ bytes_drawn random.now (K.record_of keep.old)
-        (whole_of command.now).entries answer.old.drawn }
+        (command_in authorization.now).entries answer.old.drawn }
     ensures room { length answer.old.parameters ≤ ANSWER_LIMIT }
     ensures fits { length text.new.items ≤ response_limit }
 {
+    let command = &authorization.command;
     let entries = command.entries.as_slice();
-    let grants = grants.grants.as_slice();
+    let grants = authorization.grants.grants.as_slice();
     let mut draws = Draws::new(&random[answer.drawn..]);
     roll_entries(keep, entries, &mut draws);
     let drawn = random.len() - draws.len();
@@ -173,8 +174,7 @@ fn write_with_sessions<K: Keep>(
 #[tactic(auto, unfolding(tpm_step::specs::step::Answer::success_text, tpm_step::specs::step::Answer::answer_to))]
 pub fn write_success<K: Keep>(
     keep: &mut K,
-    command: &Command,
-    grants: &Grants,
+    authorization: &Authorization,
     answer: &mut Answer,
     random: &[u8; 256],
     cache: &mut Cache,
@@ -182,20 +182,20 @@ pub fn write_success<K: Keep>(
 ) -> usize
     requires empty { text.old.items ≡ [] }
     ensures answer { record { response = text.new.items; after = K.record_of keep.new }
-        ≡ answer_to (whole_of command.now) grants.now.grants.items
+        ≡ answer_to (command_in authorization.now) (grants_in authorization.now)
         (text_of answer.old) (K.record_of keep.old) random.now }
-    ensures drawn { DrawsFew random.now (K.record_of keep.old) (whole_of command.now).entries
-        answer.old.drawn }
+    ensures drawn { DrawsFew random.now (K.record_of keep.old)
+        (command_in authorization.now).entries answer.old.drawn }
     ensures count { result ≡ bytes_drawn random.now (K.record_of keep.old)
-        (whole_of command.now).entries answer.old.drawn }
+        (command_in authorization.now).entries answer.old.drawn }
     // The parameters of an answer always fit its buffer, which has this size.
     ensures room { length answer.old.parameters ≤ ANSWER_LIMIT }
     ensures fits { length text.new.items ≤ response_limit }
 {
-    if command.entries.is_empty() {
+    if authorization.command.entries.is_empty() {
         write_plain(answer.handle, answer.parameters.as_slice(), text);
         answer.drawn
     } else {
-        write_with_sessions(keep, command, grants, answer, random, cache, text)
+        write_with_sessions(keep, authorization, answer, random, cache, text)
     }
 }

@@ -5,7 +5,7 @@ ghost use Rattle.tpm_types.specs.Limits.{buffer_limit};
 ghost use Rattle.std.specs.Prelude.{◌≡◌, ◌≤◌, ◌&&◌, Ok, length, map};
 ghost use Rattle.std.specs.List.{zip};
 ghost use Rattle.tpm_types_command.specs.AuthEntry.{entry_of};
-ghost use Rattle.tpm_types_command.specs.Command.{whole_of};
+ghost use Rattle.tpm_machine.specs.Authorization.{command_in, grants_in};
 ghost use Rattle.tpm_commands.specs.CommandCode.{shape_of};
 ghost use Rattle.tpm_types.specs.Locality.{locality_number};
 ghost use Rattle.tpm_auth.specs.Grant.{authorize};
@@ -16,6 +16,7 @@ ghost use Rattle.tpm_step.specs.step.Step.{Accepts, acceptance};
 ghost use Rattle.tpm_step.specs.step.Table.{row_of};
 ghost use Rattle.tpm_step.specs.step.Parameters.{plain_parameters};
 
+use crate::authorization::Authorization;
 use crate::parameters::pass_parameters;
 use arrayvec::ArrayVec;
 use tpm_actions_capability::get_capability::get_capability;
@@ -54,7 +55,7 @@ use tpm_actions_policy::policy_password::policy_password;
 use tpm_actions_policy::policy_pcr::policy_pcr;
 use tpm_actions_policy::policy_restart::policy_restart;
 use tpm_actions_policy::policy_secret::policy_secret;
-use tpm_auth::{Grant, Grants, any_decrypts};
+use tpm_auth::{Grant, any_decrypts};
 use tpm_bytes::copied;
 use tpm_commands::CommandCode;
 use tpm_nvactions::nv_change_auth::nv_change_auth;
@@ -73,7 +74,7 @@ use tpm_record::rows::answer::Answer;
 use tpm_record::rows::call::Call;
 use tpm_step::Direction;
 use tpm_types::{BUFFER_LIMIT, Locality, Refused};
-use tpm_types_command::{AuthEntry, Command};
+use tpm_types_command::AuthEntry;
 
 /// Executes the row of a command. Only a command that may allocate can return MEMORY.
 #[inline(always)]
@@ -192,25 +193,25 @@ fn act_decrypted<K: Keep>(
     act(keep, code, &call, answer)
 }
 
-/// Executes the row of an authorized command. `grants` says which handles its entries authorize. A
-/// refusal leaves the record unchanged.
+/// Executes the row of an authorized command. A refusal leaves the record unchanged.
 #[tactic(auto, using(crate::proofs::DecodingLaws::plain_as_sent), unfolding(tpm_step::specs::step::Step::acceptance))]
 pub fn accept<K: Keep>(
     keep: &mut K,
-    command: &Command,
-    grants: &Grants,
+    authorization: &Authorization,
     locality: Locality,
     random: &[u8; 256],
     answer: &mut Answer,
 ) -> Result<(), Refused>
-    requires size { length command.now.parameters.now ≤ buffer_limit }
+    requires size { length authorization.now.command.parameters.now ≤ buffer_limit }
     requires empty { IsEmpty answer.old }
-    requires granted { authorize (K.record_of keep.old) (whole_of command.now)
-        (locality_number locality) ≡ Ok grants.now.grants.items }
-    ensures { Accepts K.can_refuse (acceptance (K.record_of keep.old) (whole_of command.now)
-        (locality_number locality) random.now) (whole_of command.now) grants.now.grants.items
+    requires granted { authorize (K.record_of keep.old) (command_in authorization.now)
+        (locality_number locality) ≡ Ok (grants_in authorization.now) }
+    ensures { Accepts K.can_refuse (acceptance (K.record_of keep.old) (command_in authorization.now)
+        (locality_number locality) random.now) (command_in authorization.now)
+        (grants_in authorization.now)
         (K.record_of keep.old) result answer.new (K.record_of keep.new) }
 {
+    let command = &authorization.command;
     let entries = command.entries.as_slice();
     let call = Call {
         handles: command.handles.as_slice(),
@@ -224,7 +225,7 @@ pub fn accept<K: Keep>(
             command.code,
             &call,
             entries,
-            grants.grants.as_slice(),
+            authorization.grants.grants.as_slice(),
             answer,
         )
     } else {

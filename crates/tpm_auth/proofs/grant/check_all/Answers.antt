@@ -11,4 +11,4 @@ pub returns-in-len1 : goal.returns-in-len1
 returns-in-len1 g c =
     let one = only_entry c.as_slice.result.now _ (omega (arith, c.in-len1.len_at_least)) (omega (arith, c.in-len1.len_below)) in
     let same = ap (map entry_of) (sym c.as_slice.ensures.value) ∙ one in
-    subst (λ (l : List Entry). Gives granted_by (grants_pass (g.K.Keep.record_of c.args.keep.now) (whole_of c.args.command.now) (locality_number c.args.locality) [] l) c.check_one_password.result) (sym same) (c.check_one_password.ensures (locality_number c.args.locality))
+    subst (λ (l : List Entry). Gives granted_by (grants_pass (g.K.Keep.record_of c.args.keep.now) (whole_of c.args.sent.now.command.now) (locality_number c.args.sent.now.locality) [] l) c.check_one_password.result) (sym same) c.check_one_password.ensures

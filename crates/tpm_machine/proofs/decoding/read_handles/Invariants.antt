@@ -1,4 +1,5 @@
 use Rattle.std.proofs.Common.{◌≡◌, ◌+◌, ◌≤◌, drop, length}
+use Rattle.tpm_record.specs.Resolved.{AreFound}
 use Rattle.tpm_bytes.specs.Many.{each_at}
 use Rattle.tpm_bytes.proofs.Joining.{behind}
 use Rattle.tpm_step.specs.step.General.{present_handle_at}
@@ -14,4 +15,6 @@ invariant-loop-rule g l =
       place : l.number ≡ l.rule-index + 1;
       size : length l.handles.items ≡ l.rule-index;
       few : length l.rules ≤ 3;
+      found : AreFound (g.K.Keep.record_of l.keep) l.entities.items l.handles.items;
+      as_many : length l.entities.items ≡ l.rule-index;
     }
