@@ -16,9 +16,9 @@ use Rattle.tpm_record.specs.rows.Rows.{ActsIfRoom, Success}
 use Rattle.tpm_record.specs.declared.rows.answer.Answer.{Answer}
 use Rattle.tpm_step.specs.step.Entries.{DrawsFew}
 use Rattle.tpm_step.specs.step.Answer.{Written, answer_to, text_of, written_of}
-use Rattle.tpm_step.specs.step.General.{general, in_command}
+use Rattle.tpm_step.specs.step.General.{in_command}
 use Rattle.tpm_step.specs.step.Safe.{IsModest}
-use Rattle.tpm_step.specs.step.Step.{Accepted, Accepts, Answers, RefusesOrWantsMemory, Stepped, Succeeds, acceptance, accepted, refusal_step, request_in, settled}
+use Rattle.tpm_step.specs.step.Step.{Accepted, Accepts, Answers, RefusesOrWantsMemory, Stepped, Succeeds, acceptance, refusal_step, request_in, settled}
 use Rattle.tpm_step.specs.step.Table.{row_of}
 use Rattle.tpm_machine.specs.Drawn.{bytes_drawn, drawn_by_command}
 use Rattle.tpm_machine.proofs.Refusals.{answers_exactly, refused_answers}
@@ -95,24 +95,6 @@ refused_so can random c (Ok a) e (may, same, grows, is) =
 pub refused_draws : (can : Bool) (random : List ℕ) (c : Whole) (a : Result Accepted Refused) (e : Refused) (check : ℕ) → check ≡ check_number e.check → RefusesOrWantsMemory can c a e → 0 ≡ drawn_by_command random (in_command c.code a) check
 refused_draws can random c a e check reported is =
     subst (λ (n : ℕ). 0 ≡ drawn_by_command random (in_command c.code a) n) (sym reported) (refused_so can random c a e is)
-
--- a command that is not authorized is refused
-pub not_authorized : (can : Bool) (r : Record) (c : Whole) (locality : ℕ) (random : List ℕ) (e : Refused) → authorize r c locality ≡ Err e → RefusesOrWantsMemory can c (acceptance r c locality random) e
-unfolding acceptance
-not_authorized can r c locality random e refused = rw (refused) refl
-
--- if a decoded command is refused or runs out of memory, the step of that refusal satisfies
--- `Answers`
-pub command_refused : (can : Bool) (r : Record) (buffer : List ℕ) (locality : ℕ) (random : List ℕ) (c : Whole) (e : Refused) (x : Stepped) → general r buffer ≡ Ok c → RefusesOrWantsMemory can c (acceptance r c locality random) e → x ≡ refusal_step r (record { code = code_number c.code; refused = e }) → Answers can r random (accepted r buffer locality random) x
-unfolding accepted
-command_refused can r buffer locality random c e x decoded is seen =
-    rw (decoded, seen) (refused_answers can r random c (acceptance r c locality random) e is)
-
--- a command that is not authorized draws no random bytes
-pub unauthorized_draws : (can : Bool) (r : Record) (buffer : List ℕ) (locality : ℕ) (random : List ℕ) (c : Whole) (e : Refused) (check : ℕ) → check ≡ check_number e.check → general r buffer ≡ Ok c → RefusesOrWantsMemory can c (acceptance r c locality random) e → 0 ≡ drawn_by_command random (accepted r buffer locality random) check
-unfolding accepted
-unauthorized_draws can r buffer locality random c e check reported decoded is =
-    rw decoded (refused_draws can random c (acceptance r c locality random) e check reported is)
 
 -- if the row of an authorized command refuses or runs out of memory, the step of that refusal
 -- satisfies `Answers`

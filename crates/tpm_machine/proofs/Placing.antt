@@ -1,5 +1,5 @@
 -- Placing an object counts as the execution of an event.
-use Rattle.std.proofs.Common.{◌≡◌, ◌<◌, ℕ, Bool, List, Option, Some, None, option_map, Result, Ok, Err, sym, ap, subst, ◌∙◌}
+use Rattle.std.proofs.Common.{◌≡◌, ℕ, Bool, List, Option, Some, None, option_map, Result, Ok, Err, sym, ap, subst, ◌∙◌}
 use Rattle.tpm_containers.specs.Slots.{lowest_free}
 use Rattle.tpm_containers.specs.declared.slots.SlotFault.{SlotFault}
 use Rattle.tpm_containers.specs.declared.slots.SlotFault.TheVariants.{Full, NoMemory}
