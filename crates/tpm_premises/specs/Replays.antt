@@ -8,7 +8,7 @@ use Rattle.tpm_types.specs.declared.symmetric.SymmetricDefinition.TheVariants as
 use Rattle.tpm_types_command.specs.AuthEntry.{Entry}
 use Rattle.tpm_record.specs.rows.Answer.{Plain, nothing}
 use Rattle.tpm_step.specs.history.History.{AcceptedCommand, Done}
-use Rattle.tpm_step.specs.uses.Replays.{IsReplay}
+use Rattle.tpm_step.specs.uses.Replays.{IsReplay, Replay}
 use Rattle.tpm_step.specs.history.Sessions.{LiveSession}
 use Rattle.tpm_step.specs.history.View.{OfHandle}
 
@@ -92,6 +92,19 @@ asking = record {
   sensitive = None;
 }
 
+-- the command `asking`, accepted twice, one right after the other
+abbrev pub asked_twice : Replay
+asked_twice = record {
+  buffer = buffer;
+  before = Done starting ∷ [];
+  first = asking;
+  between = [];
+  second = asking;
+  place = 0;
+  entry = entry;
+  session = session;
+}
+
 -- The buffer occurs twice in a history, and the second time it is a replay.
 abbrev pub HasReplay : Type 0
-HasReplay = IsReplay buffer (Done starting ∷ []) asking [] asking 0 entry session
+HasReplay = IsReplay asked_twice
