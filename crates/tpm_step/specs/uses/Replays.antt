@@ -35,9 +35,10 @@ LivesThrough handle (event ∷ events) before =
 
 -- ---- a replay
 
--- A buffer, two accepted commands of a history, and one of their entries. `before` is the history before the
--- first command, and `between` contains the events between the two commands. `place` is the entry's
--- position, counted from 0. `session` is the session that the entry names, before the first command.
+-- A buffer, two accepted commands of a history, and one of their entries. `before` is the history
+-- before the first command, and `between` contains the events between the two commands. `place` is
+-- the entry's position, counted from 0. `session` is the session that the entry names, before the
+-- first command.
 pub record Replay : Type 0 where
   pub buffer : List ℕ
   pub before : History

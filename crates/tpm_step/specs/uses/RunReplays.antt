@@ -27,9 +27,9 @@ Gives buffer (Given given locality elapsed random) = given ≡ buffer
 Gives buffer Cycled = ⊥
 Gives buffer (Placed object) = ⊥
 
--- Two events of a run, `one` and `two`, their buffer, and one of its entries. The events in `earlier` came
--- before them, and the events in `meanwhile` between them. `place` is the entry's position, counted
--- from 0. `session` is the session that the entry names, before the first event.
+-- Two events of a run, `one` and `two`, their buffer, and one of its entries. The events in
+-- `earlier` came before them, and the events in `meanwhile` between them. `place` is the entry's
+-- position, counted from 0. `session` is the session that the entry names, before the first event.
 pub record RunReplay : Type 0 where
   pub buffer : List ℕ
   pub earlier : List Execution
