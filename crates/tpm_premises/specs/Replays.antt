@@ -22,8 +22,8 @@ start_parameters =
     0x00 ∷ 0x10 ∷ replicate 16 0 ++ 0x00 ∷ 0x00 ∷ 0x00 ∷ 0x00 ∷ 0x10 ∷ 0x00 ∷ 0x0b ∷ []
 
 -- TPM2_StartAuthSession, which started a session with the handle 02000000
-abbrev pub starting : AcceptedCommand
-starting = record {
+abbrev pub start_command : AcceptedCommand
+start_command = record {
   command = record {
     code = command.StartAuthSession;
     handles = null_handle ∷ null_handle ∷ [];
@@ -42,7 +42,7 @@ starting = record {
   sensitive = None;
 }
 
--- the session that the command `starting` started
+-- the session that the command `start_command` started
 abbrev pub session : LiveSession
 session = record {
   kind = type.Hmac;
@@ -72,8 +72,8 @@ buffer =
     ∷ 0x00 ∷ 0x04 ∷ 1 ∷ 2 ∷ 3 ∷ 4 ∷ 0x00 ∷ 0x08 ∷ []
 
 -- the command in `buffer`, as a history records it
-abbrev pub asking : AcceptedCommand
-asking = record {
+abbrev pub random_command : AcceptedCommand
+random_command = record {
   command = record {
     code = command.GetRandom;
     handles = [];
@@ -96,10 +96,10 @@ asking = record {
 abbrev pub asked_twice : Replay
 asked_twice = record {
   buffer = buffer;
-  before = Done starting ∷ [];
-  first = asking;
+  before = Done start_command ∷ [];
+  first = random_command;
   between = [];
-  second = asking;
+  second = random_command;
   place = 0;
   entry = entry;
   session = session;

@@ -13,7 +13,7 @@ use Rattle.tpm_record.specs.Record.{Record}
 use Rattle.tpm_session.specs.Sessions.{session_at}
 use Rattle.tpm_session.specs.declared.session.Session.{Session}
 use Rattle.tpm_step.specs.step.Granted.{Granted}
-use Rattle.tpm_step.specs.history.Sessions.{used}
+use Rattle.tpm_step.specs.history.Sessions.{used_session}
 use Rattle.tpm_types.specs.Handle.{session_kind}
 use Rattle.tpm_types.specs.declared.handle.Handle.{Handle}
 use Rattle.tpm_types.specs.declared.handle.SessionKind.{SessionKind}

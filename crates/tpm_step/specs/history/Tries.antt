@@ -90,8 +90,9 @@ touched_by kind.Session r c locality n used e =
     option_map_or (touched_of_session r c locality n used) (session_of r e) protection.None
 touched_by kind.Other r c locality n used e = protection.None
 
-abbrev pub touched : Record → Whole → (locality n : ℕ) → Option Handle → Entry → Protection
-touched r c locality n used e = touched_by (session_kind e.session) r c locality n used e
+abbrev pub touched_protection : Record → Whole → (locality n : ℕ) → Option Handle → Entry
+    → Protection
+touched_protection r c locality n used e = touched_by (session_kind e.session) r c locality n used e
 
 -- The command's authorization is refused with AUTH_FAIL for the entry at this position, counted
 -- from 0. The entry was checked with the authorization value of a protected entity other than
@@ -103,7 +104,7 @@ pub record FailsTry (r : Record) (locality : ℕ) (buffer : List ℕ) : Type 0 w
   pub refused : Refused
   pub decoded : general r buffer ≡ Ok command
   pub there : slice_get command.entries place ≡ Some entry
-  pub touches : touched r command locality (place + 1) (used_in command place) entry
+  pub touches : touched_protection r command locality (place + 1) (used_in command place) entry
       ≡ protection.Tries
   pub is : authorize r command locality ≡ Err refused
   pub fails : refused.rc ≡ entry_fault (place + 1) code.AuthFail
