@@ -12,7 +12,7 @@ use Rattle.tpm_record.specs.Record.{manufactured}
 use Rattle.tpm_step.specs.history.AuthValues.{auth_of}
 use Rattle.tpm_step.specs.step.Events.{IsEvent, Placed}
 use Rattle.tpm_step.specs.history.FailedRun.{zeros}
-use Rattle.tpm_step.specs.history.History.{ObjectPlaced, with_event}
+use Rattle.tpm_step.specs.history.History.{ObjectPlaced, recorded}
 use Rattle.tpm_step.specs.step.Placing.{placed}
 
 -- sealed data with the authorization value "a"; its only attributes are fixedTPM and fixedParent
@@ -42,7 +42,7 @@ pub record IsPlaced : Type 0 where
   pub happens : IsEvent (Placed saved_object)
   pub found : object_at (placed (manufactured zeros) saved_object).objects first_transient
       ≡ Some saved_object
-  pub past : with_event (manufactured zeros) (Placed saved_object) 0 []
+  pub past : recorded (manufactured zeros) (Placed saved_object) 0 []
       ≡ ObjectPlaced first_transient saved_object ∷ []
   pub auth_value : auth_of (ObjectPlaced first_transient saved_object ∷ []) first_transient
       ≡ 0x61 ∷ []

@@ -24,7 +24,7 @@ use Rattle.tpm_step.specs.step.Execution.{Executes}
 use Rattle.tpm_step.specs.history.Executions.{Execution, Leads, history_after, with_execution}
 use Rattle.tpm_step.specs.history.Follows.{Follows}
 use Rattle.tpm_step.specs.step.General.{general}
-use Rattle.tpm_step.specs.history.History.{AcceptedCommand, Done, History, command_of, with_command, with_event}
+use Rattle.tpm_step.specs.history.History.{AcceptedCommand, Done, History, command_of, recorded, with_command}
 use Rattle.tpm_step.specs.uses.PolicyUses.{AllMeetPolicies, UsesMeetPolicies}
 use Rattle.tpm_step.specs.step.Step.{Accepted, Stepped, Steps, acceptance, accepted, answer_where, request_in, step_where}
 use Rattle.tpm_step.specs.step.Table.{row_of}
@@ -86,7 +86,7 @@ answered true r random a none = rw none refl
 
 module _ (objects : Public → Bool) (can : Bool) (old : Record) (history : History) (follows : Follows old history) where
   abbrev IsRecordedReading : PlainEvent → Stepped → Type 0
-  IsRecordedReading event x = (c : AcceptedCommand) × (with_event old event x.row.check history ≡ Done c ∷ history) × ReadsSealed objects history c
+  IsRecordedReading event x = (c : AcceptedCommand) × (recorded old event x.row.check history ≡ Done c ∷ history) × ReadsSealed objects history c
 
   recorded_reading : (buffer : List ℕ) (locality elapsed : ℕ) (bytes : List ℕ) (x : Stepped) → Executes can old (Given buffer locality elapsed bytes) x → IsRead objects (ticked old elapsed) buffer locality bytes → IsRecordedReading (Given buffer locality elapsed bytes) x
   recorded_reading buffer locality elapsed bytes x executes f = (
@@ -142,7 +142,7 @@ module _ (objects : Public → Bool) (can : Bool) (old : Record) (history : Hist
           ∙ ap (λ (y : Result Accepted RefusedCommand). (answer_where executes.steps.0 t bytes y).row.check) is_accepted
           ∙ answered executes.steps.0 t bytes a (ap (λ (c : CommandCode). (shape_of c).grows) so.code_is ∙ never_grows sign)
 
-      is_recorded : with_event old event x.row.check history ≡ Done done ∷ history
+      is_recorded : recorded old event x.row.check history ≡ Done done ∷ history
       is_recorded =
           ap (λ (n : ℕ). with_command t (accepted t buffer locality bytes) n history) check
           ∙ ap (λ (y : Result Accepted RefusedCommand). with_command t y 0 history) is_accepted
@@ -179,7 +179,7 @@ followed_data_need_policy objects can old history follows event x executes =
 -- ---- executions before a command reads the data
 
 module _ (objects : Public → Bool) (can : Bool) (Holds : History → AcceptedCommand → Type 0) (so : (history : History) (c : AcceptedCommand) → ReadsSealed objects history c → Holds history c) where
-  one_stays : (old : Record) (history : History) → Follows old history → (event : PlainEvent) (x : Stepped) → Executes can old event x → ((c : AcceptedCommand) → with_event old event x.row.check history ≡ Done c ∷ history → Holds history c → ⊥) → TellsNothingSealed objects can old event x
+  one_stays : (old : Record) (history : History) → Follows old history → (event : PlainEvent) (x : Stepped) → Executes can old event x → ((c : AcceptedCommand) → recorded old event x.row.check history ≡ Done c ∷ history → Holds history c → ⊥) → TellsNothingSealed objects can old event x
   one_stays old history follows event x executes none =
       elim (followed_data_need_policy objects can old history follows event x executes) [
         | inl told ↦ told
@@ -190,7 +190,7 @@ module _ (objects : Public → Bool) (can : Bool) (Holds : History → AcceptedC
   all_stay old history follows [] new led none other differ = subst (λ (r : Record). DifferInSecrets (sealed_secrecy objects) r other) (sym led) differ
   all_stay old history follows (one ∷ executions) new led none other differ = λ also alike.
       let executes : Executes can old one.event one.seen = led.1 in
-      let same : with_execution one history ≡ with_event old one.event one.seen.row.check history = ap (λ (r : Record). with_event r one.event one.seen.row.check history) led.0 in
+      let same : with_execution one history ≡ recorded old one.event one.seen.row.check history = ap (λ (r : Record). recorded r one.event one.seen.row.check history) led.0 in
       let first = one_stays old history follows one.event one.seen executes (λ c is. none.0 c (same ∙ is)) other also differ alike in
       let next : Follows one.seen.after (with_execution one history) = subst (Follows one.seen.after) (sym same) (execution_follows can old one.event one.seen history executes follows) in (
         first.0,

@@ -14,7 +14,7 @@ use Rattle.tpm_step.specs.step.Events.{PlainEvent}
 use Rattle.tpm_step.specs.step.Execution.{Executes}
 use Rattle.tpm_step.specs.history.Executions.{Execution, Leads, history_after, with_execution}
 use Rattle.tpm_step.specs.history.Follows.{Follows}
-use Rattle.tpm_step.specs.history.History.{AcceptedCommand, Done, History, with_event}
+use Rattle.tpm_step.specs.history.History.{AcceptedCommand, Done, History, recorded}
 use Rattle.tpm_step.specs.uses.PolicyReviews.{HavePcrValues, IsUsedBySession, by_pcrs}
 use Rattle.tpm_step.specs.uses.PolicyUses.{IsMetBy, ShowsAuthValue}
 use Rattle.tpm_step.specs.step.Step.{Stepped, Steps}
@@ -68,7 +68,7 @@ FollowedDataNeedPolicy =
     (objects : Public → Bool) (can : Bool) (old : Record) (history : History)
     → Follows old history → (event : PlainEvent) (x : Stepped) → Executes can old event x
     → TellsNothingSealed objects can old event x
-    ⊎ (c : AcceptedCommand) × (with_event old event x.row.check history ≡ Done c ∷ history)
+    ⊎ (c : AcceptedCommand) × (recorded old event x.row.check history ≡ Done c ∷ history)
     × ReadsSealed objects history c
 
 -- After any executions since a device was manufactured, an execution reveals nothing about sealed
@@ -81,7 +81,7 @@ SealedDataNeedPolicy =
     → (event : PlainEvent) (x : Stepped) → Executes can old event x
     → let history : History = history_after [] executions in
     TellsNothingSealed objects can old event x
-    ⊎ (c : AcceptedCommand) × (with_event old event x.row.check history ≡ Done c ∷ history)
+    ⊎ (c : AcceptedCommand) × (recorded old event x.row.check history ≡ Done c ∷ history)
     × ReadsSealed objects history c
 
 -- ---- executions before a command reads the data
@@ -144,11 +144,11 @@ disk_policy hash selection values name reference =
 -- proves one of two things. Either the PCRs had these values, and the PIN, which is the key's
 -- authorization value, was presented; or the recovery secret was presented.
 pub record OpensDiskKey (public : Public) (selection : List BankSelection)
-    (values name reference : List ℕ) (history : History) (c : AcceptedCommand) : Type 0
+    (values name reference : List ℕ) (history : History) (accepted : AcceptedCommand) : Type 0
   where
-    pub code : c.command.code ≡ command.Unseal
-    pub viewed : slice_get c.views 0 ≡ Some (OfObject public)
-    pub by : IsUsedBySession history c 0 public.name_alg
+    pub code : accepted.command.code ≡ command.Unseal
+    pub viewed : slice_get accepted.views 0 ≡ Some (OfObject public)
+    pub by : IsUsedBySession history accepted 0 public.name_alg
         (disk_policy public.name_alg selection values name reference)
         (λ u. HavePcrValues history public.name_alg selection values × ShowsAuthValue u
         ⊎ ShowsSecret history u.entry.session name reference)

@@ -39,7 +39,7 @@ ghost use Rattle.tpm_step.specs.history.Follows.{After, Follows, RunFollows, Str
 ghost use Rattle.tpm_step.specs.uses.Grounds.{AllHaveGrounds};
 ghost use Rattle.tpm_step.specs.history.History.{AcceptedCommand, Done, History, PastEvent};
 ghost use Rattle.tpm_step.specs.history.History.{PowerCycled};
-ghost use Rattle.tpm_step.specs.history.History.{with_event};
+ghost use Rattle.tpm_step.specs.history.History.{recorded};
 ghost use Rattle.tpm_step.specs.history.Pcrs.{before_shutdown, pcr_of, pcrs_after};
 ghost use Rattle.tpm_step.specs.step.Placing.{placed};
 ghost use Rattle.tpm_step.specs.uses.PolicyLaws.{KeepsQuietValues, UsesItsCommand};
@@ -117,7 +117,7 @@ pub fn run_history_laws<F: FnMut(&Outcome)>()
 pub fn view_laws()
     ensures tell { (r : Record) (handle : Handle) → TellsOf (view_of r handle) r handle }
     ensures recorded { (r : Record) (event : PlainEvent) (check : ℕ) (history : History)
-        (c : AcceptedCommand) → with_event r event check history ≡ Done c ∷ history
+        (c : AcceptedCommand) → recorded r event check history ≡ Done c ∷ history
         → c.views ≡ map (view_of r) c.command.handles }
 {}
 

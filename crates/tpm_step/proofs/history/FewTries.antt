@@ -18,7 +18,7 @@ use Rattle.tpm_step.specs.declared.refused_command.RefusedCommand.{RefusedComman
 use Rattle.tpm_step.specs.rows.Acceptance.{IsAcceptance}
 use Rattle.tpm_step.proofs.rows.Acceptance.{accepted_is}
 use Rattle.tpm_step.specs.history.Executions.{Execution, Leads, history_after, with_execution}
-use Rattle.tpm_step.specs.history.History.{Done, ObjectPlaced, PastEvent, PowerCycled, with_command, with_event}
+use Rattle.tpm_step.specs.history.History.{Done, ObjectPlaced, PastEvent, PowerCycled, recorded, with_command}
 use Rattle.tpm_step.specs.history.Potential.{IsForgiving, Pays}
 use Rattle.tpm_step.specs.history.Tries.{FailsFew, FailsWithin, HasNoReset, IsReset, counts_try, elapsed_in, elapsed_of, failures_in, fails_try, is_reset, resets_tries, tries_at_most, tries_within}
 use Rattle.tpm_step.proofs.history.Balance.{IsPaid, cycle_pays, few_fail, pays_more, refusal_pays, same_pays, tick_pays}
@@ -48,7 +48,7 @@ pub record PaysFor (old new : LockoutState) (fails : Bool) (elapsed : ℕ) : Typ
   pub recovery_time : new.fields.recovery_time ≡ old.fields.recovery_time
   pub more : (failed rest : ℕ) → IsPaid new failed rest → IsPaid old (cond fails 1 0 + failed) (elapsed + rest)
 
-step_pays : (refused : Bool) (r : Record) (event : PlainEvent) → r.fixed.lockout.fields.recovery_time ≢ 0 → HasNoReset (with_event r event (step_where refused r event).row.check []) → PaysFor r.fixed.lockout (step_where refused r event).after.fixed.lockout (fails_try r event) (elapsed_of event)
+step_pays : (refused : Bool) (r : Record) (event : PlainEvent) → r.fixed.lockout.fields.recovery_time ≢ 0 → HasNoReset (recorded r event (step_where refused r event).row.check []) → PaysFor r.fixed.lockout (step_where refused r event).after.fixed.lockout (fails_try r event) (elapsed_of event)
 step_pays refused r (Given buffer locality elapsed random) counts quiet = record {
   recovery_time = answers.recovery_time ∙ ticks.recovery_time;
   more = λ failed rest paid.
@@ -84,10 +84,10 @@ step_pays refused r Cycled counts quiet = record {
   more = λ failed rest paid. pays_more r.fixed.lockout (times_restarted r.fixed.lockout) 0 failed (0 + failed) 0 rest (0 + rest) refl refl (cycle_pays r.fixed.lockout) paid;
 }
 
-execution_pays : (can : Bool) (old : Record) (event : PlainEvent) (x : Stepped) → Executes can old event x → old.fixed.lockout.fields.recovery_time ≢ 0 → HasNoReset (with_event old event x.row.check []) → PaysFor old.fixed.lockout x.after.fixed.lockout (fails_try old event) (elapsed_of event)
+execution_pays : (can : Bool) (old : Record) (event : PlainEvent) (x : Stepped) → Executes can old event x → old.fixed.lockout.fields.recovery_time ≢ 0 → HasNoReset (recorded old event x.row.check []) → PaysFor old.fixed.lockout x.after.fixed.lockout (fails_try old event) (elapsed_of event)
 execution_pays can old event x executes counts quiet =
     let (refused, only, is) = executes.steps in
-    let stepped = step_pays refused old event counts (subst (λ (y : Stepped). HasNoReset (with_event old event y.row.check [])) is quiet) in
+    let stepped = step_pays refused old event counts (subst (λ (y : Stepped). HasNoReset (recorded old event y.row.check [])) is quiet) in
     subst (λ (y : Stepped). PaysFor old.fixed.lockout y.after.fixed.lockout (fails_try old event) (elapsed_of event)) (sym is) stepped
 
 -- ---- sequences of events
@@ -105,7 +105,7 @@ all_paid : (can : Bool) (old : Record) (executions : List Execution) (new : Reco
 all_paid can old [] new leads quiet counts = inl refl
 all_paid can old (one ∷ executions) new (first, executes, rest) quiet counts =
     let parts = quiet_parts one executions quiet in
-    let pays = execution_pays can old one.event one.seen executes counts (subst (λ (r : Record). HasNoReset (with_event r one.event one.seen.row.check [])) first parts.1) in
+    let pays = execution_pays can old one.event one.seen executes counts (subst (λ (r : Record). HasNoReset (recorded r one.event one.seen.row.check [])) first parts.1) in
     let paid = all_paid can one.seen.after executions new rest parts.0 (λ none. counts (sym pays.recovery_time ∙ none)) in
     rw (sum_by-cons (λ (one : Execution). cond (fails_try one.before one.event) 1 0) one executions, sum_by-cons (λ (one : Execution). elapsed_of one.event) one executions)
     (subst (λ (r : Record). IsPaid old.fixed.lockout (cond (fails_try r one.event) 1 0 + failures_in executions) (elapsed_of one.event + elapsed_in executions)) (sym first)

@@ -42,7 +42,7 @@ use Rattle.tpm_step.specs.history.AuthValues.{auth_of}
 use Rattle.tpm_step.specs.history.Executions.{Execution, Leads, history_after}
 use Rattle.tpm_step.specs.history.Follows.{Follows, RunFollows, Shape, StretchFollows, Tells}
 use Rattle.tpm_step.specs.history.Sessions.{rolled_by, sessions_of}
-use Rattle.tpm_step.specs.history.History.{AcceptedCommand, Done, History, ObjectPlaced, PastEvent, PowerCycled, command_of, with_command, with_event, with_placed}
+use Rattle.tpm_step.specs.history.History.{AcceptedCommand, Done, History, ObjectPlaced, PastEvent, PowerCycled, command_of, recorded, with_command, with_placed}
 use Rattle.tpm_step.proofs.history.DeviceAuthValues.{auth_values_done, cycled_auth_values, handles_auth_values, handles_present, manufactured_auth_values, placed_auth_values}
 use Rattle.tpm_step.proofs.history.DeviceCounters.{begins_above, counters_done, exceeds_earlier, keeps_counter, manufactured_counters}
 use Rattle.tpm_step.proofs.history.DevicePcrs.{cycled_pcrs, manufactured_pcrs, pcrs_done}
@@ -244,14 +244,14 @@ leaves_after r (Given buffer locality elapsed random) check happens modest = λ 
 leaves_after r Cycled check happens modest = tt
 leaves_after r (Placed object) check happens modest = tt
 
-step_follows : (refused : Bool) (r : Record) (event : PlainEvent) (history : History) → IsEvent event → LeavesAfter r event (step_where refused r event).row.check → IsSound (step_where refused r event).after → Follows r history → Follows (step_where refused r event).after (with_event r event (step_where refused r event).row.check history)
+step_follows : (refused : Bool) (r : Record) (event : PlainEvent) (history : History) → IsEvent event → LeavesAfter r event (step_where refused r event).row.check → IsSound (step_where refused r event).after → Follows r history → Follows (step_where refused r event).after (recorded r event (step_where refused r event).row.check history)
 step_follows refused r (Given buffer locality elapsed random) history happens leaves sound follows =
     let t = ticked r elapsed in
     answer_follows refused t locality random (accepted t buffer locality random) history (accepted_is t buffer locality random) leaves sound (ticked_follows r elapsed history follows)
 step_follows refused r Cycled history happens leaves sound follows = cycled_follows r history follows
 step_follows refused r (Placed object) history happens leaves sound follows = placed_follows r object history happens sound follows
 
-pub execution_follows : (can : Bool) (old : Record) (event : PlainEvent) (x : Stepped) (history : History) → Executes can old event x → Follows old history → Follows x.after (with_event old event x.row.check history)
+pub execution_follows : (can : Bool) (old : Record) (event : PlainEvent) (x : Stepped) (history : History) → Executes can old event x → Follows old history → Follows x.after (recorded old event x.row.check history)
 execution_follows can old event x history executes follows =
     by executes.steps (record {
       shape = record_shape x.after executes.is_record;
@@ -260,9 +260,9 @@ execution_follows can old event x history executes follows =
       all = all_values x.after.fixed.banks executes.is_record.banks;
     })
   where
-    by : Steps can old event x → IsSound x.after → Follows x.after (with_event old event x.row.check history)
+    by : Steps can old event x → IsSound x.after → Follows x.after (recorded old event x.row.check history)
     by (refused, only, same) sound =
-        subst (λ (y : Stepped). Follows y.after (with_event old event y.row.check history)) (sym same)
+        subst (λ (y : Stepped). Follows y.after (recorded old event y.row.check history)) (sym same)
         (step_follows refused old event history executes.happens (leaves_after old event (step_where refused old event).row.check executes.happens (λ passes. executes.modest (ap (λ (y : Stepped). y.row.check) same ∙ passes))) (subst (λ (y : Stepped). IsSound y.after) same sound) follows)
 
 -- ---- sequences of events, with their history

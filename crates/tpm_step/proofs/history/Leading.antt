@@ -10,7 +10,7 @@ use Rattle.tpm_step.specs.step.Execution.{Executes}
 use Rattle.tpm_step.specs.step.Step.{Accepted, Stepped, accepted}
 use Rattle.tpm_step.specs.declared.refused_command.RefusedCommand.{RefusedCommand}
 use Rattle.tpm_step.specs.history.Executions.{Execution, Leads, history_after, with_execution}
-use Rattle.tpm_step.specs.history.History.{History, with_command, with_event, with_placed}
+use Rattle.tpm_step.specs.history.History.{History, recorded, with_command, with_placed}
 
 -- ---- the part of a history that was added to an earlier history
 
@@ -23,7 +23,7 @@ placed_apart : (handle : Option Handle) (object : Object) (history : History) �
 placed_apart (Some handle) object history = refl
 placed_apart None object history = refl
 
-recorded_apart : (r : Record) (event : PlainEvent) (check : ℕ) (history : History) → with_event r event check history ≡ with_event r event check [] ++ history
+recorded_apart : (r : Record) (event : PlainEvent) (check : ℕ) (history : History) → recorded r event check history ≡ recorded r event check [] ++ history
 recorded_apart r (Given buffer locality elapsed random) check history =
     let t = ticked r elapsed in command_apart t (accepted t buffer locality random) check history
 recorded_apart r Cycled check history = refl
@@ -44,9 +44,9 @@ history_apart executions history = all_apart executions [] history
 
 -- ---- properties that each execution preserves
 
-pub leads_keep : (Follows : Record → History → Type 0) → ((can : Bool) (old : Record) (event : PlainEvent) (x : Stepped) (history : History) → Executes can old event x → Follows old history → Follows x.after (with_event old event x.row.check history)) → (can : Bool) (old : Record) (executions : List Execution) (new : Record) (history : History) → Leads can old executions new → Follows old history → Follows new (history_after history executions)
+pub leads_keep : (Follows : Record → History → Type 0) → ((can : Bool) (old : Record) (event : PlainEvent) (x : Stepped) (history : History) → Executes can old event x → Follows old history → Follows x.after (recorded old event x.row.check history)) → (can : Bool) (old : Record) (executions : List Execution) (new : Record) (history : History) → Leads can old executions new → Follows old history → Follows new (history_after history executions)
 leads_keep Follows kept can old [] new history leads follows = subst (λ r. Follows r history) (sym leads) follows
 leads_keep Follows kept can old (one ∷ executions) new history leads follows =
     leads_keep Follows kept can one.seen.after executions new (with_execution one history) leads.2
-    (subst (λ r. Follows one.seen.after (with_event r one.event one.seen.row.check history)) (sym leads.0)
+    (subst (λ r. Follows one.seen.after (recorded r one.event one.seen.row.check history)) (sym leads.0)
     (kept can old one.event one.seen history leads.1 follows))

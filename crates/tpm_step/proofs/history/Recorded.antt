@@ -9,7 +9,7 @@ use Rattle.tpm_step.specs.step.Step.{Accepted, accepted}
 use Rattle.tpm_step.specs.declared.refused_command.RefusedCommand.{RefusedCommand}
 use Rattle.tpm_step.specs.rows.Acceptance.{IsAcceptance}
 use Rattle.tpm_step.proofs.rows.Acceptance.{accepted_is}
-use Rattle.tpm_step.specs.history.History.{AcceptedCommand, Done, History, PastEvent, command_of, with_command, with_event, with_placed}
+use Rattle.tpm_step.specs.history.History.{AcceptedCommand, Done, History, PastEvent, command_of, recorded, with_command, with_placed}
 
 no_longer : (one : PastEvent) (history : History) → history ≡ one ∷ history → ⊥
 no_longer one history is = omega (arith, ap length is)
@@ -17,7 +17,7 @@ no_longer one history is = omega (arith, ap length is)
 first_is : (a b : AcceptedCommand) (history : History) → Done a ∷ history ≡ Done b ∷ history → a ≡ b
 first_is a b history is = cc
 
-pub recorded_is : (P : AcceptedCommand → Type 0) (r : Record) (event : PlainEvent) (check : ℕ) (history : History) (c : AcceptedCommand) → ((elapsed locality : ℕ) (random : List ℕ) (a : Accepted) → IsAcceptance (ticked r elapsed) locality random a → P (command_of (ticked r elapsed) a)) → with_event r event check history ≡ Done c ∷ history → P c
+pub recorded_is : (P : AcceptedCommand → Type 0) (r : Record) (event : PlainEvent) (check : ℕ) (history : History) (c : AcceptedCommand) → ((elapsed locality : ℕ) (random : List ℕ) (a : Accepted) → IsAcceptance (ticked r elapsed) locality random a → P (command_of (ticked r elapsed) a)) → recorded r event check history ≡ Done c ∷ history → P c
 recorded_is P r (Given buffer locality elapsed random) check history c holds is =
     by (accepted t buffer locality random) check (accepted_is t buffer locality random) is
   where

@@ -10,7 +10,7 @@ use Rattle.tpm_record.specs.Tick.{ticked}
 use Rattle.tpm_record.specs.declared.entity.Means.{Means}
 use Rattle.tpm_record.specs.declared.entity.Means.TheVariants as means
 use Rattle.tpm_step.specs.step.Events.{PlainEvent}
-use Rattle.tpm_step.specs.history.History.{AcceptedCommand, Done, History, with_event}
+use Rattle.tpm_step.specs.history.History.{AcceptedCommand, Done, History, recorded}
 use Rattle.tpm_step.specs.history.View.{entity_view, view_name, view_of}
 use Rattle.tpm_step.specs.history.Views.{TellsOf, view_policy, view_protection, view_takes, view_written}
 use Rattle.tpm_step.proofs.history.Recorded.{recorded_is}
@@ -55,6 +55,6 @@ later_views : (r : Record) (elapsed : ℕ) (handles : List Handle) → map (view
 unfolding view_of entity_at object_of
 later_views r elapsed handles = refl
 
-pub recorded_views : (r : Record) (event : PlainEvent) (check : ℕ) (history : History) (c : AcceptedCommand) → with_event r event check history ≡ Done c ∷ history → c.views ≡ map (view_of r) c.command.handles
+pub recorded_views : (r : Record) (event : PlainEvent) (check : ℕ) (history : History) (c : AcceptedCommand) → recorded r event check history ≡ Done c ∷ history → c.views ≡ map (view_of r) c.command.handles
 recorded_views r event check history c =
     recorded_is (λ (c : AcceptedCommand). c.views ≡ map (view_of r) c.command.handles) r event check history c (λ elapsed locality random a accepts. later_views r elapsed a.command.handles)

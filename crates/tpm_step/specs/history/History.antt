@@ -96,10 +96,10 @@ with_placed None object history = history
 
 -- the history extended by one event, which was executed on this record; `check` is the check in the
 -- event's row
-abbrev pub with_event : Record → PlainEvent → (check : ℕ) → History → History
-with_event r (Given buffer locality elapsed random) check history =
+abbrev pub recorded : Record → PlainEvent → (check : ℕ) → History → History
+recorded r (Given buffer locality elapsed random) check history =
     let t = ticked r elapsed in
     with_command t (accepted t buffer locality random) check history
-with_event r Cycled check history = PowerCycled ∷ history
-with_event r (Placed object) check history =
+recorded r Cycled check history = PowerCycled ∷ history
+recorded r (Placed object) check history =
     with_placed (next_handle r.objects) object history
