@@ -4,7 +4,7 @@ use Rattle.std.specs.List.{AllByRecursion}
 use Rattle.std.proofs.lemmas.List.{append-nil}
 use Rattle.tpm_keeping.specs.Journal.{Journal}
 use Rattle.tpm_keeping.specs.Holder.{Holder, is_always, is_never}
-use Rattle.tpm_keeping.specs.World.{Answer, Content, File, Shared, left, promise, with_answer}
+use Rattle.tpm_keeping.specs.World.{Answer, Content, File, Shared, folder_after_leaving, promise, with_answer}
 use Rattle.tpm_keeping.specs.Kept.{Ascend}
 use Rattle.tpm_keeping.proofs.Invariant.{Each, In, IsContent, IsDone, IsFile, IsForced, LastIf, Safe, Still, promises, sight}
 use Rattle.tpm_keeping.proofs.Folder.{Moves, promised_within, same_grows}
@@ -128,7 +128,7 @@ left_each j s k Show still last = (still.each, still.once)
 left_each j s k Begin still last = (still.each, still.once)
 left_each j s k Cut still last = (still.each, still.once)
 
-done_still : (j : Journal) (s : Shared) (k : Holder) → Still j s → IsDone j (sight s) k → Still j (left j ending.Done s k)
+done_still : (j : Journal) (s : Shared) (k : Holder) → Still j s → IsDone j (sight s) k → Still j (folder_after_leaving j ending.Done s k)
 done_still j s k still d =
     let answered = left_each j s k k.job still d.stays.last in
     let bounds = promise_bounds j k.force k.job k.command s (promised_within j s still) in
@@ -142,12 +142,12 @@ done_still j s k still d =
       safe = left_safe s k k.job (promise j k.force k.job k.command s) bounds.0 (always_all j k.force k.job k.command s) still.safe;
     }
 
-pub left_moves : (e : End) (j : Journal) (s : Shared) (k : Holder) → Still j s → In (Leaving e) j (sight s) k → Moves j s (left j e s k)
+pub left_moves : (e : End) (j : Journal) (s : Shared) (k : Holder) → Still j s → In (Leaving e) j (sight s) k → Moves j s (folder_after_leaving j e s k)
 left_moves ending.Done j s k still d = record {
   still = done_still j s k still d;
-  grows = same_grows j s (left j ending.Done s k) refl (λ none. none) (omega arith);
+  grows = same_grows j s (folder_after_leaving j ending.Done s k) refl (λ none. none) (omega arith);
 }
 left_moves (ending.Failed f) j s k still d = record {
   still = record { told = still.told; file = still.file; older = still.older; alone = still.alone; each = still.each; once = still.once; safe = still.safe };
-  grows = same_grows j s (left j (ending.Failed f) s k) refl (λ none. none) (omega arith);
+  grows = same_grows j s (folder_after_leaving j (ending.Failed f) s k) refl (λ none. none) (omega arith);
 }

@@ -4,8 +4,8 @@ use Rattle.std.proofs.Common.{◌≡◌, ℕ, ◌+◌, ◌==◌, Bool, true, fal
 use Rattle.std.specs.List.{AllByRecursion}
 use Rattle.std.specs.Prelude.{nat_le, ◌||◌}
 use Rattle.tpm_keeping.specs.Journal.{Journal, IsJournal, Spot}
-use Rattle.tpm_keeping.specs.Holder.{Holder, Told, Done, Stands, Gone, Bytes, Failed, Starved, acts, asked_in, begins, begins_of, caught_up, enters, executes, finishes, found, goes, is_always, is_grown, is_never, is_read, knows_file, leaps, looked, newborn, next_in, reads_on, refuses, rests_in, salvages, salvages_of, settles}
-use Rattle.tpm_keeping.specs.World.{Effect, Part, All, Event, Starts, Asks, Does, Fails, Dies, Forks, Drops, Crashes, IsStart, Shared, World, adds, leads, does, does_in, fails_in, freed, happen, happens, left, lost, put_more, starts_in, tells, with_holder}
+use Rattle.tpm_keeping.specs.Holder.{Holder, Told, Done, Stands, Gone, Bytes, Failed, Starved, acts, asked_in, begins, begins_of, caught_up, enters, executes, finishes, found, goes, holder_after_look, is_always, is_grown, is_never, is_read, knows_file, leaps, newborn, next_in, reads_on, refuses, rests_in, salvages, salvages_of, settles}
+use Rattle.tpm_keeping.specs.World.{Effect, Part, All, Event, Starts, Asks, Does, Fails, Dies, Forks, Drops, Crashes, IsStart, Shared, World, adds, leads, does, does_in, fails_in, folder_after_death, world_after, happens, folder_after_leaving, folder_after_loss, put_more, starts_in, tells, with_holder}
 use Rattle.tpm_keeping.specs.Kept.{Pass}
 use Rattle.tpm_keeping.proofs.Invariant.{Fine}
 use Rattle.tpm_keeping.proofs.Promises.{crash_is_front}
@@ -82,7 +82,7 @@ reads_on_fair test j k ok = by (is_read k)
     by true = finishes_fair (found j k.device k.read) test j k ok
     by false = ok
 
-looked_fair : (test : List ℕ → Bool) (j : Journal) (k : Holder) (file size : ℕ) → test k.command ≡ true → IsFair test (looked j k file size)
+looked_fair : (test : List ℕ → Bool) (j : Journal) (k : Holder) (file size : ℕ) → test k.command ≡ true → IsFair test (holder_after_look j k file size)
 looked_fair test j k file size ok = by (knows_file k file size)
   where
     by : (b : Bool) → IsFair test (cond b (reads_on j (record k { size = size; seen = k.place; read = [] }))
@@ -180,7 +180,7 @@ does_passes Naming All test j s k ok h =
 does_passes Settling All test j s k ok h = h
 does_passes phase effect test j s k ok h = h
 
-left_passes : (e : End) (test : List ℕ → Bool) (j : Journal) (s : Shared) (k : Holder) → Passing test s.history → Passing test (left j e s k).history
+left_passes : (e : End) (test : List ℕ → Bool) (j : Journal) (s : Shared) (k : Holder) → Passing test s.history → Passing test (folder_after_leaving j e s k).history
 left_passes ending.Done test j s k h = h
 left_passes (ending.Failed f) test j s k h = h
 
@@ -218,7 +218,7 @@ does_fair Locking test j w p more h is ok =
     let new = with_holder s w.holders p (next_in j Locking (w.holders p) Done) in
     choice test w.shared.locked w new h (with_fair test w s p (next_in j Locking (w.holders p) Done) h h.history ok)
 does_fair (Leaving e) test j w p more h is ok =
-    with_fair test w (left j e w.shared (w.holders p)) p (next_in j (Leaving e) (w.holders p) Done) h (left_passes e test j w.shared (w.holders p) h.history) tt
+    with_fair test w (folder_after_leaving j e w.shared (w.holders p)) p (next_in j (Leaving e) (w.holders p) Done) h (left_passes e test j w.shared (w.holders p) h.history) tt
 does_fair Looking test j w p more h is ok = moves_fair Looking All (tells Looking w.shared (w.holders p) more) test j w p h is ok
 does_fair Reading test j w p more h is ok = moves_fair Reading All (tells Reading w.shared (w.holders p) more) test j w p h is ok
 does_fair Putting test j w p more h is ok = moves_fair Putting All Done test j w p h is ok
@@ -231,7 +231,7 @@ fails_fair : (phase : Phase) (effect : Effect) (told : Told) (test : List ℕ �
     → Fair test phase (w.holders p).command → AllFair test (fails_in j phase w p (w.holders p) effect told)
 fails_fair (Ended e) effect told test j w p h is ok = h
 fails_fair (Leaving e) effect told test j w p h is ok =
-    with_fair test w (left j e w.shared (w.holders p)) p (next_in j (Leaving e) (w.holders p) told) h (left_passes e test j w.shared (w.holders p) h.history) tt
+    with_fair test w (folder_after_leaving j e w.shared (w.holders p)) p (next_in j (Leaving e) (w.holders p) told) h (left_passes e test j w.shared (w.holders p) h.history) tt
 fails_fair Locking effect told test j w p h is ok = moves_fair Locking effect told test j w p h is ok
 fails_fair Looking effect told test j w p h is ok = moves_fair Looking effect told test j w p h is ok
 fails_fair Reading effect told test j w p h is ok = moves_fair Reading effect told test j w p h is ok
@@ -262,11 +262,11 @@ event_fair test j w (Does p more) fine ok h = does_fair (w.holders p).phase test
 event_fair test j w (Fails p effect starved) fine ok h = fails_fair (w.holders p).phase effect (cond starved Starved Failed) test j w p h refl (h.holders p)
 event_fair test j w (Dies p effect) fine ok h =
     let k = w.holders p in
-    with_fair test w (freed (does j k.phase w.shared k effect) p) p (newborn k.force k.limit) h (does_passes k.phase effect test j w.shared k (h.holders p) h.history) tt
+    with_fair test w (folder_after_death (does j k.phase w.shared k effect) p) p (newborn k.force k.limit) h (does_passes k.phase effect test j w.shared k (h.holders p) h.history) tt
 event_fair test j w (Forks p child) fine ok h =
     with_fair test w w.shared child (rests_in (w.holders p).phase (w.holders p)) h h.history (rests_fair (w.holders p).phase test (w.holders p) (h.holders p))
 event_fair test j w Drops fine ok h =
-    choice test w.shared.locked w (record w { shared = lost w.shared }) h (record { history = h.history; holders = h.holders })
+    choice test w.shared.locked w (record w { shared = folder_after_loss w.shared }) h (record { history = h.history; holders = h.holders })
 event_fair test j w (Crashes file content far litter) fine ok h =
     let front = crash_is_front j w.shared file content far litter fine.still in
     record {
@@ -284,14 +284,14 @@ event_passes test (Forks p child) es ok = (tt, ok)
 event_passes test Drops es ok = (tt, ok)
 event_passes test (Crashes file content far litter) es ok = (tt, ok)
 
-run_fair : (test : List ℕ → Bool) (j : Journal) (es : List Event) (w : World) → IsJournal j → Fine j w → Pass test es → AllFair test w → AllFair test (happen j es w)
+run_fair : (test : List ℕ → Bool) (j : Journal) (es : List Event) (w : World) → IsJournal j → Fine j w → Pass test es → AllFair test w → AllFair test (world_after j es w)
 run_fair test j [] w laws fine ok h = h
 run_fair test j (e ∷ es) w laws fine ok h =
     let x = event_passes test e es ok in
     run_fair test j es (happens j w e) laws (step j w e laws fine) x.1 (event_fair test j w e fine x.0 h)
 
 pub only_what_was_asked : (j : Journal) (start : World) (events : List Event) (test : List ℕ → Bool) → IsJournal j → IsStart j start
-    → AllByRecursion (λ c. test c ≡ true) start.shared.history → Pass test events → AllByRecursion (λ c. test c ≡ true) (happen j events start).shared.history
+    → AllByRecursion (λ c. test c ≡ true) start.shared.history → Pass test events → AllByRecursion (λ c. test c ≡ true) (world_after j events start).shared.history
 only_what_was_asked j start events test laws h was ok =
     let fair : AllFair test start = record {
       history = was;

@@ -5,7 +5,7 @@ use Rattle.std.specs.Prelude.{nat_le}
 use Rattle.std.proofs.lemmas.Bool.Decides.{nat_tests}
 use Rattle.std.proofs.lemmas.List.{append-nil}
 use Rattle.tpm_keeping.specs.Journal.{Entered, Journal, IsJournal, Spot, entries, trail, whole_in}
-use Rattle.tpm_keeping.specs.World.{Answer, Content, File, Shared, content_at, crashed, crashed_to, file_at, left_of, litter_of, within}
+use Rattle.tpm_keeping.specs.World.{Answer, Content, File, Shared, content_at, crashed_to, file_at, folder_after_crash, left_of, litter_of, within}
 use Rattle.tpm_keeping.specs.Kept.{Ascend, IsTrue}
 use Rattle.tpm_keeping.proofs.Entries.{whole, front_past, is_cut, is_front, keeps_sure, whole_in_entered}
 use Rattle.tpm_keeping.proofs.Invariant.{Each, IsContent, IsFile, IsText, Safe, Still}
@@ -186,7 +186,7 @@ crash_to j s f content far litter laws still h =
       safe = safe_within s.promised (length (f.before ++ inside)) s.answers (omega (arith, kept, length-append f.before inside)) still.safe;
     }
 
-pub crash_still : (j : Journal) (s : Shared) (file content far : ℕ) (litter : List ℕ) → IsJournal j → Still j s → Still j (crashed j s file content far litter)
+pub crash_still : (j : Journal) (s : Shared) (file content far : ℕ) (litter : List ℕ) → IsJournal j → Still j s → Still j (folder_after_crash j s file content far litter)
 crash_still j s file content far litter laws still =
     crash_to j s (file_at s.file s.older file) content far litter laws still
     (file_there (IsFile j s.origin s.history s.promised s.lasting s.next) s.file s.older file still.file still.older)

@@ -1,7 +1,7 @@
 -- The job `Cut` begins a new journal, in the state after a prefix of the damaged journal.
 use Rattle.std.proofs.Common.{◌≡◌, ℕ, ◌+◌, ◌<◌, ◌||◌, Bool, true, false, cond, List, [], ◌∷◌, ◌++◌, length, take, Some, None, Option, refl, sym, subst, arith}
 use Rattle.tpm_keeping.specs.Journal.{Journal, IsJournal, Spot}
-use Rattle.tpm_keeping.specs.Holder.{Holder, Told, Done, Stands, Gone, Bytes, acts, begins, caught_up, finishes, found, goes, is_always, is_never, is_read, knows_file, looked, newborn, next_in, next_of, reads_on, salvages, salvages_of}
+use Rattle.tpm_keeping.specs.Holder.{Holder, Told, Done, Stands, Gone, Bytes, acts, begins, caught_up, finishes, found, goes, holder_after_look, is_always, is_never, is_read, knows_file, newborn, next_in, next_of, reads_on, salvages, salvages_of}
 use Rattle.tpm_keeping.specs.Kept.{KeepsFront, rank, text_read}
 use Rattle.tpm_keeping.specs.declared.holder.Job.{Job}
 use Rattle.tpm_keeping.specs.declared.holder.Job.TheVariants.{Execute, Renew, Show, Begin, Cut}
@@ -62,7 +62,7 @@ reads_on_cuts j k laws is opens = by (is_read k)
     by true = finished (found j k.device k.read)
     by false = λ e. absurd cc
 
-looked_cuts : (j : Journal) (k : Holder) (file size : ℕ) → IsJournal j → k.job ≡ Cut → Opens k → IsCut j [] (looked j k file size)
+looked_cuts : (j : Journal) (k : Holder) (file size : ℕ) → IsJournal j → k.job ≡ Cut → Opens k → IsCut j [] (holder_after_look j k file size)
 looked_cuts j k file size laws is opens = by (knows_file k file size)
   where
     known : Holder

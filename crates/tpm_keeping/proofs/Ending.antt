@@ -4,8 +4,8 @@ use Rattle.std.proofs.Common.{◌≡◌, ℕ, suc, ◌+◌, ◌-◌, ◌<◌, �
 use Rattle.std.proofs.lemmas.Bool.Decides.{nat_tests}
 use Rattle.std.proofs.lemmas.List.{length-drop, take_all}
 use Rattle.tpm_keeping.specs.Journal.{Journal, IsJournal, Spot}
-use Rattle.tpm_keeping.specs.Holder.{Holder, Done, Gone, Stands, acts, asked_in, begins, begins_of, caught_up, enters, executes, finishes, found, goes, has_named, has_put, has_read, is_always, is_grown, is_never, is_read, knows_file, leaps, looked, next_in, reads_on, refuses, settles}
-use Rattle.tpm_keeping.specs.World.{All, Asks, Does, Event, IsStart, Shared, World, does, does_in, happen, happens, left, tells, with_holder}
+use Rattle.tpm_keeping.specs.Holder.{Holder, Done, Gone, Stands, acts, asked_in, begins, begins_of, caught_up, enters, executes, finishes, found, goes, has_named, has_put, has_read, holder_after_look, is_always, is_grown, is_never, is_read, knows_file, leaps, next_in, reads_on, refuses, settles}
+use Rattle.tpm_keeping.specs.World.{All, Asks, Does, Event, IsStart, Shared, World, does, does_in, folder_after_leaving, happens, tells, with_holder, world_after}
 use Rattle.tpm_keeping.specs.Kept.{HasEnded, begun_or, end_of, end_with, end_without, turns}
 use Rattle.tpm_keeping.proofs.Invariant.{Fine, In, IsReading, KnowsOf, Still, sight, spot_of}
 use Rattle.tpm_keeping.proofs.Reading.{caught}
@@ -92,7 +92,7 @@ has_read_heads e j s k (b ∷ bs) m n laws still r is from some le less =
     reads_on_heads e j s (more_read k (b ∷ bs)) n laws still (more_reading j s k (b ∷ bs) m r from) is (omega (arith, some, le, less))
 
 looked_heads : (e : End) (j : Journal) (s : Shared) (k : Holder) (n : ℕ) → IsJournal j → Still j s → KnowsOf j (sight s) k → 0 < s.file.number
-    → end_with j k.job k.command ≡ e → 4 + length s.file.now.text ≤ n → HeadsFor e j s (looked j k s.file.number (length s.file.now.text)) n
+    → end_with j k.job k.command ≡ e → 4 + length s.file.now.text ≤ n → HeadsFor e j s (holder_after_look j k s.file.number (length s.file.now.text)) n
 looked_heads e j s k n laws still knows named is le = by (knows_file k s.file.number (length s.file.now.text)) refl
   where
     by : (b : Bool) → knows_file k s.file.number (length s.file.now.text) ≡ b → HeadsFor e j s (cond b (reads_on j (again s k)) (reads_on j (anew s k))) n
@@ -147,9 +147,9 @@ does_heads Locking e j w p more n laws fine now is h =
     let new = with_holder s w.holders p (goes Looking (w.holders p)) in
     subst (λ (b : Bool). HeadsIn e j (cond b w new) p n) (sym h.0)
     (put_there e j w s p n (goes Looking (w.holders p)) (h.1, omega (arith, h.2)))
-does_heads (Leaving x) e j w p more n laws fine now is h = put_there e j w (left j x w.shared (w.holders p)) p n (goes (Ended x) (w.holders p)) (h.0, unlocked x)
+does_heads (Leaving x) e j w p more n laws fine now is h = put_there e j w (folder_after_leaving j x w.shared (w.holders p)) p n (goes (Ended x) (w.holders p)) (h.0, unlocked x)
   where
-    unlocked : (x : End) → (left j x w.shared (w.holders p)).locked ≡ false
+    unlocked : (x : End) → (folder_after_leaving j x w.shared (w.holders p)).locked ≡ false
     unlocked ending.Done = refl
     unlocked (ending.Failed f) = refl
 does_heads Looking e j w p more n laws fine now is h =
@@ -195,7 +195,7 @@ ended Naming e j s k h = absurd (omega (arith, h.1))
 ended Settling e j s k h = absurd (omega (arith, h.1))
 ended (Leaving x) e j s k h = absurd (omega (arith, h.1))
 
-all_turns : (mores : List ℕ) (e : End) (j : Journal) (w : World) (p : ℕ) → IsJournal j → Fine j w → HeadsIn e j w p (length mores) → HasEnded (happen j (turns p mores) w) p e
+all_turns : (mores : List ℕ) (e : End) (j : Journal) (w : World) (p : ℕ) → IsJournal j → Fine j w → HeadsIn e j w p (length mores) → HasEnded (world_after j (turns p mores) w) p e
 all_turns [] e j w p laws fine h = ended (w.holders p).phase e j w.shared (w.holders p) h
 all_turns (more ∷ mores) e j w p laws fine h =
     all_turns mores e j (happens j w (Does p more)) p laws (step j w (Does p more) laws fine)
@@ -215,11 +215,11 @@ asked_heads Settling x j s k job command n is free le = absurd cc
 asked_heads (Leaving y) x j s k job command n is free le = absurd cc
 
 pub calls_end : (j : Journal) (start : World) (events : List Event) (p : ℕ) (e : End) (job : Job) (command mores : List ℕ) → IsJournal j → IsStart j start
-    → ((happen j events start).holders p).phase ≡ Ended e → (happen j events start).shared.locked ≡ false
-    → 6 + length (happen j events start).shared.file.now.text ≤ length mores
-    → HasEnded (happen j (Asks p job command ∷ turns p mores) (happen j events start)) p (end_of j (happen j events start).shared.file job command)
+    → ((world_after j events start).holders p).phase ≡ Ended e → (world_after j events start).shared.locked ≡ false
+    → 6 + length (world_after j events start).shared.file.now.text ≤ length mores
+    → HasEnded (world_after j (Asks p job command ∷ turns p mores) (world_after j events start)) p (end_of j (world_after j events start).shared.file job command)
 calls_end j start events p e job command mores laws h rests free le =
-    let w = happen j events start in
+    let w = world_after j events start in
     let k = w.holders p in
     let fine = run_is_fine j start events laws h in
     let begun = happens j w (Asks p job command) in

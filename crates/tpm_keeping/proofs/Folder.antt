@@ -6,7 +6,7 @@ use Rattle.std.proofs.lemmas.Bool.Decides.{nat_tests}
 use Rattle.std.proofs.lemmas.List.{append-nil, drop-drop, drop_all, drop_at, take_all, take_at}
 use Rattle.tpm_keeping.specs.Journal.{Entered, Journal, IsJournal, Spot, entries, run, started, trail}
 use Rattle.tpm_keeping.specs.Holder.{Holder, is_always, sure}
-use Rattle.tpm_keeping.specs.World.{Answer, Content, File, Shared, adds, leads, written, put_more, put_on, put, forced, named_from, named, state_in}
+use Rattle.tpm_keeping.specs.World.{Answer, Content, File, Shared, adds, leads, written_bytes, put_more, put_on, folder_after_put, forced_file, named_from, folder_after_naming, state_in}
 use Rattle.tpm_keeping.proofs.Entries.{entered_both, run_lives, trail_lives, trail_state, whole, run_both, whole_both, whole_length}
 use Rattle.tpm_keeping.proofs.Invariant.{spot_of, Calm, begun, body, state_of, IsText, IsContent, IsFile, Each, Still, sight, IsAt, Knows, Puts, Follows, Founds, Makes}
 use Rattle.tpm_keeping.specs.declared.holder.Force.{Force}
@@ -91,7 +91,7 @@ again (x ∷ same) rest (suc n) =
     ∙ (ap (λ (y : List ℕ). x ∷ y) (again same rest n) ∙ ap (λ (m : ℕ). x ∷ (same ++ take m rest)) less)
 
 pub over : (front same rest : List ℕ) (n : ℕ)
-    → written (front ++ same) (length front) (take n (same ++ rest)) ≡ (front ++ same) ++ take (n - length same) rest
+    → written_bytes (front ++ same) (length front) (take n (same ++ rest)) ≡ (front ++ same) ++ take (n - length same) rest
 over front same rest n =
     let bytes = take n (same ++ rest) in
     let before : take (length front) (front ++ same) ≡ front = take_at front same (length front) refl in
@@ -150,9 +150,9 @@ put_text j s k n t puts =
     let cut : take k.place s.file.now.text ≡ a.front ++ k.unsure =
     ap (take k.place) t.is ∙ (take_at b t.tail k.place (sym a.reached) ∙ a.text) in
     let at : sure k ≡ length a.front = omega (arith, a.reached, ap length a.text, length-append a.front k.unsure) in
-    ap (λ (x : List ℕ). written x (sure k) (take n k.out)) cut
-    ∙ (ap (λ (m : ℕ). written (a.front ++ k.unsure) m (take n k.out)) at
-    ∙ (ap (λ (x : List ℕ). written (a.front ++ k.unsure) (length a.front) (take n x)) puts.out
+    ap (λ (x : List ℕ). written_bytes x (sure k) (take n k.out)) cut
+    ∙ (ap (λ (m : ℕ). written_bytes (a.front ++ k.unsure) m (take n k.out)) at
+    ∙ (ap (λ (x : List ℕ). written_bytes (a.front ++ k.unsure) (length a.front) (take n x)) puts.out
     ∙ (over a.front k.unsure rest n
     ∙ ap (λ (x : List ℕ). x ++ take (n - length k.unsure) rest) (sym a.text))))
 
@@ -265,7 +265,7 @@ forced_grows j s t more number head start commands le older next = record {
 
 -- ---- writing to the file
 
-put_still : (j : Journal) (s : Shared) (k : Holder) (n : ℕ) → IsJournal j → Still j s → Puts j s.file k.job k → Still j (put j s k n)
+put_still : (j : Journal) (s : Shared) (k : Holder) (n : ℕ) → IsJournal j → Still j s → Puts j s.file k.job k → Still j (folder_after_put j s k n)
 put_still j s k n laws still puts =
     let f = s.file in
     let h = still.file in
@@ -310,10 +310,10 @@ put_still j s k n laws still puts =
     more_entered true = adds_entered j k.job k.command
     more_entered false = tt
 
-pub put_moves : (j : Journal) (s : Shared) (k : Holder) (n : ℕ) → IsJournal j → Still j s → Puts j s.file k.job k → Moves j s (put j s k n)
+pub put_moves : (j : Journal) (s : Shared) (k : Holder) (n : ℕ) → IsJournal j → Still j s → Puts j s.file k.job k → Moves j s (folder_after_put j s k n)
 put_moves j s k n laws still puts = record {
   still = put_still j s k n laws still puts;
-  grows = forced_grows j s (put j s k n) (put_more j k n) refl refl refl refl (omega (arith, puts.all.reached)) (λ none. none) (omega arith);
+  grows = forced_grows j s (folder_after_put j s k n) (put_more j k n) refl refl refl refl (omega (arith, puts.all.reached)) (λ none. none) (omega arith);
 }
 
 -- ---- a sync, and dropped bytes
@@ -365,7 +365,7 @@ drop_moves j s still = disk_moves j s s.file.forced s.file.past true still (omeg
 pub body_in : (j : Journal) (head : List ℕ) (start : Spot) (c : Content) → IsText j head start c → length (whole j head start c.commands) ≤ length c.text
 body_in j head start c t = omega (arith, ap length t.is, length-append (whole j head start c.commands) t.tail)
 
-pub force_moves : (j : Journal) (s : Shared) (b : Bool) → s.file.is_dropped ≡ b → Still j s → 0 < s.file.number → Moves j s (record s { file = forced s.file })
+pub force_moves : (j : Journal) (s : Shared) (b : Bool) → s.file.is_dropped ≡ b → Still j s → 0 < s.file.number → Moves j s (record s { file = forced_file s.file })
 force_moves j s b is still named =
     let far = body_in j s.file.head s.file.start s.file.now (still.file.now.text named) in
     subst (λ (x : Bool). Moves j s (record s { file = record s.file { past = cond x s.file.past []; forced = cond x s.file.forced (length s.file.now.text) } })) (sym is)
@@ -532,7 +532,7 @@ founds_still j s k laws still h fresh enough =
     }
 
 pub named_moves : (j : Journal) (s : Shared) (k : Holder) → IsJournal j → Still j s → Makes j (sight s) k
-    → s.fresh ≡ k.out → length k.out ≤ s.fresh_forced → Moves j s (named j s k)
+    → s.fresh ≡ k.out → length k.out ≤ s.fresh_forced → Moves j s (folder_after_naming j s k)
 named_moves j s k laws still (inl h) fresh enough =
     let is : (s.file.number == 0) ≡ false = let named' = h.named in grind (arith, nat_tests) in
     subst (λ (b : Bool). Moves j s (named_from j (cond b (state_in k.device) s.origin) s k)) (sym is)

@@ -2,7 +2,7 @@
 use Rattle.std.proofs.Common.{◌≡◌, ◌⊎◌, ℕ, zero, suc, ◌+◌, ◌<◌, true, List, [], ◌∷◌, ◌++◌, length, take, Option, Some, None, refl, sym, ap, ◌∙◌, arith, inl, inr, append_assoc, length-append}
 use Rattle.std.proofs.lemmas.List.{append-nil}
 use Rattle.tpm_keeping.specs.Journal.{IsJournal, Spot, entries, stepped, trail}
-use Rattle.tpm_keeping.specs.Lines.{headed_by, is_zeros, line, line_at, lines, marked, opened_by, spot_at, spot_if_all, unended, walk, with_first}
+use Rattle.tpm_keeping.specs.Lines.{headed_by, is_unended, is_zeros, line, line_at, lines, marked_bytes, opened_by, spot_at, spot_if_all, walk, with_first}
 
 line_again : (s rest : List ℕ) → line_at (line s ++ rest) ≡ Some (s, rest)
 line_again [] rest = refl
@@ -13,7 +13,7 @@ line_size [] = refl
 line_size (b ∷ c) = ap suc (line_size c)
 
 walk_line : (c state part rest : List ℕ) (taken far : ℕ)
-    → walk state part taken far (line c ++ rest) ≡ walk (state ++ (part ++ marked c)) [] (far + length (line c)) (far + length (line c)) rest
+    → walk state part taken far (line c ++ rest) ≡ walk (state ++ (part ++ marked_bytes c)) [] (far + length (line c)) (far + length (line c)) rest
 walk_line [] state part rest taken far =
     let one : suc far ≡ far + 1 = omega arith in
     ap (λ (x : List ℕ). walk (state ++ x) [] (suc far) (suc far) rest) (sym (append-nil part))
@@ -21,16 +21,16 @@ walk_line [] state part rest taken far =
 walk_line (b ∷ c) state part rest taken far =
     let more : suc far + length (line c) ≡ far + length (line (b ∷ c)) = omega (arith, line_size c, line_size (b ∷ c)) in
     walk_line c state (part ++ suc (suc b) ∷ []) rest taken (suc far)
-    ∙ (ap (λ (x : List ℕ). walk (state ++ x) [] (suc far + length (line c)) (suc far + length (line c)) rest) (append_assoc part (suc (suc b) ∷ []) (marked c))
-    ∙ ap (λ (n : ℕ). walk (state ++ (part ++ marked (b ∷ c))) [] n n rest) more)
+    ∙ (ap (λ (x : List ℕ). walk (state ++ x) [] (suc far + length (line c)) (suc far + length (line c)) rest) (append_assoc part (suc (suc b) ∷ []) (marked_bytes c))
+    ∙ ap (λ (n : ℕ). walk (state ++ (part ++ marked_bytes (b ∷ c))) [] n n rest) more)
 
-walk_torn : (tail state part : List ℕ) (taken far : ℕ) → unended tail ≡ true → walk state part taken far tail ≡ (state, taken)
+walk_torn : (tail state part : List ℕ) (taken far : ℕ) → is_unended tail ≡ true → walk state part taken far tail ≡ (state, taken)
 walk_torn [] state part taken far torn = refl
 walk_torn (zero ∷ tail) state part taken far torn = walk_torn tail state (part ++ zero ∷ []) taken (suc far) torn
 walk_torn (suc zero ∷ tail) state part taken far torn = absurd cc
 walk_torn (suc (suc b) ∷ tail) state part taken far torn = walk_torn tail state (part ++ suc (suc b) ∷ []) taken (suc far) torn
 
-walk_all : (cs : List (List ℕ)) (p : Spot) (tail : List ℕ) (far : ℕ) → unended tail ≡ true
+walk_all : (cs : List (List ℕ)) (p : Spot) (tail : List ℕ) (far : ℕ) → is_unended tail ≡ true
     → walk p.state [] far far (entries lines p cs ++ tail) ≡ ((trail lines p cs).state, far + length (entries lines p cs))
 walk_all [] p tail far torn =
     let same : far ≡ far + 0 = omega arith in
@@ -48,17 +48,17 @@ same_chain : (p : Spot) (cs : List (List ℕ)) → spot_at p.chain (trail lines 
 same_chain p [] = refl
 same_chain p (c ∷ cs) = same_chain (stepped lines p c) cs
 
-front_unended : (c : List ℕ) (k : ℕ) → k < length (line c) → unended (take k (line c)) ≡ true
+front_unended : (c : List ℕ) (k : ℕ) → k < length (line c) → is_unended (take k (line c)) ≡ true
 front_unended c zero le = refl
 front_unended [] (suc k) le = absurd (omega arith)
 front_unended (b ∷ c) (suc k) le = front_unended c k (omega (arith, le, line_size c, line_size (b ∷ c)))
 
-zeros_unended : (litter : List ℕ) → is_zeros litter ≡ true → unended litter ≡ true
+zeros_unended : (litter : List ℕ) → is_zeros litter ≡ true → is_unended litter ≡ true
 zeros_unended [] is = refl
 zeros_unended (zero ∷ litter) is = zeros_unended litter is
 zeros_unended (suc b ∷ litter) is = absurd cc
 
-cut_unended : (tail : List ℕ) (k : ℕ) (litter : List ℕ) → unended tail ≡ true → is_zeros litter ≡ true → unended (take k tail ++ litter) ≡ true
+cut_unended : (tail : List ℕ) (k : ℕ) (litter : List ℕ) → is_unended tail ≡ true → is_zeros litter ≡ true → is_unended (take k tail ++ litter) ≡ true
 cut_unended tail zero litter torn is = zeros_unended litter is
 cut_unended [] (suc k) litter torn is = zeros_unended litter is
 cut_unended (zero ∷ tail) (suc k) litter torn is = cut_unended tail k litter torn is

@@ -7,8 +7,8 @@ use Rattle.std.proofs.lemmas.Bool.Decides.{nat_tests}
 use Rattle.std.proofs.lemmas.List.{append-nil, drop-drop, take-append-drop}
 use Rattle.std.proofs.Math.Seq.{take-append-add}
 use Rattle.tpm_keeping.specs.Journal.{Journal, IsJournal, Spot, entries, run, started, trail}
-use Rattle.tpm_keeping.specs.Holder.{Holder, Stands, Gone, begins, begins_of, dropped, has_named, has_put, has_read, is_always, is_never, knows_file, looked, newborn, next_in, reads_on, settles, sure}
-use Rattle.tpm_keeping.specs.World.{Answer, Effect, Part, All, File, Shared, World, adds, leads, does, forced, named, named_from, put, put_dropped, put_more, state_in, tells, with_holder}
+use Rattle.tpm_keeping.specs.Holder.{Holder, Stands, Gone, begins, begins_of, has_named, has_put, has_read, holder_after_fault, holder_after_look, is_always, is_never, knows_file, newborn, next_in, reads_on, settles, sure}
+use Rattle.tpm_keeping.specs.World.{Answer, Effect, Part, All, File, Shared, World, adds, leads, does, forced_file, folder_after_naming, named_from, folder_after_put, put_dropped, put_more, state_in, tells, with_holder}
 use Rattle.tpm_keeping.proofs.Entries.{trail_both, whole, run_both, whole_both}
 use Rattle.tpm_keeping.proofs.Invariant.{spot_of, Calm, Each, Fine, Fits, Follows, Founds, Gives, HasAll, In, IsLast, IsReading, Knows, KnowsOf, LastIf, Makes, Puts, Sight, StaysOf, Still, begun, body, holds, promises, sight, state_of}
 use Rattle.tpm_keeping.proofs.Folder.{Grows, Moves, body_in, drop_moves, force_moves, fresh_moves, named_moves, put_moves, same_moves, settle_moves, state_is, unnamed_history}
@@ -115,7 +115,7 @@ pub newborn_fits : (j : Journal) (s : Shared) (p : ℕ) (force : Force) (limit :
 newborn_fits j s p force limit next =
     record { lock = λ off. absurd cc; now = knows_nothing j s.file force; below = next; calm = λ e. absurd cc }
 
-pub dropped_fits : (j : Journal) (s : Shared) (p : ℕ) (k : Holder) (f : Fault) → 0 < s.next → (s.locked ≡ true) × (s.locker ≡ p) → Fits j s p (dropped f k)
+pub dropped_fits : (j : Journal) (s : Shared) (p : ℕ) (k : Holder) (f : Fault) → 0 < s.next → (s.locked ≡ true) × (s.locker ≡ p) → Fits j s p (holder_after_fault f k)
 dropped_fits j s p k f next lock =
     record { lock = λ _. lock; now = knows_nothing j s.file k.force; below = next; calm = λ e. absurd cc }
 
@@ -164,7 +164,7 @@ anew_reading j s k named = record {
 }
 
 looked_fits : (j : Journal) (s : Shared) (p : ℕ) (k : Holder) → IsJournal j → Still j s → (s.locked ≡ true) × (s.locker ≡ p) → k.file < s.next
-    → Calm (sight s) k.settled k.file → KnowsOf j (sight s) k → 0 < s.file.number → Fits j s p (looked j k s.file.number (length s.file.now.text))
+    → Calm (sight s) k.settled k.file → KnowsOf j (sight s) k → 0 < s.file.number → Fits j s p (holder_after_look j k s.file.number (length s.file.now.text))
 looked_fits j s p k laws still lock below calm knows named = by (knows_file k s.file.number (length s.file.now.text)) refl
   where
     by : (b : Bool) → knows_file k s.file.number (length s.file.now.text) ≡ b → Fits j s p (cond b (reads_on j (again s k)) (reads_on j (anew s k)))
@@ -298,13 +298,13 @@ undropped s k le word =
     rw fits refl
 
 pub put_fits : (j : Journal) (s : Shared) (p : ℕ) (k : Holder) → Still j s → (s.locked ≡ true) × (s.locker ≡ p) → k.file < s.next → Calm (sight s) k.settled k.file
-    → Puts j s.file k.job k → Fits j (put j s k (length k.out)) p (has_put k)
+    → Puts j s.file k.job k → Fits j (folder_after_put j s k (length k.out)) p (has_put k)
 put_fits j s p k still lock below calm puts = by (is_always k.force) refl
   where
-    by : (b : Bool) → is_always k.force ≡ b → Fits j (put j s k (length k.out)) p
+    by : (b : Bool) → is_always k.force ≡ b → Fits j (folder_after_put j s k (length k.out)) p
         (record k { phase = cond b Forcing (settles k); place = sure k + length k.out; unsure = cond b k.out []; out = [] })
     by true word =
-        let t = put j s k (length k.out) in
+        let t = folder_after_put j s k (length k.out) in
         let new = adds j k.job k.command in
         let a = puts.all in
         let self : nat_le (length k.out) (length k.out) ≡ true = grind (arith, nat_tests) in
@@ -331,7 +331,7 @@ put_fits j s p k still lock below calm puts = by (is_always k.force) refl
           calm = calm;
         }
     by false word =
-        let t = put j s k (length k.out) in
+        let t = folder_after_put j s k (length k.out) in
         let new = adds j k.job k.command in
         let self : nat_le (length k.out) (length k.out) ≡ true = grind (arith, nat_tests) in
         let full : put_more j k (length k.out) ≡ new = rw self refl in
@@ -351,9 +351,9 @@ put_fits j s p k still lock below calm puts = by (is_always k.force) refl
 -- ---- syncing the file
 
 pub forced_fits : (j : Journal) (s : Shared) (p : ℕ) (k : Holder) → Still j s → (s.locked ≡ true) × (s.locker ≡ p) → k.file < s.next → Calm (sight s) k.settled k.file
-    → StaysOf j (sight s) k → s.file.is_dropped ≡ false → Fits j (record s { file = forced s.file }) p (record k { phase = settles k; unsure = [] })
+    → StaysOf j (sight s) k → s.file.is_dropped ≡ false → Fits j (record s { file = forced_file s.file }) p (record k { phase = settles k; unsure = [] })
 forced_fits j s p k still lock below calm stays none =
-    let t = record s { file = forced s.file } in
+    let t = record s { file = forced_file s.file } in
     let all = body j s.file in
     let far : length all ≤ length s.file.now.text = body_in j s.file.head s.file.start s.file.now (still.file.now.text stays.all.named) in
     let on : cond s.file.is_dropped s.file.forced (length s.file.now.text) ≡ length s.file.now.text = rw none refl in
@@ -461,7 +461,7 @@ founds_new j s k still h =
     }
 
 pub named_fits : (j : Journal) (s : Shared) (p : ℕ) (k : Holder) → Still j s → (s.locked ≡ true) × (s.locker ≡ p) → k.file < s.next → Makes j (sight s) k → length k.out ≤ s.fresh_forced
-    → Fits j (named j s k) p (has_named k s.next)
+    → Fits j (folder_after_naming j s k) p (has_named k s.next)
 named_fits j s p k still lock below (inl h) enough =
     let is : (s.file.number == 0) ≡ false = let named' = h.named in grind (arith, nat_tests) in
     subst (λ (b : Bool). Fits j (named_from j (cond b (state_in k.device) s.origin) s k) p (has_named k s.next)) (sym is)

@@ -3,7 +3,7 @@ use Rattle.std.proofs.Common.{◌≡◌, ℕ, ◌-◌, ◌≤◌, ◌==◌, Bool
 use Rattle.std.proofs.lemmas.List.{append-nil, take-append-le}
 use Rattle.tpm_keeping.specs.Journal.{Journal, IsJournal, run, whole_in}
 use Rattle.tpm_keeping.specs.Holder.{Holder, Told, Starved, Failed}
-use Rattle.tpm_keeping.specs.World.{Effect, File, Part, All, Event, Starts, Asks, Does, Fails, Dies, Forks, Drops, Crashes, IsStart, Shared, World, content_at, crashed, crashed_to, does, does_in, fails_in, file_at, happen, happens, left}
+use Rattle.tpm_keeping.specs.World.{Effect, File, Part, All, Event, Starts, Asks, Does, Fails, Dies, Forks, Drops, Crashes, IsStart, Shared, World, content_at, crashed_to, does, does_in, fails_in, file_at, folder_after_crash, folder_after_leaving, happens, world_after}
 use Rattle.tpm_keeping.specs.Kept.{KeepsPromises}
 use Rattle.tpm_keeping.proofs.Entries.{IsFront, is_front}
 use Rattle.tpm_keeping.proofs.Invariant.{Fine, In, IsContent, IsDone, IsFile, LastIf, Still, sight}
@@ -39,9 +39,9 @@ does_longer Naming All j s k = record { more = _; is = append_assoc s.history _ 
 does_longer Settling All j s k = same_longer s (does j Settling s k All) refl (omega arith)
 does_longer phase effect j s k = same_longer s s refl (omega arith)
 
-left_longer : (e : End) (j : Journal) (s : Shared) (k : Holder) → s.promised ≤ length s.history → Longer s (left j e s k)
-left_longer ending.Done j s k le = same_longer s (left j ending.Done s k) refl (promise_bounds j k.force k.job k.command s le).0
-left_longer (ending.Failed f) j s k le = same_longer s (left j (ending.Failed f) s k) refl (omega arith)
+left_longer : (e : End) (j : Journal) (s : Shared) (k : Holder) → s.promised ≤ length s.history → Longer s (folder_after_leaving j e s k)
+left_longer ending.Done j s k le = same_longer s (folder_after_leaving j ending.Done s k) refl (promise_bounds j k.force k.job k.command s le).0
+left_longer (ending.Failed f) j s k le = same_longer s (folder_after_leaving j (ending.Failed f) s k) refl (omega arith)
 
 locks_longer : (w new : World) (b : Bool) → Longer w.shared new.shared → Longer w.shared (cond b w new).shared
 locks_longer w new true h = same_longer w.shared w.shared refl (omega arith)
@@ -97,14 +97,14 @@ crash_front j s f content far litter h =
           ∙ sym (append_assoc f.before inside (front.more ++ is.more))));
     }
 
-pub crash_is_front : (j : Journal) (s : Shared) (file content far : ℕ) (litter : List ℕ) → Still j s → IsFront (crashed j s file content far litter).history s.history
+pub crash_is_front : (j : Journal) (s : Shared) (file content far : ℕ) (litter : List ℕ) → Still j s → IsFront (folder_after_crash j s file content far litter).history s.history
 crash_is_front j s file content far litter still =
     crash_front j s (file_at s.file s.older file) content far litter
     (file_there (IsFile j s.origin s.history s.promised s.lasting s.next) s.file s.older file still.file still.older)
 
-crash_keeps : (j : Journal) (s : Shared) (file content far : ℕ) (litter : List ℕ) → IsJournal j → Still j s → KeepsPromises s (crashed j s file content far litter)
+crash_keeps : (j : Journal) (s : Shared) (file content far : ℕ) (litter : List ℕ) → IsJournal j → Still j s → KeepsPromises s (folder_after_crash j s file content far litter)
 crash_keeps j s file content far litter laws still =
-    let t = crashed j s file content far litter in
+    let t = folder_after_crash j s file content far litter in
     let front = crash_is_front j s file content far litter still in
     let le : s.promised ≤ length t.history = promised_within j t (crash_still j s file content far litter laws still) in
     (omega arith, sym (ap (take s.promised) front.is ∙ take-append-le s.promised t.history front.more le))
@@ -136,16 +136,16 @@ event_keeps j w Drops laws h = by w.shared.locked
 event_keeps j w (Crashes file content far litter) laws h = crash_keeps j w.shared file content far litter laws h.still
 
 pub promises_are_kept : (j : Journal) (start : World) (events : List Event) (e : Event) → IsJournal j → IsStart j start
-    → KeepsPromises (happen j events start).shared (happens j (happen j events start) e).shared
-promises_are_kept j start events e laws h = event_keeps j (happen j events start) e laws (run_is_fine j start events laws h)
+    → KeepsPromises (world_after j events start).shared (happens j (world_after j events start) e).shared
+promises_are_kept j start events e laws h = event_keeps j (world_after j events start) e laws (run_is_fine j start events laws h)
 
 -- ---- a snapshot
 
 pub snapshots_are_true : (j : Journal) (start : World) (events : List Event) (p : ℕ) → IsJournal j → IsStart j start
-    → ((happen j events start).holders p).phase ≡ Leaving ending.Done → ((happen j events start).holders p).job ≡ Show
-    → ((happen j events start).holders p).response ≡ j.head (run j (happen j events start).shared.origin (happen j events start).shared.history)
+    → ((world_after j events start).holders p).phase ≡ Leaving ending.Done → ((world_after j events start).holders p).job ≡ Show
+    → ((world_after j events start).holders p).response ≡ j.head (run j (world_after j events start).shared.origin (world_after j events start).shared.history)
 snapshots_are_true j start events p laws h phase job =
-    let w = happen j events start in
+    let w = world_after j events start in
     let s = w.shared in
     let k = w.holders p in
     let fine = run_is_fine j start events laws h in

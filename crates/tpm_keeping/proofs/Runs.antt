@@ -2,10 +2,10 @@
 use Rattle.std.proofs.Common.{◌≡◌, ℕ, suc, ◌+◌, ◌<◌, ◌==◌, Bool, true, false, cond, List, [], ◌∷◌, ◌++◌, length, take, drop, refl, sym, ap, ◌∙◌, subst, arith, append_assoc, length-append}
 use Rattle.std.specs.List.{AllByRecursion}
 use Rattle.tpm_keeping.specs.Journal.{Entered, Journal, IsJournal, entries, run}
-use Rattle.tpm_keeping.specs.Holder.{Holder, Told, Done, Bytes, Failed, Starved, asked, asked_in, dropped, fault_told, forgets, goes, newborn, next_in, rests, rests_in}
+use Rattle.tpm_keeping.specs.Holder.{Holder, Told, Done, Bytes, Failed, Starved, asked_in, fault_told, forgets, goes, holder_after_ask, holder_after_fault, newborn, next_in, rests, rests_in}
 use Rattle.std.proofs.lemmas.Bool.Decides.{nat_tests}
 use Rattle.std.proofs.lemmas.List.{append-nil}
-use Rattle.tpm_keeping.specs.World.{Effect, All, Event, Starts, Asks, Does, Fails, Dies, Forks, Drops, Crashes, IsStart, Shared, World, does, does_in, fails_in, freed, happen, happens, left, starts_in, tells, with_holder}
+use Rattle.tpm_keeping.specs.World.{Effect, All, Event, Starts, Asks, Does, Fails, Dies, Forks, Drops, Crashes, IsStart, Shared, World, does, does_in, fails_in, folder_after_death, folder_after_leaving, happens, starts_in, tells, with_holder, world_after}
 use Rattle.tpm_keeping.specs.Kept.{Ascend, IsKept}
 use Rattle.tpm_keeping.proofs.Invariant.{spot_of, Each, Fine, IsFile, Safe, Fits, In, IsContent, KnowsOf, StaysOf, Still, holds, sight}
 use Rattle.tpm_keeping.proofs.Folder.{drop_moves, promised_within, same_grows, same_moves, state_is}
@@ -40,16 +40,16 @@ knows_stays : (j : Journal) (s : Shared) (k : Holder) → StaysOf j (sight s) k 
 knows_stays j s k h = has_all_knows j s k h.all h.has
 
 leaves_fine : (e : End) (j : Journal) (w : World) (p : ℕ) → Fine j w → holds (w.holders p).phase ≡ true → In (Leaving e) j (sight w.shared) (w.holders p)
-    → Fine j (with_holder (left j e w.shared (w.holders p)) w.holders p (goes (Ended e) (w.holders p)))
+    → Fine j (with_holder (folder_after_leaving j e w.shared (w.holders p)) w.holders p (goes (Ended e) (w.holders p)))
 leaves_fine ending.Done j w p h mine now =
     let s = w.shared in
     let k = w.holders p in
-    goes_fine j w (left j ending.Done s k) p (goes (Ended ending.Done) k) h mine (left_moves ending.Done j s k h.still now)
+    goes_fine j w (folder_after_leaving j ending.Done s k) p (goes (Ended ending.Done) k) h mine (left_moves ending.Done j s k h.still now)
     (record { lock = λ off. absurd cc; now = knows_stays j s k now.stays; below = (h.holders p).below; calm = (h.holders p).calm })
 leaves_fine (ending.Failed f) j w p h mine now =
     let s = w.shared in
     let k = w.holders p in
-    goes_fine j w (left j (ending.Failed f) s k) p (goes (Ended (ending.Failed f)) k) h mine (left_moves (ending.Failed f) j s k h.still now)
+    goes_fine j w (folder_after_leaving j (ending.Failed f) s k) p (goes (Ended (ending.Failed f)) k) h mine (left_moves (ending.Failed f) j s k h.still now)
     (record { lock = λ off. absurd cc; now = now; below = (h.holders p).below; calm = (h.holders p).calm })
 
 -- ---- a task is done
@@ -110,12 +110,12 @@ lock_after j phase effect s k p lock = let same = same_lock j phase effect s k i
 
 drops_fine : (phase : Phase) (effect : Effect) (j : Journal) (w : World) (p : ℕ) (told : Told) → IsJournal j → (h : Fine j w) → (w.holders p).phase ≡ phase → holds phase ≡ true
     → In phase j (sight w.shared) (w.holders p) → (w.shared.locked ≡ true) × (w.shared.locker ≡ p)
-    → Fine j (with_holder (does j phase w.shared (w.holders p) effect) w.holders p (dropped (fault_told phase told) (w.holders p)))
+    → Fine j (with_holder (does j phase w.shared (w.holders p) effect) w.holders p (holder_after_fault (fault_told phase told) (w.holders p)))
 drops_fine phase effect j w p told laws h is mine now lock =
     let s = w.shared in
     let k = w.holders p in
     let moves = does_moves phase effect j s k laws h.still now in
-    goes_fine j w (does j phase s k effect) p (dropped (fault_told phase told) k) h (ap holds is ∙ mine) moves
+    goes_fine j w (does j phase s k effect) p (holder_after_fault (fault_told phase told) k) h (ap holds is ∙ mine) moves
     (dropped_fits j (does j phase s k effect) p k (fault_told phase told) (omega (arith, (h.holders p).below, moves.grows.next)) (lock_after j phase effect s k p lock))
 
 fails_fine : (phase : Phase) (effect : Effect) (starved : Bool) (j : Journal) (w : World) (p : ℕ) → IsJournal j → (h : Fine j w) → (w.holders p).phase ≡ phase
@@ -144,12 +144,12 @@ fails_fine Settling effect false j w p laws h is now lock = drops_fine Settling 
 
 -- ---- a process dies
 
-freed_still : (j : Journal) (s : Shared) (p : ℕ) → Still j s → Still j (freed s p)
+freed_still : (j : Journal) (s : Shared) (p : ℕ) → Still j s → Still j (folder_after_death s p)
 freed_still j s p still =
     record { told = still.told; file = still.file; older = still.older; alone = still.alone; each = still.each; once = still.once; safe = still.safe }
 
 -- if another process dies, a process keeps its lock
-freed_fits : (j : Journal) (s : Shared) (p q : ℕ) (k : Holder) → (q == p) ≡ false → Fits j s q k → Fits j (freed s p) q k
+freed_fits : (j : Journal) (s : Shared) (p q : ℕ) (k : Holder) → (q == p) ≡ false → Fits j s q k → Fits j (folder_after_death s p) q k
 freed_fits j s p q k apart h = record {
   lock = λ theirs. (
       let l = h.lock theirs in
@@ -163,28 +163,28 @@ freed_fits j s p q k apart h = record {
 
 dies_holding : (phase : Phase) (effect : Effect) (j : Journal) (w : World) (p : ℕ) → IsJournal j → (h : Fine j w) → (w.holders p).phase ≡ phase → holds phase ≡ true
     → In phase j (sight w.shared) (w.holders p)
-    → Fine j (with_holder (freed (does j phase w.shared (w.holders p) effect) p) w.holders p (newborn (w.holders p).force (w.holders p).limit))
+    → Fine j (with_holder (folder_after_death (does j phase w.shared (w.holders p) effect) p) w.holders p (newborn (w.holders p).force (w.holders p).limit))
 dies_holding phase effect j w p laws h is mine now =
     let s = w.shared in
     let k = w.holders p in
     let t = does j phase s k effect in
     let moves = does_moves phase effect j s k laws h.still now in
-    update j w (freed t p) p (newborn k.force k.limit) (freed_still j t p moves.still)
+    update j w (folder_after_death t p) p (newborn k.force k.limit) (freed_still j t p moves.still)
     (λ q apart. freed_fits j t p q (w.holders q) apart (away_fits j s t q (w.holders q) moves.grows (h.holders q) (alone j w p h (ap holds is ∙ mine) q apart)))
-    (newborn_fits j (freed t p) p k.force k.limit (omega (arith, (h.holders p).below, moves.grows.next)))
+    (newborn_fits j (folder_after_death t p) p k.force k.limit (omega (arith, (h.holders p).below, moves.grows.next)))
 
 dies_beside : (j : Journal) (w : World) (p : ℕ) → (h : Fine j w)
-    → Fine j (with_holder (freed w.shared p) w.holders p (newborn (w.holders p).force (w.holders p).limit))
+    → Fine j (with_holder (folder_after_death w.shared p) w.holders p (newborn (w.holders p).force (w.holders p).limit))
 dies_beside j w p h =
     let s = w.shared in
     let k = w.holders p in
-    update j w (freed s p) p (newborn k.force k.limit) (freed_still j s p h.still)
+    update j w (folder_after_death s p) p (newborn k.force k.limit) (freed_still j s p h.still)
     (λ q apart. freed_fits j s p q (w.holders q) apart (h.holders q))
-    (newborn_fits j (freed s p) p k.force k.limit (omega (arith, (h.holders p).below)))
+    (newborn_fits j (folder_after_death s p) p k.force k.limit (omega (arith, (h.holders p).below)))
 
 dies_fine : (phase : Phase) (effect : Effect) (j : Journal) (w : World) (p : ℕ) → IsJournal j → (h : Fine j w) → (w.holders p).phase ≡ phase
     → In phase j (sight w.shared) (w.holders p)
-    → Fine j (with_holder (freed (does j phase w.shared (w.holders p) effect) p) w.holders p (newborn (w.holders p).force (w.holders p).limit))
+    → Fine j (with_holder (folder_after_death (does j phase w.shared (w.holders p) effect) p) w.holders p (newborn (w.holders p).force (w.holders p).limit))
 dies_fine (Ended e) effect j w p laws h is now = dies_beside j w p h
 dies_fine Locking effect j w p laws h is now = dies_beside j w p h
 dies_fine Looking effect j w p laws h is now = dies_holding Looking effect j w p laws h is refl now
@@ -239,7 +239,7 @@ step j w (Starts p force limit) laws h =
     beside j w p (starts_in (w.holders p).phase (w.holders p) force limit) h
     (starts_fits (w.holders p).phase j w.shared p (w.holders p) force limit (omega (arith, h.still.file.below)) (h.holders p))
 step j w (Asks p job command) laws h =
-    beside j w p (asked (w.holders p) job command) h (asked_fits (w.holders p).phase j w.shared p (w.holders p) job command (h.holders p).now (h.holders p))
+    beside j w p (holder_after_ask (w.holders p) job command) h (asked_fits (w.holders p).phase j w.shared p (w.holders p) job command (h.holders p).now (h.holders p))
 step j w (Does p more) laws h = does_fine (w.holders p).phase j w p more laws h refl (h.holders p).now (h.holders p).lock
 step j w (Fails p effect starved) laws h = fails_fine (w.holders p).phase effect starved j w p laws h refl (h.holders p).now (h.holders p).lock
 step j w (Dies p effect) laws h = dies_fine (w.holders p).phase effect j w p laws h refl (h.holders p).now
@@ -251,7 +251,7 @@ step j w (Crashes file content far litter) laws h = record {
   holders = λ p. newborn_fits j (happens j w (Crashes file content far litter)).shared p (w.holders p).force (w.holders p).limit (omega (arith, h.still.file.below));
 }
 
-pub steps : (j : Journal) (events : List Event) (w : World) → IsJournal j → Fine j w → Fine j (happen j events w)
+pub steps : (j : Journal) (events : List Event) (w : World) → IsJournal j → Fine j w → Fine j (world_after j events w)
 steps j [] w laws h = h
 steps j (e ∷ events) w laws h = steps j events (happens j w e) laws (step j w e laws h)
 
@@ -337,8 +337,8 @@ start_is_fine j w h =
       holders = λ p. subst (λ (k : Holder). Fits j s p k) (sym (h.holders p)) (newborn_fits j s p (w.holders p).force (w.holders p).limit (omega (arith, h.next)));
     }
 
-pub run_is_fine : (j : Journal) (start : World) (events : List Event) → IsJournal j → IsStart j start → Fine j (happen j events start)
+pub run_is_fine : (j : Journal) (start : World) (events : List Event) → IsJournal j → IsStart j start → Fine j (world_after j events start)
 run_is_fine j start events laws h = steps j events start laws (start_is_fine j start h)
 
-pub kept_through_crashes : (j : Journal) (start : World) (events : List Event) → IsJournal j → IsStart j start → IsKept j (happen j events start).shared
-kept_through_crashes j start events laws h = kept j (happen j events start) laws (run_is_fine j start events laws h)
+pub kept_through_crashes : (j : Journal) (start : World) (events : List Event) → IsJournal j → IsStart j start → IsKept j (world_after j events start).shared
+kept_through_crashes j start events laws h = kept j (world_after j events start) laws (run_is_fine j start events laws h)

@@ -1,7 +1,7 @@
 -- A keeper that cuts off damage: if a call finds a damaged journal, the keeper cuts off the damage
 -- with the job `Cut`, and then begins the call again.
 use Rattle.std.specs.Prelude.{◌≡◌, ℕ, ◌⊎◌, Bool, true, false, List, []}
-use Rattle.tpm_keeping.specs.Holder.{Holder, Told, asked, next_of, rests}
+use Rattle.tpm_keeping.specs.Holder.{Holder, Told, holder_after_ask, next_of, rests}
 use Rattle.tpm_keeping.specs.Journal.{Journal, Spot}
 use Rattle.tpm_keeping.specs.View.{holder_of}
 use Rattle.tpm_keeping.specs.declared.caller.CuttingKeeper.{CuttingKeeper}
@@ -40,21 +40,26 @@ idle k = record { holder = k; on_damage = Ends; job = Show; command = [] }
 -- the keeper after it begins a call; a call that was still in progress is dropped
 abbrev pub called : (cuts : Bool) → Job → List ℕ → Holder → Caller
 called true job command k = record {
-  holder = asked (rests k) job command;
+  holder = holder_after_ask (rests k) job command;
   on_damage = IsCut;
   job = job;
   command = command;
 }
 called false job command k =
-    record { holder = asked (rests k) job command; on_damage = Ends; job = job; command = [] }
+    record {
+      holder = holder_after_ask (rests k) job command;
+      on_damage = Ends;
+      job = job;
+      command = [];
+    }
 
 -- the keeper after a call ended. If the call found damage that has to be cut off, the job `Cut`
 -- follows; after this job, the call begins again
 abbrev pub goes_on_in : OnDamage → Phase → Caller → Caller
 goes_on_in IsCut (Ended (ending.Failed fault.Damaged)) c =
-    record c { holder = asked c.holder Cut []; on_damage = BeginsAgain }
+    record c { holder = holder_after_ask c.holder Cut []; on_damage = BeginsAgain }
 goes_on_in BeginsAgain (Ended ending.Done) c =
-    record c { holder = asked c.holder c.job c.command; on_damage = Ends; command = [] }
+    record c { holder = holder_after_ask c.holder c.job c.command; on_damage = Ends; command = [] }
 goes_on_in on_damage phase c = c
 
 abbrev pub goes_on : Caller → Caller
@@ -67,4 +72,5 @@ next_call j c told = goes_on (record c { holder = next_of j c.holder told })
 -- The holder is unchanged, or it was asked to do a job.
 abbrev pub IsOrIsAsked : (before after : Holder) → Type 0
 IsOrIsAsked before after =
-    (after ≡ before) ⊎ ((job : Job) × (command : List ℕ) × (after ≡ asked before job command))
+    (after ≡ before)
+    ⊎ ((job : Job) × (command : List ℕ) × (after ≡ holder_after_ask before job command))

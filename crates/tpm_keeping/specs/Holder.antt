@@ -103,15 +103,15 @@ abbrev pub asked_in : Phase → Holder → Job → List ℕ → Holder
 asked_in (Ended e) k job command = record k { phase = Locking; job = job; command = command }
 asked_in phase k job command = k
 
-abbrev pub asked : Holder → Job → List ℕ → Holder
-asked k job command = asked_in k.phase k job command
+abbrev pub holder_after_ask : Holder → Job → List ℕ → Holder
+holder_after_ask k job command = asked_in k.phase k job command
 
 -- the holder after it forgot everything; in the next call, it opens the device from the file
 abbrev pub forgets : Phase → Holder → Holder
 forgets p k = record (newborn k.force k.limit) { phase = p }
 
-abbrev pub dropped : Fault → Holder → Holder
-dropped f k = forgets (Leaving (ending.Failed f)) k
+abbrev pub holder_after_fault : Fault → Holder → Holder
+holder_after_fault f k = forgets (Leaving (ending.Failed f)) k
 
 abbrev pub goes : Phase → Holder → Holder
 goes p k = record k { phase = p }
@@ -212,12 +212,12 @@ caught_up k taken = record k {
 -- whole file, and the file has an undamaged beginning, the holder begins a new journal in the state
 -- after that beginning. Otherwise the call fails, and the file is unchanged
 abbrev pub salvages_of : Journal → Holder → Option (Spot × ℕ) → Holder
-salvages_of j k None = dropped fault.Damaged k
+salvages_of j k None = holder_after_fault fault.Damaged k
 salvages_of j k (Some salvaged) = renews j (caught_up k salvaged.1) salvaged.0.state []
 
 abbrev pub salvages : Journal → Job → Option Spot → Holder → Holder
 salvages j Cut None k = salvages_of j k (j.salvaged k.read)
-salvages j job device k = dropped fault.Damaged k
+salvages j job device k = holder_after_fault fault.Damaged k
 
 abbrev pub finishes : Journal → Holder → Option (Spot × ℕ) → Holder
 finishes j k None = salvages j k.job k.device k
@@ -236,7 +236,7 @@ reads_on j k = cond (is_read k) (finishes j k (found j k.device k.read)) (goes R
 
 -- the holder after a read; an empty read means that the file was truncated
 abbrev pub has_read : Journal → Holder → List ℕ → Holder
-has_read j k [] = dropped fault.Read k
+has_read j k [] = holder_after_fault fault.Read k
 has_read j k bytes = reads_on j (record k { seen = k.seen + length bytes; read = k.read ++ bytes })
 
 -- whether the holder knows this file, and the file still has all bytes that the holder executed; if
@@ -244,8 +244,8 @@ has_read j k bytes = reads_on j (record k { seen = k.seen + length bytes; read =
 abbrev pub knows_file : Holder → (file size : ℕ) → Bool
 knows_file k file size = k.file == file && nat_le k.place size
 
-abbrev pub looked : Journal → Holder → (file size : ℕ) → Holder
-looked j k file size =
+abbrev pub holder_after_look : Journal → Holder → (file size : ℕ) → Holder
+holder_after_look j k file size =
     cond (knows_file k file size)
     (reads_on j (record k { size = size; seen = k.place; read = [] }))
     (reads_on j (record (newborn k.force k.limit) {
@@ -258,12 +258,12 @@ looked j k file size =
 -- the holder if there is no journal: it begins a journal if that is its job; otherwise, the call
 -- fails
 abbrev pub begins_of : Journal → Holder → Option (List ℕ) → Holder
-begins_of j k None = dropped fault.Unreadable k
+begins_of j k None = holder_after_fault fault.Unreadable k
 begins_of j k (Some s) = renews j (record k { place = 0 }) s []
 
 abbrev pub begins : Journal → Job → Holder → Holder
 begins j Begin k = begins_of j k (j.begun k.command)
-begins j job k = dropped fault.Absent k
+begins j job k = holder_after_fault fault.Absent k
 
 abbrev pub has_put : Holder → Holder
 has_put k = record k {
@@ -286,7 +286,7 @@ has_named k file = record k {
 abbrev pub next_in : Journal → Phase → Holder → Told → Holder
 next_in j Locking k Done = goes Looking k
 next_in j Locking k told = forgets (Ended (ending.Failed (fault_told Locking told))) k
-next_in j Looking k (Stands file size) = looked j k file size
+next_in j Looking k (Stands file size) = holder_after_look j k file size
 next_in j Looking k Gone = begins j k.job k
 next_in j Reading k (Bytes bytes) = has_read j k bytes
 next_in j Putting k Done = has_put k
@@ -296,7 +296,7 @@ next_in j Naming k (Stands file size) = has_named k file
 next_in j Settling k Done = record k { phase = Leaving ending.Done; settled = true }
 next_in j (Leaving e) k told = goes (Ended e) k
 next_in j (Ended e) k told = k
-next_in j phase k told = dropped (fault_told phase told) k
+next_in j phase k told = holder_after_fault (fault_told phase told) k
 
 abbrev pub next_of : Journal → Holder → Told → Holder
 next_of j k told = next_in j k.phase k told

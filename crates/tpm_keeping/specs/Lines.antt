@@ -6,12 +6,12 @@
 use Rattle.std.specs.Prelude.{ℕ, zero, suc, ◌+◌, Bool, true, false, List, [], ◌∷◌, ◌++◌, length, Option, Some, None}
 use Rattle.tpm_keeping.specs.Journal.{Journal, Spot}
 
-abbrev pub marked : List ℕ → List ℕ
-marked [] = []
-marked (b ∷ text) = suc (suc b) ∷ marked text
+abbrev pub marked_bytes : List ℕ → List ℕ
+marked_bytes [] = []
+marked_bytes (b ∷ text) = suc (suc b) ∷ marked_bytes text
 
 abbrev pub line : List ℕ → List ℕ
-line text = marked text ++ 1 ∷ []
+line text = marked_bytes text ++ 1 ∷ []
 
 -- a line's content and the bytes after the line, with one more byte at the start of the content
 abbrev pub with_first : ℕ → Option (List ℕ × List ℕ) → Option (List ℕ × List ℕ)
@@ -53,10 +53,10 @@ headed_by None = None
 headed_by (Some found) = spot_if_all found.0 found.1
 
 -- whether no line ends in these bytes
-abbrev pub unended : List ℕ → Bool
-unended [] = true
-unended (suc zero ∷ rest) = false
-unended (b ∷ rest) = unended rest
+abbrev pub is_unended : List ℕ → Bool
+is_unended [] = true
+is_unended (suc zero ∷ rest) = false
+is_unended (b ∷ rest) = is_unended rest
 
 abbrev pub is_some : List ℕ → Bool
 is_some [] = false
@@ -77,7 +77,7 @@ lines = record {
   is_state = λ s. true;
   is_command = λ c. is_some c;
   is_entered = λ c. begins_above_zero c;
-  after = λ s c. s ++ marked c;
+  after = λ s c. s ++ marked_bytes c;
   response = λ s c. s;
   begun = λ seed. Some seed;
   entry = λ p c. line c;
@@ -89,6 +89,6 @@ lines = record {
   followed = λ p text.
       Some (spot_at p.chain (walk p.state [] 0 0 text).0, (walk p.state [] 0 0 text).1);
   salvaged = λ text. opened_by (line_at text);
-  is_torn = λ p text. unended text;
+  is_torn = λ p text. is_unended text;
   is_litter = λ text. is_zeros text;
 }

@@ -38,7 +38,7 @@
 -- - Anybody else who writes to the folder.
 use Rattle.std.specs.Prelude.{◌≡◌, ℕ, zero, suc, ◌+◌, ◌-◌, ◌<◌, ◌≤◌, ◌==◌, ◌&&◌, Bool, true, false, cond, List, [], ◌∷◌, ◌++◌, drop, length, max, min, nat_le, take, Option, Some, None}
 use Rattle.tpm_keeping.specs.Journal.{Entered, Journal, Spot, entries, run, started, trail, whole_in}
-use Rattle.tpm_keeping.specs.Holder.{Holder, Told, Done, Stands, Gone, Bytes, Failed, Starved, asked, is_never, newborn, next_in, rests, sure}
+use Rattle.tpm_keeping.specs.Holder.{Holder, Told, Done, Stands, Gone, Bytes, Failed, Starved, holder_after_ask, is_never, newborn, next_in, rests, sure}
 use Rattle.tpm_keeping.specs.View.{ask_in}
 use Rattle.tpm_keeping.specs.declared.keeper.Ask.{Ask}
 use Rattle.tpm_keeping.specs.declared.keeper.Ask.TheVariants as ask
@@ -142,8 +142,8 @@ with_holder s holders p k = record { shared = s; holders = λ q. cond (q == p) k
 
 -- the bytes after a write at an offset. The written bytes replace old bytes, and may extend the
 -- list
-abbrev pub written : (text : List ℕ) → (at : ℕ) → (bytes : List ℕ) → List ℕ
-written text at bytes = take at text ++ (bytes ++ drop (at + length bytes) text)
+abbrev pub written_bytes : (text : List ℕ) → (at : ℕ) → (bytes : List ℕ) → List ℕ
+written_bytes text at bytes = take at text ++ (bytes ++ drop (at + length bytes) text)
 
 -- the job's command, if the command has an entry
 abbrev pub adds : Journal → Job → List ℕ → List (List ℕ)
@@ -168,7 +168,7 @@ put_dropped f k count =
 
 -- a file's bytes after a `Put`, which truncates the file and then writes at the requested offset
 abbrev pub put_by : Ask → (text bytes : List ℕ) → List ℕ
-put_by (ask.Put cut at) text bytes = written (take cut text) at bytes
+put_by (ask.Put cut at) text bytes = written_bytes (take cut text) at bytes
 put_by asked text bytes = text
 
 abbrev pub put_on : Journal → File → Holder → (count : ℕ) → File
@@ -186,22 +186,22 @@ put_on j f k count = record {
   is_dropped = put_dropped f k count;
 }
 
-abbrev pub put : Journal → Shared → Holder → (count : ℕ) → Shared
-put j s k count = record s {
+abbrev pub folder_after_put : Journal → Shared → Holder → (count : ℕ) → Shared
+folder_after_put j s k count = record s {
   file = put_on j s.file k count;
   history = s.history ++ put_more j k count;
 }
 
 -- a file after a sync: all bytes are on the disk, unless some were dropped
-abbrev pub forced : File → File
-forced f = record f {
+abbrev pub forced_file : File → File
+forced_file f = record f {
   past = cond f.is_dropped f.past [];
   forced = cond f.is_dropped f.forced (length f.now.text);
 }
 
 -- the folder after the bytes that are not synced were dropped
-abbrev pub lost : Shared → Shared
-lost s = record s { file = record s.file { is_dropped = true } }
+abbrev pub folder_after_loss : Shared → Shared
+folder_after_loss s = record s { file = record s.file { is_dropped = true } }
 
 -- the state of a holder's device. When the first file gets the journal's name, the history begins
 -- in the state of the writer's device
@@ -230,20 +230,21 @@ named_from j origin s k =
       history = before ++ adds j k.job k.command;
     }
 
-abbrev pub named : Journal → Shared → Holder → Shared
-named j s k = named_from j (cond (s.file.number == 0) (state_in k.device) s.origin) s k
+abbrev pub folder_after_naming : Journal → Shared → Holder → Shared
+folder_after_naming j s k =
+    named_from j (cond (s.file.number == 0) (state_in k.device) s.origin) s k
 
 -- the folder after the host did a holder's task, completely or in part
 abbrev pub does_asked : Journal → Ask → Shared → Holder → Effect → Shared
-does_asked j (ask.Put cut at) s k (Part count) = put j s k count
-does_asked j (ask.Put cut at) s k All = put j s k (length k.out)
-does_asked j ask.Force s k (Part count) = lost s
-does_asked j ask.Force s k All = record s { file = forced s.file }
+does_asked j (ask.Put cut at) s k (Part count) = folder_after_put j s k count
+does_asked j (ask.Put cut at) s k All = folder_after_put j s k (length k.out)
+does_asked j ask.Force s k (Part count) = folder_after_loss s
+does_asked j ask.Force s k All = record s { file = forced_file s.file }
 does_asked j (ask.Make whole) s k (Part count) =
     record s { fresh = take count k.out; fresh_forced = 0 }
 does_asked j (ask.Make whole) s k All =
     record s { fresh = k.out; fresh_forced = length k.out }
-does_asked j ask.Name s k All = named j s k
+does_asked j ask.Name s k All = folder_after_naming j s k
 does_asked j ask.Settle s k All = record s { older = [] }
 does_asked j asked s k effect = s
 
@@ -284,14 +285,14 @@ promise j force job c s = s.promised
 
 -- the folder after a call ends and its holder releases the lock. If the call succeeded, the
 -- commands that it promises are counted as promised, and the response of a command is sent
-abbrev pub left : Journal → End → Shared → Holder → Shared
-left j ending.Done s k = record s {
+abbrev pub folder_after_leaving : Journal → End → Shared → Holder → Shared
+folder_after_leaving j ending.Done s k = record s {
   locked = false;
   promised = promise j k.force k.job k.command s;
   lasting = cond (is_never k.force) s.lasting true;
   answers = with_answer k.job s k;
 }
-left j (ending.Failed f) s k = record s { locked = false }
+folder_after_leaving j (ending.Failed f) s k = record s { locked = false }
 
 -- ---- one event
 
@@ -302,7 +303,7 @@ does_in j Locking w p k more =
     (with_holder (record w.shared { locked = true; locker = p }) w.holders p
     (next_in j Locking k Done))
 does_in j (Leaving e) w p k more =
-    with_holder (left j e w.shared k) w.holders p (next_in j (Leaving e) k Done)
+    with_holder (folder_after_leaving j e w.shared k) w.holders p (next_in j (Leaving e) k Done)
 does_in j phase w p k more =
     let s = does j phase w.shared k All in
     with_holder s w.holders p (next_in j phase k (tells phase s k more))
@@ -310,13 +311,13 @@ does_in j phase w p k more =
 abbrev pub fails_in : Journal → Phase → World → (p : ℕ) → Holder → Effect → Told → World
 fails_in j (Ended e) w p k effect told = w
 fails_in j (Leaving e) w p k effect told =
-    with_holder (left j e w.shared k) w.holders p (next_in j (Leaving e) k told)
+    with_holder (folder_after_leaving j e w.shared k) w.holders p (next_in j (Leaving e) k told)
 fails_in j phase w p k effect told =
     with_holder (does j phase w.shared k effect) w.holders p (next_in j phase k told)
 
 -- the folder after a process died; if it had the lock, the lock is free
-abbrev pub freed : Shared → ℕ → Shared
-freed s p = record s { locked = cond (s.locker == p) false s.locked }
+abbrev pub folder_after_death : Shared → ℕ → Shared
+folder_after_death s p = record s { locked = cond (s.locker == p) false s.locked }
 
 abbrev pub starts_in : Phase → Holder → Force → ℕ → Holder
 starts_in (Ended e) k force limit = newborn force limit
@@ -377,8 +378,9 @@ crashed_to j s f content far litter =
     let content = content_at f.now f.past content in
     stands (left_of j f content (max f.forced far) (litter_of j litter)) s
 
-abbrev pub crashed : Journal → Shared → (file content far : ℕ) → (litter : List ℕ) → Shared
-crashed j s file content far litter =
+abbrev pub folder_after_crash : Journal → Shared → (file content far : ℕ) → (litter : List ℕ)
+    → Shared
+folder_after_crash j s file content far litter =
     crashed_to j s (file_at s.file s.older file) content far litter
 
 -- ---- runs
@@ -387,24 +389,25 @@ abbrev pub happens : Journal → World → Event → World
 happens j w (Starts p force limit) =
     with_holder w.shared w.holders p (starts_in (w.holders p).phase (w.holders p) force limit)
 happens j w (Asks p job command) =
-    with_holder w.shared w.holders p (asked (w.holders p) job command)
+    with_holder w.shared w.holders p (holder_after_ask (w.holders p) job command)
 happens j w (Does p more) = does_in j (w.holders p).phase w p (w.holders p) more
 happens j w (Fails p effect starved) =
     fails_in j (w.holders p).phase w p (w.holders p) effect (cond starved Starved Failed)
 happens j w (Dies p effect) =
-    with_holder (freed (does j (w.holders p).phase w.shared (w.holders p) effect) p) w.holders p
+    with_holder (folder_after_death (does j (w.holders p).phase w.shared (w.holders p) effect) p)
+    w.holders p
     (newborn (w.holders p).force (w.holders p).limit)
 happens j w (Forks p child) = with_holder w.shared w.holders child (rests (w.holders p))
 happens j w Drops =
-    cond w.shared.locked w (record w { shared = lost w.shared })
+    cond w.shared.locked w (record w { shared = folder_after_loss w.shared })
 happens j w (Crashes file content far litter) = record {
-  shared = crashed j w.shared file content far litter;
+  shared = folder_after_crash j w.shared file content far litter;
   holders = λ q. newborn (w.holders q).force (w.holders q).limit;
 }
 
-abbrev pub happen : Journal → List Event → World → World
-happen j [] w = w
-happen j (e ∷ es) w = happen j es (happens j w e)
+abbrev pub world_after : Journal → List Event → World → World
+world_after j [] w = w
+world_after j (e ∷ es) w = world_after j es (happens j w e)
 
 -- The file is a synced journal with complete entries, and possibly the remains of one more entry.
 pub record IsFound (j : Journal) (f : File) : Type 0 where

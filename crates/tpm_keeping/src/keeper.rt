@@ -2,9 +2,9 @@
 //! output itself.
 
 ghost use Rattle.std.specs.Prelude.{◌≡◌, ◌+◌, ◌++◌, ℕ, List, [], IfOk, OnErr, OnOk, length};
-ghost use Rattle.tpm_keeping.specs.Holder.{acts, asked, begins, caught_up, dropped, executes};
+ghost use Rattle.tpm_keeping.specs.Holder.{acts, begins, caught_up, executes, holder_after_ask, holder_after_fault};
 ghost use Rattle.tpm_keeping.specs.Holder.{finishes, forgets, found, has_named, has_put, has_read};
-ghost use Rattle.tpm_keeping.specs.Holder.{Starved, looked, newborn, next_of, reads_on, rests};
+ghost use Rattle.tpm_keeping.specs.Holder.{Starved, holder_after_look, newborn, next_of, reads_on, rests};
 ghost use Rattle.tpm_keeping.specs.Holder.{settles, shows, sure};
 ghost use Rattle.tpm_keeping.specs.declared.holder.End.{End};
 ghost use Rattle.tpm_keeping.specs.declared.holder.Phase.TheVariants.{Ended};
@@ -150,7 +150,7 @@ impl<D: Device> Keeper<D> {
     /// interrupted that call, or a fork of this host, has to close the lock's file.
     pub fn begin(&mut self, job: Job, command: &[u8]) -> Result<(), Exhausted>
         ensures ok { OnOk result (holder_of D.spot self.new
-            ≡ asked (rests (holder_of D.spot self.old)) job command.now) }
+            ≡ holder_after_ask (rests (holder_of D.spot self.old)) job command.now) }
         ensures err { OnErr result (holder_of D.spot self.new
             ≡ rests (holder_of D.spot self.old)) }
     {
@@ -166,7 +166,7 @@ impl<D: Device> Keeper<D> {
     /// dropped.
     pub(crate) fn begin_with(&mut self, job: Job, command: Vec<u8>)
         ensures { holder_of D.spot self.new
-            ≡ asked (rests (holder_of D.spot self.old)) job command.items }
+            ≡ holder_after_ask (rests (holder_of D.spot self.old)) job command.items }
     {
         self.rest();
         self.command = command;
@@ -195,7 +195,7 @@ impl<D: Device> Keeper<D> {
 
     /// Ends the call with a fault.
     pub(crate) fn give_up(&mut self, fault: Fault)
-        ensures { holder_of D.spot self.new ≡ dropped fault (holder_of D.spot self.old) }
+        ensures { holder_of D.spot self.new ≡ holder_after_fault fault (holder_of D.spot self.old) }
     {
         self.forget(Phase::Leaving(End::Failed(fault)));
     }

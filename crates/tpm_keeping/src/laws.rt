@@ -9,7 +9,7 @@ ghost use Rattle.tpm_keeping.specs.Journal.{run};
 ghost use Rattle.tpm_keeping.specs.Kept.{Advances, HasEnded, IsKept, KeepsFront, KeepsPromises};
 ghost use Rattle.tpm_keeping.specs.Kept.{Pass, end_of, rank, text_read, turns};
 ghost use Rattle.tpm_keeping.specs.Lines.{lines};
-ghost use Rattle.tpm_keeping.specs.World.{Asks, Event, IsStart, World, happen};
+ghost use Rattle.tpm_keeping.specs.World.{Asks, Event, IsStart, World, world_after};
 ghost use Rattle.tpm_keeping.specs.World.{happens};
 ghost use Rattle.tpm_keeping.specs.declared.holder.End.{End};
 ghost use Rattle.tpm_keeping.specs.declared.holder.End.TheVariants.{Done};
@@ -23,7 +23,7 @@ ghost use Rattle.tpm_keeping.specs.declared.holder.Phase.TheVariants.{Ended, Lea
 /// promised because of its `force` setting.
 pub fn kept_through_crashes()
     ensures { (j : Journal) (start : World) (events : List Event)
-        → IsJournal j → IsStart j start → IsKept j (happen j events start).shared }
+        → IsJournal j → IsStart j start → IsKept j (world_after j events start).shared }
 {}
 
 /// After each report of the host, the call is in a later phase, or more of the file has been read.
@@ -38,10 +38,10 @@ pub fn calls_advance()
 pub fn calls_end()
     ensures { (j : Journal) (start : World) (events : List Event) (p : ℕ) (e : End) (job : Job)
         (command : List ℕ) (mores : List ℕ) → IsJournal j → IsStart j start
-        → let w = happen j events start in
+        → let w = world_after j events start in
         (w.holders p).phase ≡ Ended e → w.shared.locked ≡ false
         → 6 + length w.shared.file.now.text ≤ length mores
-        → HasEnded (happen j (Asks p job command ∷ turns p mores) w) p
+        → HasEnded (world_after j (Asks p job command ∷ turns p mores) w) p
         (end_of j w.shared.file job command) }
 {}
 
@@ -49,7 +49,7 @@ pub fn calls_end()
 pub fn promises_are_kept()
     ensures { (j : Journal) (start : World) (events : List Event) (e : Event)
         → IsJournal j → IsStart j start
-        → let w = happen j events start in KeepsPromises w.shared (happens j w e).shared }
+        → let w = world_after j events start in KeepsPromises w.shared (happens j w e).shared }
 {}
 
 /// If all commands of the journal at the start and all requested commands have a property, then all
@@ -58,7 +58,7 @@ pub fn only_what_was_asked()
     ensures { (j : Journal) (start : World) (events : List Event) (test : List ℕ → Bool)
         → IsJournal j → IsStart j start → AllByRecursion (λ c. test c ≡ true) start.shared.history
         → Pass test events
-        → AllByRecursion (λ c. test c ≡ true) (happen j events start).shared.history }
+        → AllByRecursion (λ c. test c ≡ true) (world_after j events start).shared.history }
 {}
 
 /// A snapshot's response, just before the holder releases the lock, is the encoded state after the
@@ -66,10 +66,11 @@ pub fn only_what_was_asked()
 pub fn snapshots_are_true()
     ensures { (j : Journal) (start : World) (events : List Event) (p : ℕ)
         → IsJournal j → IsStart j start
-        → ((happen j events start).holders p).phase ≡ Leaving Done
-        → ((happen j events start).holders p).job ≡ Show
-        → ((happen j events start).holders p).response ≡ j.head
-        (run j (happen j events start).shared.origin (happen j events start).shared.history) }
+        → ((world_after j events start).holders p).phase ≡ Leaving Done
+        → ((world_after j events start).holders p).job ≡ Show
+        → ((world_after j events start).holders p).response ≡ j.head
+        (run j (world_after j events start).shared.origin
+        (world_after j events start).shared.history) }
 {}
 
 /// The job `Cut` replaces a damaged journal with the head for the state after a prefix of that

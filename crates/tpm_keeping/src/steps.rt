@@ -3,8 +3,8 @@
 ghost use Rattle.std.specs.Prelude.{◌≡◌, ◌+◌, ◌++◌, ℕ, List, [], IfOk, OnErr, OnOk, length};
 ghost use Rattle.std.specs.Prelude.{false, take, true};
 ghost use Rattle.std.specs.declared.option.Option.TheVariants.{None, Some};
-ghost use Rattle.tpm_keeping.specs.Holder.{acts, begins, caught_up, dropped, enters, executes, finishes};
-ghost use Rattle.tpm_keeping.specs.Holder.{found, has_named, has_put, has_read, is_grown, leaps, looked};
+ghost use Rattle.tpm_keeping.specs.Holder.{acts, begins, caught_up, enters, executes, finishes, holder_after_fault};
+ghost use Rattle.tpm_keeping.specs.Holder.{found, has_named, has_put, has_read, holder_after_look, is_grown, leaps};
 ghost use Rattle.tpm_keeping.specs.Holder.{reads_on, renews, settles, shows};
 ghost use Rattle.tpm_keeping.specs.Holder.{begins_of, salvages};
 ghost use Rattle.tpm_keeping.specs.declared.holder.Fault.TheVariants.{Memory};
@@ -20,9 +20,9 @@ impl<D: Device> Keeper<D> {
     /// file, or if the file no longer has all bytes that the device executed.
     pub(crate) fn looked(&mut self, file: u64, size: u64) -> Result<(), Exhausted>
         ensures ok { OnOk result (holder_of D.spot self.new
-            ≡ looked D.journal (holder_of D.spot self.old) file size) }
+            ≡ holder_after_look D.journal (holder_of D.spot self.old) file size) }
         ensures err { OnErr result (holder_of D.spot self.new
-            ≡ dropped Memory (holder_of D.spot self.old)) }
+            ≡ holder_after_fault Memory (holder_of D.spot self.old)) }
     {
         if self.file != file || size < self.place {
             *self = Keeper {
@@ -43,7 +43,7 @@ impl<D: Device> Keeper<D> {
         ensures ok { OnOk result (holder_of D.spot self.new
             ≡ has_read D.journal (holder_of D.spot self.old) bytes.now) }
         ensures err { OnErr result (holder_of D.spot self.new
-            ≡ dropped Memory (holder_of D.spot self.old)) }
+            ≡ holder_after_fault Memory (holder_of D.spot self.old)) }
     {
         if bytes.is_empty() {
             self.give_up(Fault::Read);
@@ -63,7 +63,7 @@ impl<D: Device> Keeper<D> {
         ensures ok { OnOk result (holder_of D.spot self.new
             ≡ reads_on D.journal (holder_of D.spot self.old)) }
         ensures err { OnErr result (holder_of D.spot self.new
-            ≡ dropped Memory (holder_of D.spot self.old)) }
+            ≡ holder_after_fault Memory (holder_of D.spot self.old)) }
     {
         if self.seen < self.size {
             self.phase = Phase::Reading;
@@ -81,8 +81,8 @@ impl<D: Device> Keeper<D> {
         ensures ok { OnOk result (holder_of D.spot self.new ≡ finishes D.journal
             (holder_of D.spot self.old)
             (found D.journal (holder_of D.spot self.old).device self.old.read.items)) }
-        ensures err { OnErr result (dropped Memory (holder_of D.spot self.new)
-            ≡ dropped Memory (holder_of D.spot self.old)) }
+        ensures err { OnErr result (holder_after_fault Memory (holder_of D.spot self.new)
+            ≡ holder_after_fault Memory (holder_of D.spot self.old)) }
     {
         let Some(mut device) = self.device.take() else {
             return self.opens();
@@ -100,8 +100,8 @@ impl<D: Device> Keeper<D> {
         requires { self.old.device ≡ None }
         ensures ok { OnOk result (holder_of D.spot self.new ≡ finishes D.journal
             (holder_of D.spot self.old) (D.journal.opened self.old.read.items)) }
-        ensures err { OnErr result (dropped Memory (holder_of D.spot self.new)
-            ≡ dropped Memory (holder_of D.spot self.old)) }
+        ensures err { OnErr result (holder_after_fault Memory (holder_of D.spot self.new)
+            ≡ holder_after_fault Memory (holder_of D.spot self.old)) }
     {
         let Some((device, taken)) = D::open(self.alloc, &self.read)? else {
             return self.salvages();
@@ -116,8 +116,8 @@ impl<D: Device> Keeper<D> {
     fn salvages(&mut self) -> Result<(), Exhausted>
         ensures ok { OnOk result (holder_of D.spot self.new ≡ salvages D.journal self.old.job None
             (holder_of D.spot self.old)) }
-        ensures err { OnErr result (dropped Memory (holder_of D.spot self.new)
-            ≡ dropped Memory (holder_of D.spot self.old)) }
+        ensures err { OnErr result (holder_after_fault Memory (holder_of D.spot self.new)
+            ≡ holder_after_fault Memory (holder_of D.spot self.old)) }
     {
         let salvaged = match self.job {
             Job::Cut => D::salvage(self.alloc, &self.read)?,
@@ -139,8 +139,8 @@ impl<D: Device> Keeper<D> {
     fn caught_up(&mut self, taken: usize) -> Result<(), Exhausted>
         ensures ok { OnOk result (holder_of D.spot self.new
             ≡ caught_up (holder_of D.spot self.old) taken) }
-        ensures err { OnErr result (dropped Memory (holder_of D.spot self.new)
-            ≡ dropped Memory (holder_of D.spot self.old)) }
+        ensures err { OnErr result (holder_after_fault Memory (holder_of D.spot self.new)
+            ≡ holder_after_fault Memory (holder_of D.spot self.old)) }
     {
         let Some(place) = self.place.checked_add(taken as u64) else {
             return Err(Exhausted);
@@ -162,8 +162,8 @@ impl<D: Device> Keeper<D> {
     fn acts(&mut self, device: D) -> Result<(), Exhausted>
         ensures ok { OnOk result (holder_of D.spot self.new
             ≡ acts D.journal self.old.job (holder_of D.spot self.old) (D.spot device)) }
-        ensures err { OnErr result (dropped Memory (holder_of D.spot self.new)
-            ≡ dropped Memory (holder_of D.spot self.old)) }
+        ensures err { OnErr result (holder_after_fault Memory (holder_of D.spot self.new)
+            ≡ holder_after_fault Memory (holder_of D.spot self.old)) }
     {
         self.out.clear();
         self.response.clear();
@@ -184,8 +184,8 @@ impl<D: Device> Keeper<D> {
         requires response { self.old.response.items ≡ [] }
         ensures ok { OnOk result (holder_of D.spot self.new ≡ executes D.journal
             (holder_of D.spot self.old) (D.spot device)) }
-        ensures err { OnErr result (dropped Memory (holder_of D.spot self.new)
-            ≡ dropped Memory (holder_of D.spot self.old)) }
+        ensures err { OnErr result (holder_after_fault Memory (holder_of D.spot self.new)
+            ≡ holder_after_fault Memory (holder_of D.spot self.old)) }
     {
         if !D::is_command(&self.command) {
             self.phase = Phase::Leaving(End::Failed(Fault::NoCommand));
@@ -223,8 +223,8 @@ impl<D: Device> Keeper<D> {
         ensures ok { OnOk result (holder_of D.spot self.new ≡ enters D.journal
             (holder_of D.spot self.old) (D.spot device)
             (is_grown D.journal (holder_of D.spot self.old) (D.spot device))) }
-        ensures err { OnErr result (dropped Memory (holder_of D.spot self.new)
-            ≡ dropped Memory (holder_of D.spot self.old)) }
+        ensures err { OnErr result (holder_after_fault Memory (holder_of D.spot self.new)
+            ≡ holder_after_fault Memory (holder_of D.spot self.old)) }
     {
         if self.is_grown(&device)? {
             device.renew(&mut self.out)?;
@@ -248,8 +248,8 @@ impl<D: Device> Keeper<D> {
         requires unentered { D.journal.is_entered self.old.command.items ≡ false }
         ensures ok { OnOk result (holder_of D.spot self.new ≡ leaps D.journal
             (holder_of D.spot self.old) (D.spot device)) }
-        ensures err { OnErr result (dropped Memory (holder_of D.spot self.new)
-            ≡ dropped Memory (holder_of D.spot self.old)) }
+        ensures err { OnErr result (holder_after_fault Memory (holder_of D.spot self.new)
+            ≡ holder_after_fault Memory (holder_of D.spot self.old)) }
     {
         device.leap(&self.command, &mut self.response)?;
         self.renews(device)
@@ -260,8 +260,8 @@ impl<D: Device> Keeper<D> {
         requires out { self.old.out.items ≡ [] }
         ensures ok { OnOk result (holder_of D.spot self.new ≡ renews D.journal
             (holder_of D.spot self.old) (D.spot device).state self.old.response.items) }
-        ensures err { OnErr result (dropped Memory (holder_of D.spot self.new)
-            ≡ dropped Memory (holder_of D.spot self.old)) }
+        ensures err { OnErr result (holder_after_fault Memory (holder_of D.spot self.new)
+            ≡ holder_after_fault Memory (holder_of D.spot self.old)) }
     {
         device.renew(&mut self.out)?;
         self.phase = Phase::Making;
@@ -275,8 +275,8 @@ impl<D: Device> Keeper<D> {
         requires out { self.old.out.items ≡ [] }
         ensures ok { OnOk result (holder_of D.spot self.new ≡ shows (holder_of D.spot self.old)
             (D.spot device) self.old.response.items) }
-        ensures err { OnErr result (dropped Memory (holder_of D.spot self.new)
-            ≡ dropped Memory (holder_of D.spot self.old)) }
+        ensures err { OnErr result (holder_after_fault Memory (holder_of D.spot self.new)
+            ≡ holder_after_fault Memory (holder_of D.spot self.old)) }
     {
         let Ok(()) = self.out.extend_from_slice(&self.unsure) else {
             return Err(Exhausted);
@@ -294,7 +294,7 @@ impl<D: Device> Keeper<D> {
         ensures ok { OnOk result (holder_of D.spot self.new
             ≡ begins D.journal self.old.job (holder_of D.spot self.old)) }
         ensures err { OnErr result (holder_of D.spot self.new
-            ≡ dropped Memory (holder_of D.spot self.old)) }
+            ≡ holder_after_fault Memory (holder_of D.spot self.old)) }
     {
         let Job::Begin = self.job else {
             self.give_up(Fault::Absent);
@@ -311,8 +311,8 @@ impl<D: Device> Keeper<D> {
     fn makes(&mut self) -> Result<(), Exhausted>
         ensures ok { OnOk result (holder_of D.spot self.new ≡ begins_of D.journal
             (holder_of D.spot self.old) (D.journal.begun self.old.command.items)) }
-        ensures err { OnErr result (dropped Memory (holder_of D.spot self.new)
-            ≡ dropped Memory (holder_of D.spot self.old)) }
+        ensures err { OnErr result (holder_after_fault Memory (holder_of D.spot self.new)
+            ≡ holder_after_fault Memory (holder_of D.spot self.old)) }
     {
         self.out.clear();
         self.response.clear();
@@ -330,7 +330,7 @@ impl<D: Device> Keeper<D> {
         ensures ok { OnOk result (holder_of D.spot self.new
             ≡ has_put (holder_of D.spot self.old)) }
         ensures err { OnErr result (holder_of D.spot self.new
-            ≡ dropped Memory (holder_of D.spot self.old)) }
+            ≡ holder_after_fault Memory (holder_of D.spot self.old)) }
     {
         let Some(place) = self.sure().checked_add(self.out.len() as u64) else {
             self.give_up(Fault::Memory);

@@ -9,15 +9,15 @@ use Rattle.tpm_record.specs.Record.{Record}
 use Rattle.tpm_nv.specs.Index.{NvIndex}
 use Rattle.tpm_step.proofs.history.Following.{manufactured_follows}
 use Rattle.tpm_step.specs.history.View.{view_of}
-use Rattle.tpm_premises.specs.Devices.{AreTwoDevices, AreTwoSecrets, holding, seeded}
+use Rattle.tpm_premises.specs.Devices.{AreTwoDevices, AreTwoSecrets, holding_device, seeded_device}
 
-seeds_differ : seeded 0 ≢ seeded 1
+seeds_differ : seeded_device 0 ≢ seeded_device 1
 unfolding manufactured_hierarchies
 seeds_differ e =
     let seed : 0 ≡ 1 = ap (λ (r : Record). get_or r.fixed.hierarchies.owner.secrets.seed 0 0) e in
     omega (arith, seed)
 
-same_views : (handle : Handle) → view_of (seeded 0) handle ≡ view_of (seeded 1) handle
+same_views : (handle : Handle) → view_of (seeded_device 0) handle ≡ view_of (seeded_device 1) handle
 unfolding view_of entity_at object_of
 same_views handle = refl
 
@@ -36,7 +36,7 @@ first_byte : List (ℕ × NvIndex) → ℕ
 first_byte [] = 0
 first_byte (one ∷ others) = get_or one.1.bytes 0 0
 
-bytes_differ : holding 0 ≢ holding 1
+bytes_differ : holding_device 0 ≢ holding_device 1
 unfolding first_byte
 bytes_differ e =
     let byte : 0 ≡ 1 = ap (λ (r : Record). first_byte r.nv.indices) e in

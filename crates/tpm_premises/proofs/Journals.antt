@@ -14,7 +14,7 @@ use Rattle.tpm_journal.specs.Command.{entry_of}
 use Rattle.tpm_machine.proofs.Following.{execution_follows}
 use Rattle.tpm_step.proofs.history.FailedRun.{failed_run_is}
 use Rattle.tpm_step.specs.step.Execution.{Executes}
-use Rattle.tpm_step.specs.history.FailedRun.{tried, wrong_after, wrong_read, zeros}
+use Rattle.tpm_step.specs.history.FailedRun.{tried_device, wrong_after, wrong_read, zeros}
 use Rattle.tpm_premises.specs.Journals.{HasOneEntry, effect, given_command, refusal_step}
 
 -- ---- the parts of the entry
@@ -56,13 +56,13 @@ is_entry = record {
 
 -- ---- the command was executed
 
-executes : Executes false (tried 0 0 0) (wrong_after 0) refusal_step
+executes : Executes false (tried_device 0 0 0) (wrong_after 0) refusal_step
 executes = failed_run_is.leads.1
 
-passes : Passes false (new_completion 0) (tried 0 0 0) (wrong_after 0) effect
+passes : Passes false (new_completion 0) (tried_device 0 0 0) (wrong_after 0) effect
 passes = record {
   executes = executes;
-  history = λ history follows. execution_follows false (tried 0 0 0) (wrong_after 0) refusal_step history executes follows;
+  history = λ history follows. execution_follows false (tried_device 0 0 0) (wrong_after 0) refusal_step history executes follows;
   layer = refl;
   drawn = refl;
 }

@@ -12,26 +12,26 @@ use Rattle.tpm_types_command.specs.AuthEntry.{entry_at}
 use Rattle.tpm_types_command.specs.Command.{command_at}
 use Rattle.tpm_types_command.specs.Header.{header_at}
 use Rattle.tpm_step.specs.history.History.{Done}
-use Rattle.tpm_step.specs.history.Sessions.{LiveSession, sessions_of, start_key, started}
-use Rattle.tpm_premises.specs.Replays.{HasReplay, asking, buffer, entry, session, starting}
+use Rattle.tpm_step.specs.history.Sessions.{LiveSession, sessions_of, start_key, started_session}
+use Rattle.tpm_premises.specs.Replays.{HasReplay, buffer, entry, random_command, session, start_command}
 
-spelled : command_at buffer ≡ Ok (asking.command, [])
+spelled : command_at buffer ≡ Ok (random_command.command, [])
 unfolding command_at header_at code_named shape_of area_at entry_at
 spelled = refl
 
-lives : sessions_of (Done starting ∷ []) entry.session ≡ Some session
-unfolding started start_key parameters_in buffer_at session_type_at symmetric_at hash_at
+lives : sessions_of (Done start_command ∷ []) entry.session ≡ Some session
+unfolding started_session start_key parameters_in buffer_at session_type_at symmetric_at hash_at
 lives = refl
 
 -- the session after the command `asking`
 abbrev rolled_on : LiveSession
 rolled_on = record session { earlier_nonces = replicate 16 0 ∷ [] }
 
-lives_again : sessions_of (Done asking ∷ Done starting ∷ []) entry.session ≡ Some rolled_on
-unfolding started start_key parameters_in buffer_at session_type_at symmetric_at hash_at
+lives_again : sessions_of (Done random_command ∷ Done start_command ∷ []) entry.session ≡ Some rolled_on
+unfolding started_session start_key parameters_in buffer_at session_type_at symmetric_at hash_at
 lives_again = refl
 
-lives_on : sessions_of (Done asking ∷ Done starting ∷ []) entry.session ≢ None
+lives_on : sessions_of (Done random_command ∷ Done start_command ∷ []) entry.session ≢ None
 lives_on none = some_is_not_none rolled_on (sym lives_again ∙ none)
   where
     some_is_not_none : {X : Type 0} (x : X) → Some x ≢ None

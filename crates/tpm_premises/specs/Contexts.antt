@@ -5,7 +5,7 @@ use Rattle.tpm_types.specs.Handle.{is_transient}
 use Rattle.tpm_record.specs.IsRecord.{IsRecord}
 use Rattle.tpm_record.specs.Objects.{next_handle, object_at}
 use Rattle.tpm_record.specs.Record.{Record}
-use Rattle.tpm_step.specs.history.FailedRun.{tried}
+use Rattle.tpm_step.specs.history.FailedRun.{tried_device}
 use Rattle.tpm_step.specs.step.Placing.{placed}
 use Rattle.tpm_context.specs.Meaning.{IsMaking, Making, context_of}
 use Rattle.tpm_completion.specs.Completion.{new_completion}
@@ -17,7 +17,7 @@ use Rattle.tpm_premises.specs.Placed.{first_transient, saved_object}
 
 -- a started device without `saved_object`
 abbrev pub without_object : Record
-without_object = tried 1 0 0
+without_object = tried_device 1 0 0
 
 -- a device with one more copy of `saved_object`
 abbrev pub one_more : Record → Record
@@ -43,8 +43,8 @@ abbrev pub later_layer : Completion
 later_layer = counted first_layer 1
 
 -- the values from which the context of `saved_object` is made
-abbrev pub making : Making
-making = record {
+abbrev pub saved_making : Making
+saved_making = record {
   hierarchies = with_object.fixed.hierarchies;
   binding = binding_of with_object first_layer;
   sequence = 1;
@@ -62,8 +62,8 @@ pub record HasSavedObject : Type 0 where
   pub later_started : without_object.fixed.started ≡ true
   pub is_record : IsRecord without_object
   pub valid : StaysValid with_object without_object first_layer later_layer saved_object
-  pub is_making : IsMaking making
-  pub opens : object_opened without_object later_layer (context_of making) ≡ Ok saved_object
+  pub is_making : IsMaking saved_making
+  pub opens : object_opened without_object later_layer (context_of saved_making) ≡ Ok saved_object
   pub gone : object_at without_object.objects first_transient ≡ None
   pub free : next_handle without_object.objects ≡ Some first_transient
   pub full_is_record : IsRecord full

@@ -3,22 +3,22 @@ use Rattle.std.specs.Prelude.{◌≢◌, ℕ, true, [], ◌∷◌, replicate}
 use Rattle.tpm_record.specs.Record.{Record, manufactured}
 use Rattle.tpm_row_secrecy.specs.Secrecy.{DifferInSecrets, of_data}
 use Rattle.tpm_step.specs.uses.Alike.{AreAlike}
-use Rattle.tpm_step.specs.history.FailedRun.{protected_index, tried}
+use Rattle.tpm_step.specs.history.FailedRun.{protected_index, tried_device}
 
 -- a device whose seeds and proofs consist only of this byte
-abbrev pub seeded : (byte : ℕ) → Record
-seeded byte = manufactured (replicate 256 byte)
+abbrev pub seeded_device : (byte : ℕ) → Record
+seeded_device byte = manufactured (replicate 256 byte)
 
 -- Before any command, two devices with different seeds satisfy `AreAlike`: they follow the same
 -- history and show the same views.
 pub record AreTwoDevices : Type 0 where
-  pub alike : AreAlike (seeded 0) (seeded 1) []
-  pub differ : seeded 0 ≢ seeded 1
+  pub alike : AreAlike (seeded_device 0) (seeded_device 1) []
+  pub differ : seeded_device 0 ≢ seeded_device 1
 
 -- a device with an NV index that contains this byte eight times
-abbrev pub holding : (byte : ℕ) → Record
-holding byte =
-    let r : Record = tried 0 0 0 in
+abbrev pub holding_device : (byte : ℕ) → Record
+holding_device byte =
+    let r : Record = tried_device 0 0 0 in
     record r {
       nv = record r.nv {
         indices = (0x01000001, record protected_index { bytes = replicate 8 byte }) ∷ [];
@@ -27,5 +27,6 @@ holding byte =
 
 -- Two devices differ only in the data of an NV index, and this data is secret.
 pub record AreTwoSecrets : Type 0 where
-  pub secrets : DifferInSecrets (of_data (λ number. true) (λ public. true)) (holding 0) (holding 1)
-  pub differ : holding 0 ≢ holding 1
+  pub secrets : DifferInSecrets (of_data (λ number. true) (λ public. true))
+      (holding_device 0) (holding_device 1)
+  pub differ : holding_device 0 ≢ holding_device 1

@@ -8,7 +8,7 @@ use Rattle.tpm_types.specs.declared.symmetric.SymmetricDefinition.TheVariants as
 use Rattle.tpm_types_command.specs.AuthEntry.{Entry}
 use Rattle.tpm_record.specs.rows.Answer.{Plain, nothing}
 use Rattle.tpm_step.specs.history.History.{AcceptedCommand, Done}
-use Rattle.tpm_step.specs.uses.Replays.{IsReplay}
+use Rattle.tpm_step.specs.uses.Replays.{IsReplay, Replay}
 use Rattle.tpm_step.specs.history.Sessions.{LiveSession}
 use Rattle.tpm_step.specs.history.View.{OfHandle}
 
@@ -22,8 +22,8 @@ start_parameters =
     0x00 ∷ 0x10 ∷ replicate 16 0 ++ 0x00 ∷ 0x00 ∷ 0x00 ∷ 0x00 ∷ 0x10 ∷ 0x00 ∷ 0x0b ∷ []
 
 -- TPM2_StartAuthSession, which started a session with the handle 02000000
-abbrev pub starting : AcceptedCommand
-starting = record {
+abbrev pub start_command : AcceptedCommand
+start_command = record {
   command = record {
     code = command.StartAuthSession;
     handles = null_handle ∷ null_handle ∷ [];
@@ -42,7 +42,7 @@ starting = record {
   sensitive = None;
 }
 
--- the session that the command `starting` started
+-- the session that the command `start_command` started
 abbrev pub session : LiveSession
 session = record {
   kind = type.Hmac;
@@ -72,8 +72,8 @@ buffer =
     ∷ 0x00 ∷ 0x04 ∷ 1 ∷ 2 ∷ 3 ∷ 4 ∷ 0x00 ∷ 0x08 ∷ []
 
 -- the command in `buffer`, as a history records it
-abbrev pub asking : AcceptedCommand
-asking = record {
+abbrev pub random_command : AcceptedCommand
+random_command = record {
   command = record {
     code = command.GetRandom;
     handles = [];
@@ -92,6 +92,19 @@ asking = record {
   sensitive = None;
 }
 
+-- the command `asking`, accepted twice, one right after the other
+abbrev pub asked_twice : Replay
+asked_twice = record {
+  buffer = buffer;
+  before = Done start_command ∷ [];
+  first = random_command;
+  between = [];
+  second = random_command;
+  place = 0;
+  entry = entry;
+  session = session;
+}
+
 -- The buffer occurs twice in a history, and the second time it is a replay.
 abbrev pub HasReplay : Type 0
-HasReplay = IsReplay buffer (Done starting ∷ []) asking [] asking 0 entry session
+HasReplay = IsReplay asked_twice

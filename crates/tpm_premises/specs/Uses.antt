@@ -25,8 +25,8 @@ sealed_data = record {
 }
 
 -- TPM2_Unseal of an object with the public area `sealed_data`, as a history records it
-abbrev pub unsealing : AcceptedCommand
-unsealing = record {
+abbrev pub unseal_command : AcceptedCommand
+unseal_command = record {
   command = record {
     code = command.Unseal;
     handles = numbered 0x80000000 ∷ [];
@@ -46,4 +46,4 @@ unsealing = record {
 }
 
 abbrev pub HasUse : Type 0
-HasUse = UsesObject unsealing 0 sealed_data by_value
+HasUse = UsesObject unseal_command 0 sealed_data by_value

@@ -45,7 +45,7 @@ use Rattle.tpm_types_object.specs.declared.public.Public.{Public}
 use Rattle.tpm_secrecy.proofs.Reading.{ReadsObject, first_used, object_entity, object_handle_fits, reading_code, reads_object}
 use Rattle.tpm_secrecy.proofs.SealedData.{IsRead, accepted_so, read_decoded, unread_tells_nothing}
 use Rattle.tpm_secrecy.specs.AnyDevice.{AcceptsReading, HasDigest, IsAcceptedReading, SealedDataNeedDigest}
-use Rattle.tpm_secrecy.specs.SealedData.{sealed}
+use Rattle.tpm_secrecy.specs.SealedData.{sealed_secrecy}
 use Rattle.tpm_secrecy.specs.Tells.{is_reading}
 use Rattle.tpm_commands.specs.declared.command_code.CommandCode.TheVariants as command
 use Rattle.tpm_record.specs.declared.entity.Means.TheVariants as means
@@ -223,7 +223,7 @@ module _ (objects : Public → Bool) (old : Record) (buffer : List ℕ) (localit
           ap (λ (c : CommandCode). slice_get (take (authorized_handles c) f.c.handles) 0) so.code_is
           ∙ first_used sign f.c.handles so.handle so.first
 
-accepted_reading : (objects : Public → Bool) (old : Record) (event : PlainEvent) → is_reading (sealed objects) old event ≡ true → IsAcceptedReading objects old event
+accepted_reading : (objects : Public → Bool) (old : Record) (event : PlainEvent) → is_reading (sealed_secrecy objects) old event ≡ true → IsAcceptedReading objects old event
 accepted_reading objects old (Given buffer locality elapsed random) is =
     accepts_reading objects old buffer locality elapsed random
     (read_decoded objects (ticked old elapsed) buffer locality random (general (ticked old elapsed) buffer) refl is)
@@ -232,7 +232,7 @@ accepted_reading objects old (Placed object) is = absurd (false≢true is)
 
 pub sealed_data_need_digest : SealedDataNeedDigest
 sealed_data_need_digest objects can old event x executes =
-    elim (cases_Bool (is_reading (sealed objects) old event)) [
+    elim (cases_Bool (is_reading (sealed_secrecy objects) old event)) [
       | inl is ↦ inr (accepted_reading objects old event is)
       | inr free ↦ inl (unread_tells_nothing objects can old event x executes.steps free)
     ]

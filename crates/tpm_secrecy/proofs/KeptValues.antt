@@ -47,7 +47,7 @@ use Rattle.tpm_step.proofs.rows.Binding.{ok_bind, ok_bind_is, some_is}
 use Rattle.tpm_step.proofs.rows.HandleRules.{first_fits}
 use Rattle.tpm_step.proofs.rows.Table.{of_success, row_touches}
 use Rattle.tpm_step.specs.step.Table.{row_of}
-use Rattle.tpm_step.specs.history.Tries.{touched}
+use Rattle.tpm_step.specs.history.Tries.{touched_protection}
 use Rattle.tpm_step.specs.rows.Footprint.{Touches}
 use Rattle.tpm_step.specs.rows.Handles.{HandlesFit}
 use Rattle.tpm_types.specs.AuthValue.{auth_value_at}

@@ -33,7 +33,7 @@ use Rattle.tpm_types.specs.declared.refused.Refused.{Refused}
 use Rattle.tpm_types_object.specs.declared.public.Public.{Public}
 use Rattle.tpm_row_secrecy.specs.Reads.{handle_passes, is_secret_counter, is_secret_index, names_index, names_policy_session, names_secret_object, reads_secret}
 use Rattle.tpm_row_secrecy.specs.Secrecy.{Secrecy, has_secret_data}
-use Rattle.tpm_secrecy.specs.SealedData.{sealed}
+use Rattle.tpm_secrecy.specs.SealedData.{sealed_secrecy}
 use Rattle.tpm_commands.specs.declared.command_code.CommandCode.TheVariants as command
 use Rattle.tpm_commands.specs.declared.shape.HandleKind.TheVariants as handle_kind
 use Rattle.tpm_types.specs.declared.action_check.ActionCheck.TheVariants as action
@@ -96,7 +96,7 @@ found_object test None is = absurd (false≢true is)
 
 module _ (objects : Public → Bool) (r : Record) (q : Request) where
   abbrev s : Secrecy
-  s = sealed objects
+  s = sealed_secrecy objects
 
   of_object : (c : CommandCode) (row : Result Success Refused) → row_of r c q ≡ row → (handle_passes (names_secret_object s r) (first_handle q.handles) && is_ok row) ≡ true → ((handle : Handle) (o : Object) → first_handle q.handles ≡ Ok handle → object_of r handle ≡ Some o → IfOk row (λ x. c ≡ reading_code o.public)) → ReadsObject objects r c q
   of_object c row same is so =

@@ -40,17 +40,17 @@ use Rattle.tpm_row_secrecy.specs.Reads.{reads_secret}
 use Rattle.tpm_row_secrecy.specs.Secrecy.{DifferInSecrets}
 use Rattle.tpm_secrecy.proofs.Data.{alike_told_nothing}
 use Rattle.tpm_secrecy.proofs.Reading.{ReadsObject, first_used, first_viewed, never_grows, object_handle_fits, object_viewed, reading_code, reads_object}
-use Rattle.tpm_secrecy.specs.SealedData.{FollowedDataNeedPolicy, FollowedDataStayUntilRead, NoneIs, ReadsSealed, SealedDataNeedPolicy, SealedDataStayUntilRead, StaySealed, TellsNothingSealed, sealed}
+use Rattle.tpm_secrecy.specs.SealedData.{FollowedDataNeedPolicy, FollowedDataStayUntilRead, NoneIs, ReadsSealed, SealedDataNeedPolicy, SealedDataStayUntilRead, StaySealed, TellsNothingSealed, sealed_secrecy}
 use Rattle.tpm_secrecy.specs.Tells.{TellsNothing, decoded_reads, granted_reads, is_reading}
 use Rattle.tpm_types_object.specs.declared.object_attributes.ObjectAttribute.TheVariants as attribute
 
 -- ---- events that reveal nothing
 
-pub unread_tells_nothing : (objects : Public → Bool) (can : Bool) (old : Record) (event : PlainEvent) (x : Stepped) → Steps can old event x → is_reading (sealed objects) old event ≡ false → TellsNothingSealed objects can old event x
+pub unread_tells_nothing : (objects : Public → Bool) (can : Bool) (old : Record) (event : PlainEvent) (x : Stepped) → Steps can old event x → is_reading (sealed_secrecy objects) old event ≡ false → TellsNothingSealed objects can old event x
 unread_tells_nothing objects can old event x steps free other also differ alike = (
   step_where steps.0 other also,
   (steps.0, steps.1, refl),
-  subst (λ (z : Stepped). TellsNothing (sealed objects) z (step_where steps.0 other also)) (sym steps.2)
+  subst (λ (z : Stepped). TellsNothing (sealed_secrecy objects) z (step_where steps.0 other also)) (sym steps.2)
       (alike_told_nothing (λ number. false) objects old other steps.0 event also differ alike free),
 )
 
@@ -62,14 +62,14 @@ pub record IsRead (objects : Public → Bool) (r : Record) (buffer : List ℕ) (
   pub decoded : general r buffer ≡ Ok c
   pub grants : List (Option Grant)
   pub granted : authorize r c locality ≡ Ok grants
-  pub reads : reads_secret (sealed objects) r c.code (request_in r c grants locality random) ≡ true
+  pub reads : reads_secret (sealed_secrecy objects) r c.code (request_in r c grants locality random) ≡ true
 
 module _ (objects : Public → Bool) (r : Record) (buffer : List ℕ) (locality : ℕ) (random : List ℕ) where
-  read_granted : (c : Whole) → general r buffer ≡ Ok c → (x : Result (List (Option Grant)) Refused) → authorize r c locality ≡ x → granted_reads (sealed objects) r c locality random x ≡ true → IsRead objects r buffer locality random
+  read_granted : (c : Whole) → general r buffer ≡ Ok c → (x : Result (List (Option Grant)) Refused) → authorize r c locality ≡ x → granted_reads (sealed_secrecy objects) r c locality random x ≡ true → IsRead objects r buffer locality random
   read_granted c decoded (Ok grants) granted is = record { c = c; decoded = decoded; grants = grants; granted = granted; reads = is }
   read_granted c decoded (Err e) granted is = absurd (false≢true is)
 
-  pub read_decoded : (x : Result Whole RefusedCommand) → general r buffer ≡ x → decoded_reads (sealed objects) r locality random x ≡ true → IsRead objects r buffer locality random
+  pub read_decoded : (x : Result Whole RefusedCommand) → general r buffer ≡ x → decoded_reads (sealed_secrecy objects) r locality random x ≡ true → IsRead objects r buffer locality random
   read_decoded (Ok c) decoded is = read_granted c decoded (authorize r c locality) refl is
   read_decoded (Err e) decoded is = absurd (false≢true is)
 
@@ -163,7 +163,7 @@ module _ (objects : Public → Bool) (can : Bool) (old : Record) (history : Hist
           ap (λ (c : CommandCode). slice_get (take (authorized_handles c) f.c.handles) 0) so.code_is
           ∙ first_used sign f.c.handles so.handle so.first
 
-  event_reading : (event : PlainEvent) (x : Stepped) → Executes can old event x → is_reading (sealed objects) old event ≡ true → IsRecordedReading event x
+  event_reading : (event : PlainEvent) (x : Stepped) → Executes can old event x → is_reading (sealed_secrecy objects) old event ≡ true → IsRecordedReading event x
   event_reading (Given buffer locality elapsed bytes) x executes is =
       recorded_reading buffer locality elapsed bytes x executes (read_decoded objects (ticked old elapsed) buffer locality bytes (general (ticked old elapsed) buffer) refl is)
   event_reading Cycled x executes is = absurd (false≢true is)
@@ -171,7 +171,7 @@ module _ (objects : Public → Bool) (can : Bool) (old : Record) (history : Hist
 
 pub followed_data_need_policy : FollowedDataNeedPolicy
 followed_data_need_policy objects can old history follows event x executes =
-    elim (cases_Bool (is_reading (sealed objects) old event)) [
+    elim (cases_Bool (is_reading (sealed_secrecy objects) old event)) [
       | inl is ↦ inr (event_reading objects can old history follows event x executes is)
       | inr free ↦ inl (unread_tells_nothing objects can old event x executes.steps free)
     ]
@@ -187,7 +187,7 @@ module _ (objects : Public → Bool) (can : Bool) (Holds : History → AcceptedC
       ]
 
   pub all_stay : (old : Record) (history : History) → Follows old history → (executions : List Execution) (new : Record) → Leads can old executions new → NoneIs Holds history executions → StaySealed objects can old executions new
-  all_stay old history follows [] new led none other differ = subst (λ (r : Record). DifferInSecrets (sealed objects) r other) (sym led) differ
+  all_stay old history follows [] new led none other differ = subst (λ (r : Record). DifferInSecrets (sealed_secrecy objects) r other) (sym led) differ
   all_stay old history follows (one ∷ executions) new led none other differ = λ also alike.
       let executes : Executes can old one.event one.seen = led.1 in
       let same : with_execution one history ≡ recorded old one.event one.seen.row.check history = ap (λ (r : Record). recorded r one.event one.seen.row.check history) led.0 in

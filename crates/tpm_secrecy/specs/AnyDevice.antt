@@ -37,21 +37,21 @@ pub record HasDigest (r : Record) (c : Whole) (hash : HashAlg) (digest : List �
 -- An accepted command reads the secret data of an object with one of these public areas:
 -- TPM2_HMAC if the object signs, otherwise TPM2_Unseal. If the object has no userWithAuth, a
 -- policy session authorized the command, and its policyDigest is the object's authPolicy.
-pub record AcceptsReading (objects : Public → Bool) (r : Record) (buffer : List ℕ) (locality : ℕ)
-    (random : List ℕ) : Type 0
+pub record AcceptsReading (objects : Public → Bool) (device : Record) (buffer : List ℕ)
+    (locality : ℕ) (random : List ℕ) : Type 0
   where
     pub done : Accepted
-    pub is : accepted r buffer locality random ≡ Ok done
+    pub is : accepted device buffer locality random ≡ Ok done
     pub handle : Handle
     pub first : slice_get done.command.handles 0 ≡ Some handle
     pub object : Object
-    pub found : object_of r handle ≡ Some object
+    pub found : object_of device handle ≡ Some object
     pub keyed_hash : is_keyed_hash object.public ≡ true
     pub secret : objects object.public ≡ true
     pub code : done.command.code
         ≡ (if has object.public.attributes attribute.Sign then command.Hmac else command.Unseal)
     pub policy : has object.public.attributes attribute.UserWithAuth ≡ false
-        → HasDigest r done.command object.public.name_alg object.public.auth_policy
+        → HasDigest device done.command object.public.name_alg object.public.auth_policy
 
 abbrev pub IsAcceptedReading : (Public → Bool) → Record → PlainEvent → Type 0
 IsAcceptedReading objects r (Given buffer locality elapsed random) =

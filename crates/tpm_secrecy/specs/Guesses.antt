@@ -13,7 +13,7 @@ use Rattle.tpm_record.specs.Record.{Record}
 use Rattle.tpm_session.specs.Sessions.{session_at}
 use Rattle.tpm_session.specs.declared.session.Session.{Session}
 use Rattle.tpm_step.specs.step.Granted.{Granted}
-use Rattle.tpm_step.specs.history.Sessions.{used}
+use Rattle.tpm_step.specs.history.Sessions.{used_session}
 use Rattle.tpm_types.specs.Handle.{session_kind}
 use Rattle.tpm_types.specs.declared.handle.Handle.{Handle}
 use Rattle.tpm_types.specs.declared.handle.SessionKind.{SessionKind}
@@ -59,18 +59,19 @@ uses_encryption e = decrypts e || encrypts e
 -- decrypts a parameter. The key for a parameter contains the value even if the policy does not
 -- require the value.
 abbrev pub session_uses : Secrecy → Record → Session → Entry → Option Grant → Bool
-session_uses s r x e granted =
-    has_secret_key s x.binding
-    || authorizes_secret s r granted
-    && (is_hmac_session x.kind || demands_value granted || uses_encryption e)
+session_uses secrecy device session entry granted =
+    has_secret_key secrecy session.binding
+    || authorizes_secret secrecy device granted
+    && (is_hmac_session session.kind || demands_value granted || uses_encryption entry)
 
 -- whether an entry with this grant uses a secret; a password uses the authorization value of the
 -- entity that it authorizes
 abbrev pub uses_by : SessionKind → Secrecy → Record → Entry → Option Grant → Bool
-uses_by kind.Password s r e granted = authorizes_secret s r granted
-uses_by kind.Session s r e granted =
-    option_map_or (λ (x : Session). session_uses s r x e granted) (session_of r e) false
-uses_by kind.Other s r e granted = false
+uses_by kind.Password secrecy device entry granted = authorizes_secret secrecy device granted
+uses_by kind.Session secrecy device entry granted =
+    option_map_or (λ (x : Session). session_uses secrecy device x entry granted)
+    (session_of device entry) false
+uses_by kind.Other secrecy device entry granted = false
 
 abbrev pub uses_secret : Secrecy → Record → Entry → Option Grant → Bool
 uses_secret s r e granted = uses_by (session_kind e.session) s r e granted
@@ -85,34 +86,37 @@ NoneUses s r (g ∷ granted) = (uses_secret s r g.0 g.1 ≡ false) × NoneUses s
 -- whether an entry that has to authorize this handle uses a secret, given what the policy of its
 -- session requires in the entry. If the policy does not authorize the handle, nothing is compared
 abbrev pub demand_uses : Secrecy → Record → Handle → Session → Entry → Result Demand Refused → Bool
-demand_uses s r handle x e (Ok d) =
-    session_uses s r x e (Some (record { handle = handle; demand = d }))
-demand_uses s r handle x e (Err refused) = false
+demand_uses secrecy device handle session entry (Ok d) =
+    session_uses secrecy device session entry (Some (record { handle = handle; demand = d }))
+demand_uses secrecy device handle session entry (Err refused) = false
 
 -- whether entry n, which names this session, uses a secret. The entry has to authorize this handle,
 -- or no handle in the case of None
-abbrev pub session_guesses : Secrecy → Record → Whole → (locality n : ℕ) → Option Handle → Entry
-    → Session → Bool
-session_guesses s r c locality n None e x = session_uses s r x e None
-session_guesses s r c locality n (Some handle) e x =
-    demand_uses s r handle x e (demanded r c locality n handle x)
+abbrev pub session_guesses : Secrecy → Record → Whole → (locality position : ℕ) → Option Handle
+    → Entry → Session → Bool
+session_guesses secrecy device command locality position None entry session =
+    session_uses secrecy device session entry None
+session_guesses secrecy device command locality position (Some handle) entry session =
+    demand_uses secrecy device handle session entry
+    (demanded device command locality position handle session)
 
-abbrev pub guesses_by : SessionKind → Secrecy → Record → Whole → (locality n : ℕ) → Option Handle
-    → Entry → Bool
-guesses_by kind.Password s r c locality n used e =
-    authorizes_secret s r (option_map undemanding used)
-guesses_by kind.Session s r c locality n used e =
-    option_map_or (session_guesses s r c locality n used e) (session_of r e) false
-guesses_by kind.Other s r c locality n used e = false
+abbrev pub guesses_by : SessionKind → Secrecy → Record → Whole → (locality position : ℕ)
+    → Option Handle → Entry → Bool
+guesses_by kind.Password secrecy device command locality position used entry =
+    authorizes_secret secrecy device (option_map undemanding used)
+guesses_by kind.Session secrecy device command locality position used entry =
+    option_map_or (session_guesses secrecy device command locality position used entry)
+    (session_of device entry) false
+guesses_by kind.Other secrecy device command locality position used entry = false
 
 -- whether the entry at this position of a command, counted from 0, is a guess. In a guess, the
 -- password or the HMAC is compared with a value computed from a secret. An entry is also a guess if
 -- it encrypts or decrypts a parameter with a key computed from a secret, although the key is not
 -- compared with anything
 abbrev pub is_guess : Secrecy → Record → Whole → (locality place : ℕ) → Entry → Bool
-is_guess s r c locality place e =
-    guesses_by (session_kind e.session) s r c locality (place + 1)
-    (slice_get (authorized c) place) e
+is_guess secrecy device command locality place entry =
+    guesses_by (session_kind entry.session) secrecy device command locality (place + 1)
+    (slice_get (authorized command) place) entry
 
 -- Every guess among the entries of a command is refused. This includes the entries after the first
 -- refused entry, although the device does not examine them.

@@ -28,8 +28,8 @@ use Rattle.tpm_types_object.specs.declared.object_attributes.ObjectAttribute.The
 use Rattle.tpm_commands.specs.declared.command_code.CommandCode.TheVariants as command
 
 -- the choice that only the sealed data or keys of objects with these public areas are secret
-abbrev pub sealed : (Public → Bool) → Secrecy
-sealed objects = of_data (λ number. false) objects
+abbrev pub sealed_secrecy : (Public → Bool) → Secrecy
+sealed_secrecy objects = of_data (λ number. false) objects
 
 -- ---- an accepted command that reads sealed data
 
@@ -57,9 +57,9 @@ pub record ReadsSealed (objects : Public → Bool) (history : History) (c : Acce
 -- data.
 abbrev pub TellsNothingSealed : (Public → Bool) → Bool → Record → PlainEvent → Stepped → Type 0
 TellsNothingSealed objects can old event x =
-    (other : Record) (also : PlainEvent) → DifferInSecrets (sealed objects) old other
-    → EventsAlike (sealed objects) event also
-    → (y : Stepped) × Steps can other also y × TellsNothing (sealed objects) x y
+    (other : Record) (also : PlainEvent) → DifferInSecrets (sealed_secrecy objects) old other
+    → EventsAlike (sealed_secrecy objects) event also
+    → (y : Stepped) × Steps can other also y × TellsNothing (sealed_secrecy objects) x y
 
 -- On a device that follows a history, an execution reveals nothing about sealed data, unless the
 -- history records it as an accepted command that reads the data.
@@ -96,9 +96,9 @@ NoneIs Holds history (one ∷ executions) =
 -- `other` can execute the same events with the same responses and rows, and then differs from `new`
 -- only in sealed data. Objects that the events place on the other device may differ in this data.
 abbrev pub LeadsAlike : (Public → Bool) → Bool → Record → List Execution → Record → Type 0
-LeadsAlike objects can other [] new = DifferInSecrets (sealed objects) new other
+LeadsAlike objects can other [] new = DifferInSecrets (sealed_secrecy objects) new other
 LeadsAlike objects can other (one ∷ executions) new =
-    (also : PlainEvent) → EventsAlike (sealed objects) one.event also
+    (also : PlainEvent) → EventsAlike (sealed_secrecy objects) one.event also
     → (y : Stepped) × Steps can other also y × (y.response ≡ one.seen.response)
     × (y.row ≡ one.seen.row) × LeadsAlike objects can y.after executions new
 
@@ -106,7 +106,7 @@ LeadsAlike objects can other (one ∷ executions) new =
 -- this data can have the same responses and rows for all of the events.
 abbrev pub StaySealed : (Public → Bool) → Bool → Record → List Execution → Record → Type 0
 StaySealed objects can old executions new =
-    (other : Record) → DifferInSecrets (sealed objects) old other
+    (other : Record) → DifferInSecrets (sealed_secrecy objects) old other
     → LeadsAlike objects can other executions new
 
 -- On a device that follows a history, executions reveal nothing about sealed data until a command
@@ -144,11 +144,11 @@ disk_policy hash selection values name reference =
 -- proves one of two things. Either the PCRs had these values, and the PIN, which is the key's
 -- authorization value, was presented; or the recovery secret was presented.
 pub record OpensDiskKey (public : Public) (selection : List BankSelection)
-    (values name reference : List ℕ) (history : History) (c : AcceptedCommand) : Type 0
+    (values name reference : List ℕ) (history : History) (accepted : AcceptedCommand) : Type 0
   where
-    pub code : c.command.code ≡ command.Unseal
-    pub viewed : slice_get c.views 0 ≡ Some (OfObject public)
-    pub by : IsUsedBySession history c 0 public.name_alg
+    pub code : accepted.command.code ≡ command.Unseal
+    pub viewed : slice_get accepted.views 0 ≡ Some (OfObject public)
+    pub by : IsUsedBySession history accepted 0 public.name_alg
         (disk_policy public.name_alg selection values name reference)
         (λ u. HavePcrValues history public.name_alg selection values × ShowsAuthValue u
         ⊎ ShowsSecret history u.entry.session name reference)

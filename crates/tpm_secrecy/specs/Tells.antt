@@ -25,21 +25,22 @@ use Rattle.tpm_secrecy.specs.Guesses.{BindingsHold, GuessesFail}
 -- reads no secret data
 abbrev pub granted_reads : Secrecy → Record → Whole → (locality : ℕ) → (random : List ℕ)
     → Result (List (Option Grant)) Refused → Bool
-granted_reads s r c locality random (Ok grants) =
-    reads_secret s r c.code (request_in r c grants locality random)
-granted_reads s r c locality random (Err e) = false
+granted_reads secrecy device command locality random (Ok grants) =
+    reads_secret secrecy device command.code (request_in device command grants locality random)
+granted_reads secrecy device command locality random (Err e) = false
 
 -- whether a command is authorized and reads secret data
 abbrev pub command_reads : Secrecy → Record → (locality : ℕ) → (random : List ℕ) → Whole → Bool
-command_reads s r locality random c =
-    granted_reads s r c locality random (authorize r c locality)
+command_reads secrecy device locality random command =
+    granted_reads secrecy device command locality random (authorize device command locality)
 
 -- whether a buffer contains a command that passes the general checks, is authorized, and reads
 -- secret data
 abbrev pub decoded_reads : Secrecy → Record → (locality : ℕ) → (random : List ℕ)
     → Result Whole RefusedCommand → Bool
-decoded_reads s r locality random (Ok c) = command_reads s r locality random c
-decoded_reads s r locality random (Err e) = false
+decoded_reads secrecy device locality random (Ok command) =
+    command_reads secrecy device locality random command
+decoded_reads secrecy device locality random (Err e) = false
 
 -- whether an event reads secret data; a power cycle does not, nor does placing an object
 abbrev pub is_reading : Secrecy → Record → PlainEvent → Bool
@@ -120,9 +121,10 @@ AttemptsAlike s (e ∷ es) [] = ⊥
 
 -- Two devices return the same responses and report the same rows, the first for `events` and the
 -- second for `others`, and afterwards differ only in secrets.
-pub record RunsAlike (s : Secrecy) (one other : Record) (events others : Attempts) : Type 0 where
-  pub answers : answers_to one events ≡ answers_to other others
-  pub after : DifferInSecrets s (after_all one events) (after_all other others)
+pub record RunsAlike (secrecy : Secrecy) (one other : Record) (events others : Attempts) : Type 0
+  where
+    pub answers : answers_to one events ≡ answers_to other others
+    pub after : DifferInSecrets secrecy (after_all one events) (after_all other others)
 
 -- Two devices that differ only in secret data return the same responses and report the same rows
 -- for all events before the first event that reads the data.
@@ -137,12 +139,12 @@ RunTellsNothing =
 
 -- In a command that passed the general checks, all guesses fail, and the command reads no secret
 -- data. The bindings of the device's sessions satisfy `BindingHolds`.
-pub record KeepsSecrets (s : Secrecy) (r : Record) (c : Whole) (locality : ℕ) (random : List ℕ)
-    : Type 0
+pub record KeepsSecrets (secrecy : Secrecy) (device : Record) (command : Whole) (locality : ℕ)
+    (random : List ℕ) : Type 0
   where
-    pub reads : command_reads s r locality random c ≡ false
-    pub guesses : GuessesFail s r c locality
-    pub bindings : BindingsHold s r
+    pub reads : command_reads secrecy device locality random command ≡ false
+    pub guesses : GuessesFail secrecy device command locality
+    pub bindings : BindingsHold secrecy device
 
 abbrev pub EventKeepsSecrets : Secrecy → Record → PlainEvent → Type 0
 EventKeepsSecrets s r (Given buffer locality elapsed random) =

@@ -22,7 +22,7 @@ use Rattle.tpm_step.specs.uses.AssertedBy.{Stands, StandsThrough}
 use Rattle.tpm_step.specs.history.AuthValues.{auth_of}
 use Rattle.tpm_step.specs.history.HandleMap.{by_handle, with_at}
 use Rattle.tpm_step.specs.history.History.{AcceptedCommand, Done, History, ObjectPlaced, PastEvent, PowerCycled}
-use Rattle.tpm_step.specs.history.Sessions.{Bound, LiveSession, LiveSessions, bound_in, changed_session, entries_ended, entries_rolled, entry_ended, entry_rolled, nonce_size, restarted, rolled_by, sessions_by, sessions_of, started, started_by, used, used_by, with_nonce, with_started, without_session}
+use Rattle.tpm_step.specs.history.Sessions.{Bound, LiveSession, LiveSessions, bound_in, changed_session, entries_ended, entries_rolled, entry_ended, entry_rolled, nonce_size, restarted_session, rolled_by, sessions_by, sessions_of, started_by, started_session, used_by, used_session, with_nonce, with_started, without_session}
 use Rattle.tpm_step.specs.rows.Draws.{draws_of}
 use Rattle.tpm_step.proofs.history.HandleMap.{at_other, at_same, same_handle}
 use Rattle.tpm_session_laws.specs.Assertions.{LeavesNoAssertion, NoneStandsThrough}
@@ -40,7 +40,7 @@ bare_changed : (change : LiveSession → LiveSession) → AddsNone change → (f
 bare_changed change adds None bare = tt
 bare_changed change adds (Some s) bare = adds s bare
 
-bare_restarted : (found : Option LiveSession) → IsBare (option_map restarted found)
+bare_restarted : (found : Option LiveSession) → IsBare (option_map restarted_session found)
 bare_restarted None = tt
 bare_restarted (Some s) = refl
 
@@ -59,7 +59,7 @@ changed_bare change adds handle other live bare =
 
 -- ---- the effect of entries on assertions
 
-used_none : AddsNone used
+used_none : AddsNone used_session
 used_none s bare = by s.kind
   where
     by : (kind : SessionType) → (used_by kind s).assertions ≡ []
@@ -70,8 +70,8 @@ used_none s bare = by s.kind
 end_bare : (live : LiveSessions) (e : Entry) (grant : Option Grant) (handle : Handle) → IsBare (live handle) → IsBare (entry_ended live e grant handle)
 end_bare live e grant handle bare = by (continues_session e.attributes) (is_some grant)
   where
-    by : (continues grants : Bool) → IsBare (cond continues (cond grants (changed_session used e.session live) live) (without_session e.session live) handle)
-    by true true = changed_bare used used_none e.session handle live bare
+    by : (continues grants : Bool) → IsBare (cond continues (cond grants (changed_session used_session e.session live) live) (without_session e.session live) handle)
+    by true true = changed_bare used_session used_none e.session handle live bare
     by true false = bare
     by false grants = put_bare e.session handle None live (λ same. tt) bare
 
@@ -92,14 +92,14 @@ begun_bare : (p : Result Parameters Refused) (bound : Option Bound) (random : Li
 begun_bare (Ok p) bound random = refl
 begun_bare (Err e) bound random = tt
 
-started_bare : (c : AcceptedCommand) (auth_values : List (List ℕ)) → IsBare (started c auth_values)
-unfolding started
+started_bare : (c : AcceptedCommand) (auth_values : List (List ℕ)) → IsBare (started_session c auth_values)
+unfolding started_session
 started_bare c auth_values = begun_bare (parameters_in c.request.parameters) (bound_in c.request.handles c.views auth_values) c.request.random
 
-restart_bare : (named : Result Handle Refused) (handle : Handle) (live : LiveSessions) → named ≡ Ok handle → IsBare (by_handle named (changed_session restarted) live handle)
+restart_bare : (named : Result Handle Refused) (handle : Handle) (live : LiveSessions) → named ≡ Ok handle → IsBare (by_handle named (changed_session restarted_session) live handle)
 restart_bare named handle live is =
-    subst (λ (n : Result Handle Refused). IsBare (by_handle n (changed_session restarted) live handle)) (sym is)
-    (subst IsBare (sym (at_same handle handle (option_map restarted (live handle)) live refl)) (bare_restarted (live handle)))
+    subst (λ (n : Result Handle Refused). IsBare (by_handle n (changed_session restarted_session) live handle)) (sym is)
+    (subst IsBare (sym (at_same handle handle (option_map restarted_session (live handle)) live refl)) (bare_restarted (live handle)))
 
 start_bare : (made : Option Handle) (handle : Handle) (new : Option LiveSession) (live : LiveSessions) → made ≡ Some handle → IsBare new → IsBare (by_handle (ok_or made handle_refusal) (λ at. with_at at new) live handle)
 start_bare made handle new live is bare =
@@ -114,7 +114,7 @@ module _ (c : AcceptedCommand) (history : History) (handle : Handle) where
   row_bare (inl (code, named)) = subst RowBare (sym code) (restart_bare (first_handle c.request.handles) handle (sessions_of history) named)
   row_bare (inr (code, answered)) =
       subst RowBare (sym code)
-      (start_bare c.answer.handle handle (started c (map (auth_of history) c.request.handles)) (sessions_of history) answered (started_bare c (map (auth_of history) c.request.handles)))
+      (start_bare c.answer.handle handle (started_session c (map (auth_of history) c.request.handles)) (sessions_of history) answered (started_bare c (map (auth_of history) c.request.handles)))
 
   done_bare : LeavesNoAssertion (Done c) handle → IsBare (sessions_of (Done c ∷ history) handle)
   done_bare leaves =

@@ -9,7 +9,7 @@ use Rattle.tpm_types.specs.declared.session_type.SessionType.TheVariants as type
 use Rattle.tpm_types_command.specs.AuthEntry.{Entry}
 use Rattle.tpm_auth.specs.declared.session_grant.Grant.{Grant}
 use Rattle.tpm_step.specs.history.History.{AcceptedCommand, Done, History}
-use Rattle.tpm_step.specs.history.Sessions.{LiveSession, LiveSessions, changed_session, entries_ended, entries_rolled, entry_ended, entry_rolled, nonce_size, rolled_by, sessions_by, sessions_of, used, used_by, with_nonce, without_session}
+use Rattle.tpm_step.specs.history.Sessions.{LiveSession, LiveSessions, changed_session, entries_ended, entries_rolled, entry_ended, entry_rolled, nonce_size, rolled_by, sessions_by, sessions_of, used_by, used_session, with_nonce, without_session}
 use Rattle.tpm_step.specs.rows.Draws.{draws_of}
 use Rattle.tpm_step.proofs.history.HandleMap.{at_same}
 use Rattle.tpm_session_laws.specs.Nonces.{AddsItsNonce}
@@ -24,15 +24,15 @@ used_had type.Hmac s = refl
 used_had type.Policy s = refl
 used_had type.Trial s = refl
 
-map_had : (nonces : List (List ℕ)) (found : Option LiveSession) → Had nonces found → Had nonces (option_map used found)
+map_had : (nonces : List (List ℕ)) (found : Option LiveSession) → Had nonces found → Had nonces (option_map used_session found)
 map_had nonces None had = tt
 map_had nonces (Some s) had = used_had s.kind s ∙ had
 
 end_had : (nonces : List (List ℕ)) (live : LiveSessions) (e : Entry) (grant : Option Grant) → Had nonces (live e.session) → Had nonces (entry_ended live e grant e.session)
 end_had nonces live e grant had = by (continues_session e.attributes) (is_some grant)
   where
-    by : (continues grants : Bool) → Had nonces (cond continues (cond grants (changed_session used e.session live) live) (without_session e.session live) e.session)
-    by true true = subst (Had nonces) (sym (at_same e.session e.session (option_map used (live e.session)) live refl)) (map_had nonces (live e.session) had)
+    by : (continues grants : Bool) → Had nonces (cond continues (cond grants (changed_session used_session e.session live) live) (without_session e.session live) e.session)
+    by true true = subst (Had nonces) (sym (at_same e.session e.session (option_map used_session (live e.session)) live refl)) (map_had nonces (live e.session) had)
     by true false = had
     by false grants = subst (Had nonces) (sym (at_same e.session e.session None live refl)) tt
 

@@ -32,7 +32,7 @@ ghost use Rattle.tpm_step.specs.history.DeviceAuthValues.{HasAuthValues};
 ghost use Rattle.tpm_step.specs.history.DeviceCounters.{BeginsAbove, ExceedsEarlier, HasCounters};
 ghost use Rattle.tpm_step.specs.history.DeviceCounters.{KeepsCounter};
 ghost use Rattle.tpm_step.specs.history.DeviceSessions.{HasSessions, IsLive};
-ghost use Rattle.tpm_step.specs.history.Executions.{Execution, Leads, history_after, placing};
+ghost use Rattle.tpm_step.specs.history.Executions.{Execution, Leads, history_after, placing_execution};
 ghost use Rattle.tpm_step.specs.history.Executions.{power_cycle};
 ghost use Rattle.tpm_step.specs.history.FailedRun.{IsFailedRun};
 ghost use Rattle.tpm_step.specs.history.Follows.{After, Follows, RunFollows, StretchFollows, Tells};
@@ -50,7 +50,7 @@ ghost use Rattle.tpm_step.specs.uses.PolicyReviews.{OfEachAccepted};
 ghost use Rattle.tpm_step.specs.uses.PolicyUses.{AllMeetPolicies};
 ghost use Rattle.tpm_step.specs.history.Potential.{IsForgiving};
 ghost use Rattle.tpm_step.specs.uses.RunReplays.{IsRecorded, RunReplaysRepeat};
-ghost use Rattle.tpm_step.specs.history.Sessions.{IsNewSession, LiveSession, started};
+ghost use Rattle.tpm_step.specs.history.Sessions.{IsNewSession, LiveSession, started_session};
 ghost use Rattle.tpm_step.specs.history.Tries.{FailsFew, FailsWithin, IsAnsweredTry, IsReset};
 ghost use Rattle.tpm_step.specs.history.Tries.{IsRefusedTry, fails_try, is_reset};
 ghost use Rattle.tpm_step.specs.history.Tries.{tries_at_most, tries_within};
@@ -80,7 +80,7 @@ pub fn stretch_laws()
     ensures power_cycle { (can : Bool) (r : Record)
         → IsRecord r → Leads can r (power_cycle r ∷ []) (cycled r) }
     ensures placed { (can : Bool) (r : Record) (object : Object) → IsObject object
-        → IsRecord r → Leads can r (placing r object ∷ []) (placed r object) }
+        → IsRecord r → Leads can r (placing_execution r object ∷ []) (placed r object) }
     ensures joined { (can : Bool) (old : Record) (first : List Execution) (mid : Record)
         (second : List Execution) (new : Record)
         → Leads can old first mid → Leads can mid second new → Leads can old (first ++ second) new }
@@ -241,7 +241,7 @@ pub fn failed_try_laws()
 #[inline(always)]
 pub fn session_start_laws()
     ensures { (c : AcceptedCommand) (auth_values : List (List ℕ)) (s : LiveSession)
-        → started c auth_values ≡ Some s → IsNewSession s }
+        → started_session c auth_values ≡ Some s → IsNewSession s }
 {}
 
 /// Only an accepted TPM2_DictionaryAttackLockReset, TPM2_DictionaryAttackParameters or TPM2_Clear

@@ -45,7 +45,7 @@ ghost use Rattle.tpm_step.specs.rows.Handles.{FitsRule, HandlesFit};
 ghost use Rattle.tpm_step.specs.rows.IndexChanges.{ChangesIndices};
 ghost use Rattle.tpm_step.specs.rows.Refusals.{Passes, RefusesAuthorization};
 ghost use Rattle.tpm_step.specs.rows.Sessions.{HaveSessions, SessionsStay};
-ghost use Rattle.tpm_step.specs.rows.Shapes.{AnswersItsShape, GrowsAsShaped, ReadsParameters, spelled};
+ghost use Rattle.tpm_step.specs.rows.Shapes.{AnswersItsShape, GrowsAsShaped, ReadsParameters, parameters_check};
 ghost use Rattle.tpm_step.specs.rows.Sizes.{AreSized};
 
 use crate::event::Outcome;
@@ -95,7 +95,7 @@ pub fn growth_laws()
 #[tactic(auto, using(crate::proofs::rows::Table::row_reads))]
 pub fn parameter_laws()
     ensures { (r : Record) (c : CommandCode) (q : Request)
-        → ReadsParameters (spelled 1 (shape_of c).parameters q.parameters) (row_of r c q) }
+        → ReadsParameters (parameters_check 1 (shape_of c).parameters q.parameters) (row_of r c q) }
 {}
 
 /// If a command may have sessions, every session still exists after its row.

@@ -8,12 +8,12 @@ use Rattle.tpm_commands.specs.declared.command_code.CommandCode.{CommandCode}
 use Rattle.tpm_types_command.specs.declared.tag.Tag.{Tag}
 use Rattle.tpm_types_command.specs.Header.{header_text}
 use Rattle.tpm_text.specs.declared.draft.Draft.{Draft}
-use Rattle.tpm_text.specs.Draft.{drafted, finished, grown, with_area}
+use Rattle.tpm_text.specs.Draft.{drafted_bytes, finished_command, grown_draft, with_area}
 use Rattle.tpm_text.proofs.Growing.{grown-grown}
 
-pub area_added : (old middle new : Option (List ℕ)) (entries : List ℕ) (size : ℕ) → size ≡ length entries → middle ≡ grown old (to_be_bytes w32 size) → new ≡ grown middle entries → new ≡ with_area old (Some entries)
+pub area_added : (old middle new : Option (List ℕ)) (entries : List ℕ) (size : ℕ) → size ≡ length entries → middle ≡ grown_draft old (to_be_bytes w32 size) → new ≡ grown_draft middle entries → new ≡ with_area old (Some entries)
 unfolding with_area
-area_added old middle new entries size e m h = h ∙ ap (λ d. grown d entries) m ∙ grown-grown old (to_be_bytes w32 size) entries ∙ ap (λ n. grown old (to_be_bytes w32 n ++ entries)) e
+area_added old middle new entries size e m h = h ∙ ap (λ d. grown_draft d entries) m ∙ grown-grown old (to_be_bytes w32 size) entries ∙ ap (λ n. grown_draft old (to_be_bytes w32 n ++ entries)) e
 
 pub no_area : (old : Option (List ℕ)) → (let none : Option (List ℕ) = None in none ≡ with_area old None)
 unfolding with_area
@@ -33,10 +33,10 @@ headed header bytes size ten large =
     ∙ ap (λ l. header ++ l) (sym (drop-take 10 (size - 10) bytes) ∙ ap (λ n. drop 10 (take n bytes)) behind)
 
 pub text_finished : (tag : Tag) (code : CommandCode) (header bytes : List ℕ) (size : ℕ) → header ≡ header_text tag size code → length header ≡ 10 → 10 ≤ length (take size bytes) → length (take size bytes) ≡ size
-    → finished tag code (Some (take size bytes)) ≡ Ok (take size (header ++ drop 10 bytes))
-unfolding finished
+    → finished_command tag code (Some (take size bytes)) ≡ Ok (take size (header ++ drop 10 bytes))
+unfolding finished_command
 text_finished tag code header bytes size is ten large whole =
     ap (λ n. Ok (header_text tag n code ++ drop 10 (take size bytes))) whole ∙ ap (λ l. Ok (l ++ drop 10 (take size bytes))) (sym is) ∙ ap Ok (sym (headed header bytes size ten (omega (arith, large, whole))))
 
-pub ten_taken : (draft : Draft) (size : ℕ) → draft.used ≡ Some size → IfSome (drafted draft) (λ text. 10 ≤ length text) → 10 ≤ length (take size draft.bytes)
+pub ten_taken : (draft : Draft) (size : ℕ) → draft.used ≡ Some size → IfSome (drafted_bytes draft) (λ text. 10 ≤ length text) → 10 ≤ length (take size draft.bytes)
 ten_taken draft size e h = subst (λ (used : Option ℕ). IfSome (option_map (λ size. take size draft.bytes) used) (λ text. 10 ≤ length text)) e h

@@ -18,11 +18,11 @@ use Rattle.tpm_commands.specs.CommandCode.{handle_count, shape_of}
 use Rattle.tpm_types_command.specs.Header.{header_text}
 use Rattle.tpm_text.specs.declared.fault.AsmFault.{AsmFault}
 use Rattle.tpm_text.specs.declared.fault.AsmFault.TheVariants.{TooLong}
-use Rattle.tpm_text.specs.Draft.{Finishes, finished, grown, with_area}
+use Rattle.tpm_text.specs.Draft.{Finishes, finished_command, grown_draft, with_area}
 use Rattle.tpm_text.specs.Entry.{entry_in}
 use Rattle.tpm_text.specs.Fault.{at_column}
 use Rattle.tpm_text.specs.TokenReading.{DraftsRead, DraftsSessions, ReadsTokens, first_is_entry}
-use Rattle.tpm_text.specs.Line.{assembled, ended, entry_tokens_in, handles_in, name_in, parameters_in, spelled}
+use Rattle.tpm_text.specs.Line.{assembled, end_of_line, entry_tokens_in, handles_in, name_in, parameters_in, spelled_command}
 use Rattle.tpm_text.specs.Pieces.{Token, tokens_of}
 use Rattle.tpm_text.proofs.Growing.{fits, grown-grown, none_grows, spills, too_much}
 
@@ -41,7 +41,7 @@ reads_tokens_err (Err other) (Ok y) fault left e h = absurd h
 reads_tokens_err (Err other) (Err found) fault left e h = ap Err (sym h ∙ cc)
 
 pub drafts_read_ok : {A E : Type 0} (text : A → List ℕ) (read : Result (A × List Token) E) (old new : Option (List ℕ)) (result : Result (Unit {0}) E) (left : List Token) → result ≡ Ok tt → DraftsRead text read old result new left
-    → (a : A) × (read ≡ Ok (a, left)) × (new ≡ grown old (text a))
+    → (a : A) × (read ≡ Ok (a, left)) × (new ≡ grown_draft old (text a))
 drafts_read_ok text (Ok read) old new (Ok done) left e h = (read.0, ap (λ l. Ok (read.0, l)) (sym h.1), h.0)
 drafts_read_ok text (Ok read) old new (Err found) left e h = absurd h
 drafts_read_ok text (Err fault) old new (Ok done) left e h = absurd h
@@ -54,7 +54,7 @@ drafts_read_err text (Err other) old new (Ok done) fault left e h = absurd h
 drafts_read_err text (Err other) old new (Err found) fault left e h = ap Err (sym h ∙ cc)
 
 pub sessions_ok : {E : Type 0} (read : Result (List Entry × List Token) E) (old new : Option (List ℕ)) (result : Result Tag E) (tag : Tag) (left : List Token) → result ≡ Ok tag → DraftsSessions read old result new left
-    → (entries : List Entry) × (read ≡ Ok (entries, left)) × (tag ≡ tag_for entries) × (new ≡ grown old (sessions_text entries))
+    → (entries : List Entry) × (read ≡ Ok (entries, left)) × (tag ≡ tag_for entries) × (new ≡ grown_draft old (sessions_text entries))
 sessions_ok (Ok read) old new (Ok found) tag left e h = let same : found ≡ tag = cc in (read.0, ap (λ l. Ok (read.0, l)) (sym h.2), sym same ∙ h.0, h.1)
 sessions_ok (Ok read) old new (Err found) tag left e h = absurd h
 sessions_ok (Err fault) old new (Ok found) tag left e h = absurd h
@@ -70,11 +70,11 @@ sessions_err (Err other) old new (Err found) fault left e h = ap Err (sym h ∙ 
 
 -- A draft of entries (`area`) is added to another draft as its authorization area. This appends the
 -- size of the entries, and then the entries.
-area_is : (old area : Option (List ℕ)) (text : List ℕ) → area ≡ grown (Some []) text → with_area old area ≡ grown old (to_be_bytes w32 (length text) ++ text)
+area_is : (old area : Option (List ℕ)) (text : List ℕ) → area ≡ grown_draft (Some []) text → with_area old area ≡ grown_draft old (to_be_bytes w32 (length text) ++ text)
 unfolding with_area
 area_is old area text e = by (nat_le (length text) buffer_limit) refl
   where
-    by : (b : Bool) → nat_le (length text) buffer_limit ≡ b → with_area old area ≡ grown old (to_be_bytes w32 (length text) ++ text)
+    by : (b : Bool) → nat_le (length text) buffer_limit ≡ b → with_area old area ≡ grown_draft old (to_be_bytes w32 (length text) ++ text)
     by true short = let less = leb-true _ _ short in rw (e ∙ fits [] text (omega (arith, less))) refl
     by false long = let more = leb-false _ _ long in rw (e ∙ spills [] text (omega (arith, more))) (sym (too_much old (to_be_bytes w32 (length text) ++ text) (omega (arith, more, length-append (to_be_bytes w32 (length text)) text))))
 
@@ -98,20 +98,20 @@ sessions_laid (token ∷ tokens) left old area new result first done h e =
 
 -- ---- the encoding of a whole line
 
-fitting : (tag : Tag) (code : CommandCode) (ten body : List ℕ) → length ten ≡ 10 → finished tag code (Some (ten ++ body)) ≡ Ok (header_text tag (10 + length body) code ++ body)
-unfolding finished
+fitting : (tag : Tag) (code : CommandCode) (ten body : List ℕ) → length ten ≡ 10 → finished_command tag code (Some (ten ++ body)) ≡ Ok (header_text tag (10 + length body) code ++ body)
+unfolding finished_command
 fitting tag code ten body e = ap (λ n. Ok (header_text tag n code ++ drop 10 (ten ++ body))) (length-append ten body ∙ ap (λ n. n + length body) e) ∙ ap (λ l. Ok (header_text tag (10 + length body) code ++ l)) (drop_at ten body 10 e)
 
-not_fitting : (tag : Tag) (code : CommandCode) → finished tag code None ≡ Err TooLong
-unfolding finished
+not_fitting : (tag : Tag) (code : CommandCode) → finished_command tag code None ≡ Err TooLong
+unfolding finished_command
 not_fitting tag code = refl
 
 -- A draft with at least ten bytes still has at least ten after more bytes are added.
-pub still_ten : (draft : Option (List ℕ)) (bytes : List ℕ) → IfSome draft (λ text. 10 ≤ length text) → IfSome (grown draft bytes) (λ text. 10 ≤ length text)
+pub still_ten : (draft : Option (List ℕ)) (bytes : List ℕ) → IfSome draft (λ text. 10 ≤ length text) → IfSome (grown_draft draft bytes) (λ text. 10 ≤ length text)
 still_ten None bytes h = subst (λ (d : Option (List ℕ)). IfSome d (λ text. 10 ≤ length text)) (sym (none_grows bytes)) tt
 still_ten (Some text) bytes h = by (nat_le (length text + length bytes) buffer_limit) refl
   where
-    by : (b : Bool) → nat_le (length text + length bytes) buffer_limit ≡ b → IfSome (grown (Some text) bytes) (λ text. 10 ≤ length text)
+    by : (b : Bool) → nat_le (length text + length bytes) buffer_limit ≡ b → IfSome (grown_draft (Some text) bytes) (λ text. 10 ≤ length text)
     by true short = subst (λ (d : Option (List ℕ)). IfSome d (λ text. 10 ≤ length text)) (sym (fits text bytes (leb-true _ _ short))) (omega (arith, h, length-append text bytes))
     by false long = subst (λ (d : Option (List ℕ)). IfSome d (λ text. 10 ≤ length text)) (sym (spills text bytes (leb-false _ _ long))) tt
 
@@ -123,52 +123,52 @@ begun (Some ten) is h = (ten, refl, h)
 -- ---- the first fault of a line
 
 pub name_fault : (line : List ℕ) (fault : AsmFault) → name_in (tokens_of line) ≡ Err fault → assembled line ≡ Err fault
-unfolding assembled spelled
+unfolding assembled spelled_command
 name_fault line fault n = rw n refl
 
 module _ (line : List ℕ) (code : CommandCode) (one : List Token) (n : name_in (tokens_of line) ≡ Ok (code, one)) where
   pub handles_fault : (fault : AsmFault) → handles_in (handle_count code) one ≡ Err fault → assembled line ≡ Err fault
-  unfolding assembled spelled
+  unfolding assembled spelled_command
   handles_fault fault h = rw (n, h) refl
 
   module _ (handles : List Handle) (two : List Token) (h : handles_in (handle_count code) one ≡ Ok (handles, two)) where
     pub entries_fault : (fault : AsmFault) → entry_tokens_in 3 two ≡ Err fault → assembled line ≡ Err fault
-    unfolding assembled spelled
+    unfolding assembled spelled_command
     entries_fault fault s = rw (n, h, s) refl
 
     module _ (entries : List Entry) (three : List Token) (s : entry_tokens_in 3 two ≡ Ok (entries, three)) where
       pub parameters_fault : (fault : AsmFault) → parameters_in (shape_of code).parameters three ≡ Err fault → assembled line ≡ Err fault
-      unfolding assembled spelled
+      unfolding assembled spelled_command
       parameters_fault fault p = rw (n, h, s, p) refl
 
       module _ (parameters : List ℕ) (four : List Token) (p : parameters_in (shape_of code).parameters three ≡ Ok (parameters, four)) where
-        pub end_fault : (fault : AsmFault) → ended four ≡ Err fault → assembled line ≡ Err fault
-        unfolding assembled spelled
+        pub end_fault : (fault : AsmFault) → end_of_line four ≡ Err fault → assembled line ≡ Err fault
+        unfolding assembled spelled_command
         end_fault fault e = rw (n, h, s, p, e) refl
 
         body : List ℕ
         body = handles_text handles ++ sessions_text entries ++ parameters
 
-        whole : ended four ≡ Ok tt → assembled line ≡ (refused_if (nat_lt buffer_limit (10 + length body)) TooLong >>= λ fits. Ok (header_text (tag_for entries) (10 + length body) code ++ body))
-        unfolding assembled spelled command_size command_text command_body_text body
+        whole : end_of_line four ≡ Ok tt → assembled line ≡ (refused_if (nat_lt buffer_limit (10 + length body)) TooLong >>= λ fits. Ok (header_text (tag_for entries) (10 + length body) code ++ body))
+        unfolding assembled spelled_command command_size command_text command_body_text body
         whole e = rw (n, h, s, p, e) refl
 
         -- Finishing a draft that contains ten reserved bytes and then the rest of the command
         -- yields the encoding of the command.
-        command_is : ended four ≡ Ok tt → (ten : List ℕ) → length ten ≡ 10 → finished (tag_for entries) code (grown (Some ten) body) ≡ assembled line
+        command_is : end_of_line four ≡ Ok tt → (ten : List ℕ) → length ten ≡ 10 → finished_command (tag_for entries) code (grown_draft (Some ten) body) ≡ assembled line
         command_is e ten ten_is = by (nat_le (length ten + length body) buffer_limit) refl ∙ sym (whole e)
           where
-            by : (b : Bool) → nat_le (length ten + length body) buffer_limit ≡ b → finished (tag_for entries) code (grown (Some ten) body) ≡ (refused_if (nat_lt buffer_limit (10 + length body)) TooLong >>= λ fits. Ok (header_text (tag_for entries) (10 + length body) code ++ body))
+            by : (b : Bool) → nat_le (length ten + length body) buffer_limit ≡ b → finished_command (tag_for entries) code (grown_draft (Some ten) body) ≡ (refused_if (nat_lt buffer_limit (10 + length body)) TooLong >>= λ fits. Ok (header_text (tag_for entries) (10 + length body) code ++ body))
             by true short = let less = leb-true _ _ short in
                 rw (fits ten body less, le-ltb buffer_limit (10 + length body) (omega (arith, less, ten_is))) (fitting (tag_for entries) code ten body ten_is)
             by false long = let more = leb-false _ _ long in
                 rw (spills ten body more, lt-ltb buffer_limit (10 + length body) (omega (arith, more, ten_is))) (not_fitting (tag_for entries) code)
 
-        pub command_finished : ended four ≡ Ok tt → (tag : Tag) → tag ≡ tag_for entries → (ten : List ℕ) → length ten ≡ 10 → (first second third new : Option (List ℕ)) (result : Result (Unit {0}) AsmFault)
-            → first ≡ grown (Some ten) (handles_text handles) → second ≡ grown first (sessions_text entries) → third ≡ grown second parameters
-            → Finishes (finished tag code third) result new → Finishes (assembled line) result new
+        pub command_finished : end_of_line four ≡ Ok tt → (tag : Tag) → tag ≡ tag_for entries → (ten : List ℕ) → length ten ≡ 10 → (first second third new : Option (List ℕ)) (result : Result (Unit {0}) AsmFault)
+            → first ≡ grown_draft (Some ten) (handles_text handles) → second ≡ grown_draft first (sessions_text entries) → third ≡ grown_draft second parameters
+            → Finishes (finished_command tag code third) result new → Finishes (assembled line) result new
         unfolding body
         command_finished e tag t ten ten_is first second third new result a b c f =
-            let all : third ≡ grown (Some ten) body =
-            c ∙ ap (λ d. grown d parameters) (b ∙ ap (λ d. grown d (sessions_text entries)) a ∙ grown-grown (Some ten) (handles_text handles) (sessions_text entries)) ∙ grown-grown (Some ten) (handles_text handles ++ sessions_text entries) parameters in
-            subst (λ r. Finishes r result new) (ap (λ d. finished tag code d) all ∙ ap (λ (x : Tag). finished x code (grown (Some ten) body)) t ∙ command_is e ten ten_is) f
+            let all : third ≡ grown_draft (Some ten) body =
+            c ∙ ap (λ d. grown_draft d parameters) (b ∙ ap (λ d. grown_draft d (sessions_text entries)) a ∙ grown-grown (Some ten) (handles_text handles) (sessions_text entries)) ∙ grown-grown (Some ten) (handles_text handles ++ sessions_text entries) parameters in
+            subst (λ r. Finishes r result new) (ap (λ d. finished_command tag code d) all ∙ ap (λ (x : Tag). finished_command x code (grown_draft (Some ten) body)) t ∙ command_is e ten ten_is) f

@@ -6,7 +6,7 @@ use Rattle.tpm_bytes.specs.Reading.{◌>>=◌}
 use Rattle.tpm_bytes.specs.Writing.{sized_text}
 use Rattle.tpm_types.specs.declared.handle.Handle.{Handle}
 use Rattle.tpm_types.specs.Handle.{password_handle}
-use Rattle.tpm_text.specs.Draft.{Drafts, grown}
+use Rattle.tpm_text.specs.Draft.{Drafts, grown_draft}
 use Rattle.tpm_text.specs.Entry.{SessionPieces, handle_in, octet_in, password_entry, session_entry, session_pieces_of, text_of_entry}
 use Rattle.tpm_text.specs.Hex.{bytes_in}
 use Rattle.tpm_text.specs.Parameter.{buffer_text}
@@ -64,10 +64,10 @@ no_session_text text fault e = rw e refl
 -- Writing the four parts of a session's entry one after another extends the draft by the entry's
 -- encoding.
 pub parts_drafted : (session octet : List ℕ) (nonce : List ℕ) (hmac : Result (List ℕ) TokenFault) (old one two three : Option (List ℕ)) (result : Result (Unit {0}) TokenFault) (new : Option (List ℕ))
-    → one ≡ grown old session → two ≡ grown one nonce → three ≡ grown two octet → Drafts hmac three result new
+    → one ≡ grown_draft old session → two ≡ grown_draft one nonce → three ≡ grown_draft two octet → Drafts hmac three result new
     → Drafts (hmac >>= λ bytes. Ok (session ++ nonce ++ octet ++ bytes)) old result new
 parts_drafted session octet nonce (Ok bytes) old one two three (Ok done) new e f g h =
-    h ∙ ap (λ d. grown d bytes) (g ∙ ap (λ d. grown d octet) (f ∙ ap (λ d. grown d nonce) e ∙ grown-grown old session nonce) ∙ grown-grown old (session ++ nonce) octet)
+    h ∙ ap (λ d. grown_draft d bytes) (g ∙ ap (λ d. grown_draft d octet) (f ∙ ap (λ d. grown_draft d nonce) e ∙ grown-grown old session nonce) ∙ grown-grown old (session ++ nonce) octet)
     ∙ grown-grown old ((session ++ nonce) ++ octet) bytes
 parts_drafted session octet nonce (Ok bytes) old one two three (Err found) new e f g h = absurd h
 parts_drafted session octet nonce (Err fault) old one two three (Ok done) new e f g h = absurd h

@@ -10,7 +10,7 @@ use Rattle.hex.proofs.HexLemmas.{decode_of-digits, decode_of-odd, decode_of-ok}
 use Rattle.tpm_text.specs.Hex.{IsChecked, hex_in}
 use Rattle.tpm_bytes.specs.Reading.{or_fault}
 use Rattle.tpm_bytes.proofs.Fields.{or_fault_ok}
-use Rattle.tpm_text.specs.Draft.{Drafts, grown}
+use Rattle.tpm_text.specs.Draft.{Drafts, grown_draft}
 use Rattle.tpm_number.specs.declared.fault.TokenFault.{TokenFault}
 use Rattle.tpm_number.specs.declared.fault.TokenFault.TheVariants.{Bad}
 
@@ -44,7 +44,7 @@ half_of digits bytes e = (decode_of-ok digits bytes (or_fault_ok _ _ bytes e)).2
 -- If the bytes of the hex digits make the command too long, the draft becomes None.
 pub hex_too_long : (digits text : List ℕ) (result : Result (Unit {0}) TokenFault) → IsChecked (hex_in digits) result → buffer_limit < length text + length digits / 2
     → Drafts (hex_in digits) (Some text) result None
-unfolding grown
+unfolding grown_draft
 hex_too_long digits text result checked long = by (hex_in digits) refl result checked
   where
     by : (read : Result (List ℕ) TokenFault) → hex_in digits ≡ read → (result : Result (Unit {0}) TokenFault) → IsChecked read result → Drafts read (Some text) result None

@@ -13,7 +13,7 @@ use Rattle.tpm_text.specs.declared.draft.Draft.{Draft}
 use Rattle.tpm_text.specs.declared.fault.AsmFault.{AsmFault}
 use Rattle.tpm_text.specs.declared.fault.AsmFault.TheVariants as fault
 use Rattle.tpm_number.specs.declared.fault.TokenFault.{TokenFault}
-use Rattle.tpm_text.specs.Draft.{drafted, grown}
+use Rattle.tpm_text.specs.Draft.{drafted_bytes, grown_draft}
 use Rattle.tpm_text.specs.Entry.{begins_entry, entry_in, handle_in, text_of_entry}
 use Rattle.tpm_bytes.specs.Reading.{Gives}
 use Rattle.tpm_text.specs.Fault.{at_column, fault_at}
@@ -26,20 +26,20 @@ use Rattle.tpm_text.proofs.Growing.{fits, grown-grown, none_grows}
 length-take-le-both : (size : ℕ) (bytes : List ℕ) → length (take size bytes) ≤ size
 length-take-le-both size bytes = grind (arith, common_steps)
 
-same_size : (bytes : List ℕ) (used : Option ℕ) → ForSome used (λ size. size ≤ buffer_limit) → (let text = option_map (λ size. take size bytes) used in grown text [] ≡ text)
+same_size : (bytes : List ℕ) (used : Option ℕ) → ForSome used (λ size. size ≤ buffer_limit) → (let text = option_map (λ size. take size bytes) used in grown_draft text [] ≡ text)
 same_size bytes None h = none_grows []
 same_size bytes (Some size) h = fits (take size bytes) [] (let small = h size refl in omega (arith, small, length-take-le-both size bytes)) ∙ ap Some (append-nil (take size bytes))
 
-pub nothing_grows : (draft : Draft) → grown (drafted draft) [] ≡ drafted draft
+pub nothing_grows : (draft : Draft) → grown_draft (drafted_bytes draft) [] ≡ drafted_bytes draft
 nothing_grows draft = same_size draft.bytes draft.used draft.within
 
 -- Writing the encoding of the first value, and then the encodings of the other values, writes the
 -- encoding of all values.
 pub laid_behind : {A E : Type 0} (text : A → List ℕ) (front : List ℕ) (join : A → A) → ((x : A) → text (join x) ≡ front ++ text x)
     → (rest : Result (A × List Token) E) (old middle : Option (List ℕ)) (result : Result (Unit {0}) E) (new : Option (List ℕ)) (left : List Token)
-    → middle ≡ grown old front → DraftsRead text rest middle result new left → DraftsRead text (rest >>= λ others. Ok (join others.0, others.1)) old result new left
+    → middle ≡ grown_draft old front → DraftsRead text rest middle result new left → DraftsRead text (rest >>= λ others. Ok (join others.0, others.1)) old result new left
 laid_behind text front join joins (Ok read) old middle (Ok done) new left m h =
-    (h.0 ∙ ap (λ d. grown d (text read.0)) m ∙ grown-grown old front (text read.0) ∙ ap (grown old) (sym (joins read.0)), h.1)
+    (h.0 ∙ ap (λ d. grown_draft d (text read.0)) m ∙ grown-grown old front (text read.0) ∙ ap (grown_draft old) (sym (joins read.0)), h.1)
 laid_behind text front join joins (Ok read) old middle (Err found) new left m h = absurd h
 laid_behind text front join joins (Err fault) old middle (Ok done) new left m h = absurd h
 laid_behind text front join joins (Err fault) old middle (Err found) new left m h = h

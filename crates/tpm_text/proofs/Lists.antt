@@ -3,7 +3,7 @@ use Rattle.std.proofs.Common.{◌≡◌, ℕ, List, [], ◌∷◌, Option, Resul
 use Rattle.std.specs.List.{flat_map, fold}
 use Rattle.tpm_bytes.specs.Reading.{◌>>=◌}
 use Rattle.tpm_types.specs.Pcr.{with_pcr}
-use Rattle.tpm_text.specs.Draft.{Drafts, grown}
+use Rattle.tpm_text.specs.Draft.{Drafts, grown_draft}
 use Rattle.tpm_number.specs.Number.{number_in}
 use Rattle.tpm_text.specs.Parameter.{element_text, elements_text, pcrs_in}
 use Rattle.tpm_text.specs.Pieces.{comma, each_in, pieces_of}
@@ -42,23 +42,23 @@ pcrs_stopped select fault piece pieces e = ap (λ first. first >>= (λ first. ea
 
 -- a draft extended by the encodings of the remaining elements
 unfoldable pub elements_left : Element → Option (List ℕ) → List (List ℕ) → Result (Option (List ℕ)) TokenFault
-elements_left element draft pieces = elements_text element pieces >>= λ text. Ok (grown draft text)
+elements_left element draft pieces = elements_text element pieces >>= λ text. Ok (grown_draft draft text)
 
-pub elements_more : (element : Element) (draft : Option (List ℕ)) (text piece : List ℕ) (pieces : List (List ℕ)) → element_text element piece ≡ Ok text → elements_left element draft (piece ∷ pieces) ≡ elements_left element (grown draft text) pieces
+pub elements_more : (element : Element) (draft : Option (List ℕ)) (text piece : List ℕ) (pieces : List (List ℕ)) → element_text element piece ≡ Ok text → elements_left element draft (piece ∷ pieces) ≡ elements_left element (grown_draft draft text) pieces
 unfolding elements_left elements_text each_in
-elements_more element draft text piece pieces e = ap (λ first. first >>= (λ first. each_in (element_text element) pieces >>= λ others. Ok (first ∷ others)) >>= (λ texts. Ok (flat_map (λ text. text) texts)) >>= λ text. Ok (grown draft text)) e ∙ by (each_in (element_text element) pieces)
+elements_more element draft text piece pieces e = ap (λ first. first >>= (λ first. each_in (element_text element) pieces >>= λ others. Ok (first ∷ others)) >>= (λ texts. Ok (flat_map (λ text. text) texts)) >>= λ text. Ok (grown_draft draft text)) e ∙ by (each_in (element_text element) pieces)
   where
-    by : (others : Result (List (List ℕ)) TokenFault) → (others >>= (λ others. Ok (text ∷ others)) >>= (λ texts. Ok (flat_map (λ text. text) texts)) >>= λ text. Ok (grown draft text)) ≡ (others >>= (λ texts. Ok (flat_map (λ text. text) texts)) >>= λ rest. Ok (grown (grown draft text) rest))
+    by : (others : Result (List (List ℕ)) TokenFault) → (others >>= (λ others. Ok (text ∷ others)) >>= (λ texts. Ok (flat_map (λ text. text) texts)) >>= λ text. Ok (grown_draft draft text)) ≡ (others >>= (λ texts. Ok (flat_map (λ text. text) texts)) >>= λ rest. Ok (grown_draft (grown_draft draft text) rest))
     by (Ok others) = ap Ok (sym (grown-grown draft text (flat_map (λ text. text) others)))
     by (Err fault) = refl
 
 pub elements_stopped : (element : Element) (draft : Option (List ℕ)) (fault : TokenFault) (piece : List ℕ) (pieces : List (List ℕ)) → element_text element piece ≡ Err fault → elements_left element draft (piece ∷ pieces) ≡ Err fault
 unfolding elements_left elements_text each_in
-elements_stopped element draft fault piece pieces e = ap (λ first. first >>= (λ first. each_in (element_text element) pieces >>= λ others. Ok (first ∷ others)) >>= (λ texts. Ok (flat_map (λ text. text) texts)) >>= λ text. Ok (grown draft text)) e
+elements_stopped element draft fault piece pieces e = ap (λ first. first >>= (λ first. each_in (element_text element) pieces >>= λ others. Ok (first ∷ others)) >>= (λ texts. Ok (flat_map (λ text. text) texts)) >>= λ text. Ok (grown_draft draft text)) e
 
-elements_last : (element : Element) (draft : Option (List ℕ)) (text piece : List ℕ) → element_text element piece ≡ Ok text → elements_left element draft (piece ∷ []) ≡ Ok (grown draft text)
+elements_last : (element : Element) (draft : Option (List ℕ)) (text piece : List ℕ) → element_text element piece ≡ Ok text → elements_left element draft (piece ∷ []) ≡ Ok (grown_draft draft text)
 unfolding elements_left elements_text each_in
-elements_last element draft text piece e = ap (λ first. first >>= (λ first. Ok (first ∷ [])) >>= (λ texts. Ok (flat_map (λ text. text) texts)) >>= λ text. Ok (grown draft text)) e ∙ ap (λ l. Ok (grown draft l)) (append-nil text)
+elements_last element draft text piece e = ap (λ first. first >>= (λ first. Ok (first ∷ [])) >>= (λ texts. Ok (flat_map (λ text. text) texts)) >>= λ text. Ok (grown_draft draft text)) e ∙ ap (λ l. Ok (grown_draft draft l)) (append-nil text)
 
 -- Writing the next element of a list does not change the result of writing the whole list.
 pub put_more : (element : Element) (old new : Option (List ℕ)) (piece : List ℕ) (pieces : List (List ℕ)) (result : Result (Unit {0}) TokenFault) → result ≡ Ok tt → Drafts (element_text element piece) old result new
@@ -99,8 +99,8 @@ pub elements_drafted : (element : Element) (old : Option (List ℕ)) (pieces : L
 unfolding elements_left
 elements_drafted element old pieces result new e = by (elements_text element pieces) result e
   where
-    by : (read : Result (List ℕ) TokenFault) (result : Result (Unit {0}) TokenFault) → (read >>= λ text. Ok (grown old text)) ≡ (result >>= λ done. Ok new) → Drafts read old result new
-    by (Ok text) (Ok done) e = sym (ok_is (grown old text) new e)
+    by : (read : Result (List ℕ) TokenFault) (result : Result (Unit {0}) TokenFault) → (read >>= λ text. Ok (grown_draft old text)) ≡ (result >>= λ done. Ok new) → Drafts read old result new
+    by (Ok text) (Ok done) e = sym (ok_is (grown_draft old text) new e)
     by (Ok text) (Err fault) e = absurd cc
     by (Err fault) (Ok done) e = absurd cc
     by (Err fault) (Err found) e = cc

@@ -19,7 +19,7 @@ use Rattle.tpm_number.specs.declared.fault.TokenFault.{TokenFault}
 use Rattle.tpm_number.specs.declared.fault.TokenFault.TheVariants.{Bad}
 use Rattle.tpm_text.specs.Entry.{begins_entry, begins_password, begins_session, entry_in, handle_in, hex_handle_in, octet_in, password_entry, session_entry, session_pieces_of}
 use Rattle.tpm_text.specs.Fault.{at_column}
-use Rattle.tpm_text.specs.Line.{ended, entry_tokens_in, handles_in, name_in, parameters_in, spelled}
+use Rattle.tpm_text.specs.Line.{end_of_line, entry_tokens_in, handles_in, name_in, parameters_in, spelled_command}
 use Rattle.tpm_text.specs.Hex.{bytes_in, hex_in}
 use Rattle.tpm_text.specs.Pieces.{Token, colon, pieces_of, tokens_of}
 use Rattle.tpm_text.proofs.Laid.{column_ok}
@@ -135,14 +135,14 @@ sessions_size : (entries : List Entry) → length (entries_text entries) ≤ len
 sessions_size [] = omega arith
 sessions_size (entry ∷ entries) = omega (arith, length-append (to_be_bytes w32 (length (entries_text (entry ∷ entries)))) (entries_text (entry ∷ entries)))
 
-spelled_is_command : (line : List ℕ) (c : Whole) → spelled line ≡ Ok c → command_size c ≤ buffer_limit → IsCommand c
-unfolding spelled
+spelled_is_command : (line : List ℕ) (c : Whole) → spelled_command line ≡ Ok c → command_size c ≤ buffer_limit → IsCommand c
+unfolding spelled_command
 spelled_is_command line c e small =
     let name = bind_ok (name_in (tokens_of line)) _ c e in
     let handles = bind_ok (handles_in (handle_count name.0.0) name.0.1) _ c name.2 in
     let entries = bind_ok (entry_tokens_in 3 handles.0.1) _ c handles.2 in
     let parameters = bind_ok (parameters_in (shape_of name.0.0).parameters entries.0.1) _ c entries.2 in
-    let whole = bind_ok (ended parameters.0.1) _ c parameters.2 in
+    let whole = bind_ok (end_of_line parameters.0.1) _ c parameters.2 in
     let h = handles_spell (handle_count name.0.0) name.0.1 handles.0 handles.1 in
     let s = entries_spell 3 handles.0.1 entries.0 entries.1 in
     let is = ok_is (record { code = name.0.0; handles = handles.0.0; entries = entries.0.0; parameters = parameters.0.0 }) c whole.2 in
@@ -156,5 +156,5 @@ spelled_is_command line c e small =
     }
 
 -- If a line encodes a command, parsing the encoding yields that command.
-pub spelled_again : (line : List ℕ) (c : Whole) → spelled line ≡ Ok c → command_size c ≤ buffer_limit → command_at (command_text c) ≡ Ok (c, [])
+pub spelled_again : (line : List ℕ) (c : Whole) → spelled_command line ≡ Ok c → command_size c ≤ buffer_limit → command_at (command_text c) ≡ Ok (c, [])
 spelled_again line c e small = command_again c (spelled_is_command line c e small)

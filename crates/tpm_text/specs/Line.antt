@@ -63,18 +63,18 @@ parameters_in (kind ∷ kinds) tokens = do
   Ok (first.0 ++ others.0, others.1)
 
 -- checks that no token remains
-abbrev pub ended : List Token → Result (Unit {0}) AsmFault
-ended [] = Ok tt
-ended (token ∷ tokens) = Err (fault.BadField token.column)
+abbrev pub end_of_line : List Token → Result (Unit {0}) AsmFault
+end_of_line [] = Ok tt
+end_of_line (token ∷ tokens) = Err (fault.BadField token.column)
 
 -- the command that a line encodes, or the line's first fault from the left
-unfoldable pub spelled : List ℕ → Result Whole AsmFault
-spelled line = do
+unfoldable pub spelled_command : List ℕ → Result Whole AsmFault
+spelled_command line = do
   name ← name_in (tokens_of line)
   handles ← handles_in (handle_count name.0) name.1
   entries ← entry_tokens_in 3 handles.1
   parameters ← parameters_in (shape_of name.0).parameters entries.1
-  whole ← ended parameters.1
+  whole ← end_of_line parameters.1
   Ok (record {
     code = name.0;
     handles = handles.0;
@@ -86,7 +86,7 @@ spelled line = do
 -- else is wrong
 unfoldable pub assembled : List ℕ → Result (List ℕ) AsmFault
 assembled line = do
-  command ← spelled line
+  command ← spelled_command line
   fits ← refused_if (nat_lt buffer_limit (command_size command)) fault.TooLong
   Ok (command_text command)
 

@@ -32,14 +32,14 @@ pub record Token : Type 0 where
   pub text : List ℕ
 
 -- the tokens with these texts, separated by single spaces; the first token begins at this column
-abbrev pub placed : ℕ → List (List ℕ) → List Token
-placed column [] = []
-placed column (text ∷ texts) =
-    record { column = column; text = text } ∷ placed (column + length text + 1) texts
+abbrev pub placed_tokens : ℕ → List (List ℕ) → List Token
+placed_tokens column [] = []
+placed_tokens column (text ∷ texts) =
+    record { column = column; text = text } ∷ placed_tokens (column + length text + 1) texts
 
 -- the tokens of a line
 unfoldable pub tokens_of : List ℕ → List Token
-tokens_of line = placed 1 (pieces_of space line)
+tokens_of line = placed_tokens 1 (pieces_of space line)
 
 abbrev pub token_of : declared.Token → Token
 token_of token = record { column = token.column; text = token.text.now }

@@ -3,7 +3,7 @@ use Rattle.std.specs.Prelude.{◌≡◌, ℕ, Bool, true, false, List, [], ◌�
 use Rattle.tpm_types_command.specs.declared.tag.Tag.{Tag}
 use Rattle.tpm_types_command.specs.AuthEntry.{Entry}
 use Rattle.tpm_types_command.specs.Command.{sessions_text, tag_for}
-use Rattle.tpm_text.specs.Draft.{grown}
+use Rattle.tpm_text.specs.Draft.{grown_draft}
 use Rattle.tpm_text.specs.Entry.{begins_entry}
 use Rattle.tpm_text.specs.Pieces.{Token}
 use Rattle.tpm_text.specs.declared.fault.AsmFault.{AsmFault}
@@ -14,7 +14,8 @@ use Rattle.tpm_text.specs.declared.fault.AsmFault.TheVariants.{Missing}
 -- definition's fault was returned.
 abbrev pub DraftsRead : {A E : Type 0} → (A → List ℕ) → Result (A × List Token) E
     → Option (List ℕ) → Result (Unit {0}) E → Option (List ℕ) → List Token → Type 0
-DraftsRead text (Ok read) old (Ok done) new left = (new ≡ grown old (text read.0)) × (left ≡ read.1)
+DraftsRead text (Ok read) old (Ok done) new left =
+    (new ≡ grown_draft old (text read.0)) × (left ≡ read.1)
 DraftsRead text (Err fault) old (Err found) new left = found ≡ fault
 DraftsRead text _ old _ new left = ⊥
 
@@ -49,6 +50,6 @@ ReadsTokens view _ _ left = ⊥
 abbrev pub DraftsSessions : {E : Type 0} → Result (List Entry × List Token) E
     → Option (List ℕ) → Result Tag E → Option (List ℕ) → List Token → Type 0
 DraftsSessions (Ok read) old (Ok tag) new left =
-    (tag ≡ tag_for read.0) × (new ≡ grown old (sessions_text read.0)) × (left ≡ read.1)
+    (tag ≡ tag_for read.0) × (new ≡ grown_draft old (sessions_text read.0)) × (left ≡ read.1)
 DraftsSessions (Err fault) old (Err found) new left = found ≡ fault
 DraftsSessions _ old _ new left = ⊥

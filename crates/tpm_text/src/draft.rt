@@ -26,13 +26,13 @@ pub struct Draft {
 }
 
 impl Draft {
-    ghost use Rattle.tpm_text.specs.Draft.{Drafts, Finishes, drafted, finished, grown, with_area};
+    ghost use Rattle.tpm_text.specs.Draft.{Drafts, Finishes, drafted_bytes, finished_command, grown_draft, with_area};
     ghost use Rattle.tpm_text.specs.Hex.{hex_in};
     ghost use Rattle.tpm_text.specs.Parameter.{buffer_text};
 
     /// An empty draft.
     pub fn new() -> Draft
-        ensures { drafted result ≡ Some [] }
+        ensures { drafted_bytes result ≡ Some [] }
     {
         Draft {
             bytes: [0; BUFFER_LIMIT],
@@ -42,16 +42,16 @@ impl Draft {
 
     /// Clears the draft, and reserves ten bytes for a header.
     pub fn begin(&mut self)
-        ensures ten { IfSome (drafted self.new) (λ text. length text ≡ 10) }
-        ensures some { IsSome (drafted self.new) }
+        ensures ten { IfSome (drafted_bytes self.new) (λ text. length text ≡ 10) }
+        ensures some { IsSome (drafted_bytes self.new) }
     {
         self.used = Some(HEADER_SIZE);
     }
 
     /// Adds bytes to the draft.
-    #[tactic(auto, unfolding(crate::specs::Draft::grown))]
+    #[tactic(auto, unfolding(crate::specs::Draft::grown_draft))]
     pub fn put(&mut self, bytes: &[u8])
-        ensures { drafted self.new ≡ grown (drafted self.old) bytes.now }
+        ensures { drafted_bytes self.new ≡ grown_draft (drafted_bytes self.old) bytes.now }
     {
         let Some(size) = self.used else {
             return;
@@ -66,9 +66,10 @@ impl Draft {
     }
 
     /// Decodes hex digits and adds their bytes. The fault is Bad if the digits are not valid hex.
-    #[tactic(auto, unfolding(crate::specs::Draft::grown))]
+    #[tactic(auto, unfolding(crate::specs::Draft::grown_draft))]
     pub fn put_hex(&mut self, digits: &[u8]) -> Result<(), TokenFault>
-        ensures { Drafts (hex_in digits.now) (drafted self.old) result (drafted self.new) }
+        ensures { Drafts (hex_in digits.now) (drafted_bytes self.old) result
+            (drafted_bytes self.new) }
     {
         let count = digits.len() / 2;
         let Some(size) = self.used else {
@@ -89,7 +90,8 @@ impl Draft {
     /// Adds a sized buffer (TPM2B) with the bytes that a token contains in hex.
     #[tactic(auto, unfolding(crate::specs::Parameter::buffer_text))]
     pub fn put_buffer(&mut self, token: &[u8]) -> Result<(), TokenFault>
-        ensures { Drafts (buffer_text token.now) (drafted self.old) result (drafted self.new) }
+        ensures { Drafts (buffer_text token.now) (drafted_bytes self.old) result
+            (drafted_bytes self.new) }
     {
         let digits = digits_of(token)?;
         let count = digits.len() / 2;
@@ -103,7 +105,8 @@ impl Draft {
 
     /// Adds an authorization area: the size of its entries, then the entries.
     pub fn put_area(&mut self, entries: &Draft)
-        ensures { drafted self.new ≡ with_area (drafted self.old) (drafted entries.now) }
+        ensures { drafted_bytes self.new
+            ≡ with_area (drafted_bytes self.old) (drafted_bytes entries.now) }
     {
         match entries.used {
             Some(size) => {
@@ -115,10 +118,11 @@ impl Draft {
     }
 
     /// Writes the header of the command. The fault is TooLong if the command is too long.
-    #[tactic(auto, unfolding(crate::specs::Draft::finished))]
+    #[tactic(auto, unfolding(crate::specs::Draft::finished_command))]
     pub fn finish(&mut self, tag: Tag, code: CommandCode) -> Result<(), AsmFault>
-        requires { IfSome (drafted self.old) (λ text. 10 ≤ length text) }
-        ensures { Finishes (finished tag code (drafted self.old)) result (drafted self.new) }
+        requires { IfSome (drafted_bytes self.old) (λ text. 10 ≤ length text) }
+        ensures { Finishes (finished_command tag code (drafted_bytes self.old)) result
+            (drafted_bytes self.new) }
     {
         let Some(size) = self.used else {
             return Err(AsmFault::TooLong);
@@ -130,7 +134,7 @@ impl Draft {
 
     /// The bytes so far, or an empty slice if the command became too long.
     pub fn as_slice(&self) -> &[u8]
-        ensures value { IfSome (drafted self.now) (λ text. result.now ≡ text) }
+        ensures value { IfSome (drafted_bytes self.now) (λ text. result.now ≡ text) }
         ensures small { length result.now ≤ buffer_limit }
     {
         &self.bytes[..self.used.unwrap_or(0)]

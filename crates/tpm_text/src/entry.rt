@@ -2,7 +2,7 @@
 //! attributes and an HMAC.
 
 ghost use Rattle.std.specs.Prelude.{◌≡◌};
-ghost use Rattle.tpm_text.specs.Draft.{Drafts, drafted};
+ghost use Rattle.tpm_text.specs.Draft.{Drafts, drafted_bytes};
 ghost use Rattle.tpm_text.specs.Entry.{begins_entry, entry_in, handle_in, hex_handle_in, octet_in, password_entry, session_entry, session_pieces_of, text_of_entry};
 ghost use Rattle.tpm_text.specs.EntryPieces.{four_of};
 ghost use Rattle.tpm_bytes.specs.Reading.{Gives};
@@ -99,8 +99,8 @@ fn session_pieces(text: &[u8]) -> Result<SessionPieces, TokenFault>
 
 /// Writes the entry for a password: TPM_RS_PW, no nonce, continueSession, and the password.
 fn put_password(password: &[u8], draft: &mut Draft) -> Result<(), TokenFault>
-    ensures { Drafts (text_of_entry (password_entry password.now)) (drafted draft.old) result
-        (drafted draft.new) }
+    ensures { Drafts (text_of_entry (password_entry password.now)) (drafted_bytes draft.old) result
+        (drafted_bytes draft.new) }
 {
     draft.put(&Handle::PASSWORD.number.to_be_bytes());
     draft.put(&[0, 0, 1]);
@@ -109,8 +109,8 @@ fn put_password(password: &[u8], draft: &mut Draft) -> Result<(), TokenFault>
 
 /// Writes the entry for a session: its handle, nonce, attributes and HMAC.
 fn put_session(text: &[u8], draft: &mut Draft) -> Result<(), TokenFault>
-    ensures { Drafts (text_of_entry (session_entry text.now)) (drafted draft.old) result
-        (drafted draft.new) }
+    ensures { Drafts (text_of_entry (session_entry text.now)) (drafted_bytes draft.old) result
+        (drafted_bytes draft.new) }
 {
     let pieces = session_pieces(text)?;
     draft.put(&handle_in(pieces.session)?.number.to_be_bytes());
@@ -129,8 +129,8 @@ pub fn begins_entry(token: &[u8]) -> bool
 /// Writes the entry that a token encodes.
 #[tactic(auto, unfolding(crate::specs::Entry::entry_in))]
 pub fn put_entry(token: &[u8], draft: &mut Draft) -> Result<(), TokenFault>
-    ensures { Drafts (text_of_entry (entry_in token.now)) (drafted draft.old) result
-        (drafted draft.new) }
+    ensures { Drafts (text_of_entry (entry_in token.now)) (drafted_bytes draft.old) result
+        (drafted_bytes draft.new) }
 {
     if token.starts_with(b"pw:") {
         put_password(&token[3..], draft)

@@ -6,10 +6,10 @@ ghost use Rattle.std.specs.Prelude.{◌≡◌, ◌≤◌, ℕ, List, [], length,
 ghost use Rattle.std.specs.List.{flat_map};
 ghost use Rattle.tpm_types_command.specs.AuthArea.{entries_text};
 ghost use Rattle.tpm_types_command.specs.Command.{Whole, command_at, command_size, command_text, handles_text};
-ghost use Rattle.tpm_text.specs.Draft.{Finishes, drafted};
+ghost use Rattle.tpm_text.specs.Draft.{Finishes, drafted_bytes};
 ghost use Rattle.tpm_bytes.specs.Reading.{Gives};
 ghost use Rattle.tpm_text.specs.TokenReading.{DraftsRead, DraftsSessions, ReadsTokens};
-ghost use Rattle.tpm_text.specs.Line.{Assembles, assembled, ended, entry_tokens_in, handles_in, name_in, parameters_in, spelled};
+ghost use Rattle.tpm_text.specs.Line.{Assembles, assembled, end_of_line, entry_tokens_in, handles_in, name_in, parameters_in, spelled_command};
 ghost use Rattle.tpm_text.specs.Tokens.{tokens_left};
 
 use crate::draft::Draft;
@@ -24,7 +24,7 @@ use tpm_types_command::Tag;
 /// Writes `count` handles, each from one token.
 fn put_handles(count: usize, tokens: &mut Tokens, draft: &mut Draft) -> Result<(), AsmFault>
     ensures { DraftsRead handles_text (handles_in count (tokens_left tokens.old))
-        (drafted draft.old) result (drafted draft.new) (tokens_left tokens.new) }
+        (drafted_bytes draft.old) result (drafted_bytes draft.new) (tokens_left tokens.new) }
 {
     if count == 0 {
         return Ok(());
@@ -38,7 +38,7 @@ fn put_handles(count: usize, tokens: &mut Tokens, draft: &mut Draft) -> Result<(
 /// Writes at most `most` entries, as long as the next token begins like an entry.
 fn put_entries(most: usize, tokens: &mut Tokens, draft: &mut Draft) -> Result<(), AsmFault>
     ensures { DraftsRead entries_text (entry_tokens_in most (tokens_left tokens.old))
-        (drafted draft.old) result (drafted draft.new) (tokens_left tokens.new) }
+        (drafted_bytes draft.old) result (drafted_bytes draft.new) (tokens_left tokens.new) }
 {
     if most == 0 {
         return Ok(());
@@ -57,7 +57,7 @@ fn put_parameters(
     draft: &mut Draft,
 ) -> Result<(), AsmFault>
     ensures { DraftsRead (λ text. text) (parameters_in kinds.now (tokens_left tokens.old))
-        (drafted draft.old) result (drafted draft.new) (tokens_left tokens.new) }
+        (drafted_bytes draft.old) result (drafted_bytes draft.new) (tokens_left tokens.new) }
 {
     let Some((kind, others)) = kinds.split_first() else {
         return Ok(());
@@ -70,8 +70,8 @@ fn put_parameters(
 /// Writes the authorization area if the next token begins like an entry. Returns the command's tag,
 /// which says whether there is an authorization area.
 fn put_authorization(tokens: &mut Tokens, draft: &mut Draft) -> Result<Tag, AsmFault>
-    ensures { DraftsSessions (entry_tokens_in 3 (tokens_left tokens.old)) (drafted draft.old)
-        result (drafted draft.new) (tokens_left tokens.new) }
+    ensures { DraftsSessions (entry_tokens_in 3 (tokens_left tokens.old)) (drafted_bytes draft.old)
+        result (drafted_bytes draft.new) (tokens_left tokens.new) }
 {
     if !tokens.begins_entry() {
         return Ok(Tag::NoSessions);
@@ -95,7 +95,7 @@ fn read_name(tokens: &mut Tokens) -> Result<CommandCode, AsmFault>
 
 /// Checks that no token remains.
 fn check_end(tokens: &mut Tokens) -> Result<(), AsmFault>
-    ensures { Gives (λ done. done) (ended (tokens_left tokens.old)) result }
+    ensures { Gives (λ done. done) (end_of_line (tokens_left tokens.old)) result }
 {
     match tokens.next() {
         Some(token) => Err(AsmFault::BadField {
@@ -117,7 +117,7 @@ pub fn assemble_in<'a>(line: &[u8], draft: &'a mut Draft) -> Result<&'a [u8], As
 
 /// Writes the command that a line encodes.
 fn write_command(line: &[u8], draft: &mut Draft) -> Result<(), AsmFault>
-    ensures { Finishes (assembled line.now) result (drafted draft.new) }
+    ensures { Finishes (assembled line.now) result (drafted_bytes draft.new) }
 {
     let mut tokens = Tokens::of(line);
     let code = read_name(&mut tokens)?;
@@ -144,6 +144,7 @@ pub fn assemble(alloc: Global, line: &str) -> Result<Vec<u8>, AsmFault>
 
 /// Parsing the buffer of a line yields the command that the line encodes.
 pub fn read_back_laws()
-    ensures { (line : List ℕ) (c : Whole) → spelled line ≡ Ok c → command_size c ≤ buffer_limit
+    ensures { (line : List ℕ) (c : Whole)
+        → spelled_command line ≡ Ok c → command_size c ≤ buffer_limit
         → command_at (command_text c) ≡ Ok (c, []) }
 {}

@@ -3,7 +3,7 @@
 ghost use Rattle.std.specs.Prelude.{◌≡◌, ◌==◌, length};
 ghost use Rattle.std.specs.Int.{w32, to_be_bytes};
 ghost use Rattle.std.specs.List.{count_by};
-ghost use Rattle.tpm_text.specs.Draft.{Drafts, drafted};
+ghost use Rattle.tpm_text.specs.Draft.{Drafts, drafted_bytes};
 ghost use Rattle.tpm_bytes.specs.Reading.{Gives};
 ghost use Rattle.tpm_number.specs.Number.{number_in};
 ghost use Rattle.tpm_text.specs.Parameter.{bank_word_text, digest_word_text, element_text, hash_and_rest_in, elements_text, list_or_none_text, list_text, pcrs_in};
@@ -57,7 +57,8 @@ fn pcrs_in(numbers: &[u8]) -> Result<PcrSelect, TokenFault>
 /// Writes the PCR selection for one bank (TPMS_PCR_SELECTION).
 #[tactic(auto, unfolding(crate::specs::Parameter::bank_word_text))]
 fn put_bank(piece: &[u8], draft: &mut Draft) -> Result<(), TokenFault>
-    ensures { Drafts (bank_word_text piece.now) (drafted draft.old) result (drafted draft.new) }
+    ensures { Drafts (bank_word_text piece.now) (drafted_bytes draft.old) result
+        (drafted_bytes draft.new) }
 {
     let (hash, numbers) = hash_and_rest_in(piece)?;
     let select = pcrs_in(numbers)?;
@@ -70,7 +71,8 @@ fn put_bank(piece: &[u8], draft: &mut Draft) -> Result<(), TokenFault>
 /// Writes a digest with its hash algorithm.
 #[tactic(auto, unfolding(crate::specs::Parameter::digest_word_text))]
 fn put_digest(piece: &[u8], draft: &mut Draft) -> Result<(), TokenFault>
-    ensures { Drafts (digest_word_text piece.now) (drafted draft.old) result (drafted draft.new) }
+    ensures { Drafts (digest_word_text piece.now) (drafted_bytes draft.old) result
+        (drafted_bytes draft.new) }
 {
     let (hash, digits) = hash_and_rest_in(piece)?;
     if digits.len() != 2 * hash.size() {
@@ -81,8 +83,8 @@ fn put_digest(piece: &[u8], draft: &mut Draft) -> Result<(), TokenFault>
 }
 
 fn put_element(element: Element, piece: &[u8], draft: &mut Draft) -> Result<(), TokenFault>
-    ensures { Drafts (element_text element piece.now) (drafted draft.old) result
-        (drafted draft.new) }
+    ensures { Drafts (element_text element piece.now) (drafted_bytes draft.old) result
+        (drafted_bytes draft.new) }
 {
     match element {
         Element::Bank => put_bank(piece, draft),
@@ -93,8 +95,8 @@ fn put_element(element: Element, piece: &[u8], draft: &mut Draft) -> Result<(), 
 
 /// Writes the elements of a list, which are separated by `+`.
 fn put_elements(element: Element, token: &[u8], draft: &mut Draft) -> Result<(), TokenFault>
-    ensures { Drafts (elements_text element (pieces_of plus token.now)) (drafted draft.old) result
-        (drafted draft.new) }
+    ensures { Drafts (elements_text element (pieces_of plus token.now)) (drafted_bytes draft.old)
+        result (drafted_bytes draft.new) }
 {
     let mut left = token;
     loop {
@@ -124,7 +126,8 @@ fn piece_count(separator: u8, text: &[u8]) -> u32
 /// Writes a list, whose elements are separated by `+`.
 #[tactic(auto, unfolding(crate::specs::Parameter::list_text))]
 pub fn put_list(element: Element, token: &[u8], draft: &mut Draft) -> Result<(), TokenFault>
-    ensures { Drafts (list_text element token.now) (drafted draft.old) result (drafted draft.new) }
+    ensures { Drafts (list_text element token.now) (drafted_bytes draft.old) result
+        (drafted_bytes draft.new) }
 {
     draft.put(&piece_count(b'+', token).to_be_bytes());
     put_elements(element, token, draft)
@@ -133,8 +136,8 @@ pub fn put_list(element: Element, token: &[u8], draft: &mut Draft) -> Result<(),
 /// Writes a list, whose elements are separated by `+`; the token `-` is the empty list.
 #[tactic(auto, unfolding(crate::specs::Parameter::list_or_none_text))]
 pub fn put_list_or_none(element: Element, token: &[u8], draft: &mut Draft) -> Result<(), TokenFault>
-    ensures { Drafts (list_or_none_text element token.now) (drafted draft.old) result
-        (drafted draft.new) }
+    ensures { Drafts (list_or_none_text element token.now) (drafted_bytes draft.old) result
+        (drafted_bytes draft.new) }
 {
     if is_word("-", token) {
         draft.put(&0u32.to_be_bytes());

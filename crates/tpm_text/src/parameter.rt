@@ -1,7 +1,7 @@
 //! Writes a parameter from its token, for each kind of parameter that a command can have.
 
 ghost use Rattle.std.specs.Prelude.{◌≡◌, MatchResult};
-ghost use Rattle.tpm_text.specs.Draft.{Drafts, drafted};
+ghost use Rattle.tpm_text.specs.Draft.{Drafts, drafted_bytes};
 ghost use Rattle.tpm_bytes.specs.Reading.{Gives};
 ghost use Rattle.tpm_text.specs.Parameter.{bank_word_text, buffer_text, digest_word_text, element_text, hash_in, hash_text, list_or_none_text, list_text, number_text, parameter_text, symmetric_in};
 
@@ -16,8 +16,8 @@ use tpm_number::{TokenFault, is_word, number_in};
 /// Writes the parameter of this kind that a token encodes.
 #[tactic(auto, unfolding(crate::specs::Parameter::parameter_text))]
 pub fn put_parameter(kind: ParameterKind, token: &[u8], draft: &mut Draft) -> Result<(), TokenFault>
-    ensures { Drafts (parameter_text kind token.now) (drafted draft.old)
-        result (drafted draft.new) }
+    ensures { Drafts (parameter_text kind token.now) (drafted_bytes draft.old)
+        result (drafted_bytes draft.new) }
 {
     match kind {
         ParameterKind::SessionType | ParameterKind::U8 | ParameterKind::YesNo => {

@@ -1,7 +1,7 @@
 //! The words for hash algorithms and symmetric definitions, and the identifiers that they encode.
 
 ghost use Rattle.std.specs.Prelude.{◌≡◌};
-ghost use Rattle.tpm_text.specs.Draft.{Drafts, drafted};
+ghost use Rattle.tpm_text.specs.Draft.{Drafts, drafted_bytes};
 ghost use Rattle.tpm_bytes.specs.Reading.{Gives};
 ghost use Rattle.tpm_text.specs.Parameter.{hash_in, hash_text, symmetric_in, symmetric_word_text};
 
@@ -27,7 +27,8 @@ pub fn hash_in(word: &[u8]) -> Result<HashAlg, TokenFault>
 /// Writes the identifier of a hash algorithm, or TPM_ALG_NULL.
 #[tactic(auto, unfolding(crate::specs::Parameter::hash_text))]
 pub fn put_hash(word: &[u8], draft: &mut Draft) -> Result<(), TokenFault>
-    ensures { Drafts (hash_text word.now) (drafted draft.old) result (drafted draft.new) }
+    ensures { Drafts (hash_text word.now) (drafted_bytes draft.old) result
+        (drafted_bytes draft.new) }
 {
     let algorithm = if is_word("null", word) {
         None
@@ -58,7 +59,8 @@ fn symmetric_in(word: &[u8]) -> Result<SymmetricDefinition, TokenFault>
 /// Writes a symmetric definition.
 #[tactic(auto, unfolding(crate::specs::Parameter::symmetric_word_text))]
 pub fn put_symmetric(word: &[u8], draft: &mut Draft) -> Result<(), TokenFault>
-    ensures { Drafts (symmetric_word_text word.now) (drafted draft.old) result (drafted draft.new) }
+    ensures { Drafts (symmetric_word_text word.now) (drafted_bytes draft.old) result
+        (drafted_bytes draft.new) }
 {
     let definition = symmetric_in(word)?;
     let mut text: Sink<6> = Sink::new();

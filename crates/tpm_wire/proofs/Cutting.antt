@@ -7,7 +7,7 @@ use Rattle.std.proofs.lemmas.List.Sums.{fold-append}
 use Rattle.std.specs.Int.{w32, from_be_bytes}
 use Rattle.std.specs.Option.{option_map_or}
 use Rattle.std.proofs.lemmas.Bool.{cases_eq, eq-eqb, ne_eqb, leb-true, leb-false, false≢true}
-use Rattle.tpm_wire.specs.Stream.{Cut, Cutting, CutsTo, Stream, buffer_size, command_size, cut_at, cut_of, cut_with, cut_within, fed, is_last, is_size, is_whole, next_of, opened, size_by, uncut, with_byte, with_rest}
+use Rattle.tpm_wire.specs.Stream.{Cut, Cutting, CutsTo, Stream, buffer_size, command_size, cut_at, cut_of, cut_with, cut_within, exact_cutting, fed_stream, is_last, is_size, is_whole, new_stream, next_of, size_by, with_byte, with_rest}
 
 -- ---- the size of a buffer, by its first six bytes
 
@@ -83,7 +83,7 @@ goes_on : (done : List (List ℕ)) (rest : List ℕ) (byte : ℕ) → is_whole (
 unfolding with_byte
 goes_on done rest byte is = rw is refl
 
-completes : (done : List (List ℕ)) (rest : List ℕ) (byte : ℕ) → is_whole (rest ++ byte ∷ []) ≡ true → with_byte (begun done rest) byte ≡ uncut (done ++ (rest ++ byte ∷ []) ∷ []) (is_last (rest ++ byte ∷ []))
+completes : (done : List (List ℕ)) (rest : List ℕ) (byte : ℕ) → is_whole (rest ++ byte ∷ []) ≡ true → with_byte (begun done rest) byte ≡ exact_cutting (done ++ (rest ++ byte ∷ []) ∷ []) (is_last (rest ++ byte ∷ []))
 unfolding with_byte
 completes done rest byte is = rw is refl
 
@@ -114,7 +114,7 @@ whole_later grown more all n same size less =
     not_whole grown (λ m own.
     let e = some_is m n (sym (size_longer grown more m own) ∙ ap buffer_size same ∙ size) in omega (arith, e, less))
 
-ends_here : (done : List (List ℕ)) (grown more all : List ℕ) (n : ℕ) → grown ++ more ≡ all → length grown ≡ n → 6 ≤ n → fold with_byte (uncut (done ++ grown ∷ []) (is_last grown)) more ≡ fold with_byte (uncut (done ++ take n all ∷ []) (is_last all)) (drop n all)
+ends_here : (done : List (List ℕ)) (grown more all : List ℕ) (n : ℕ) → grown ++ more ≡ all → length grown ≡ n → 6 ≤ n → fold with_byte (exact_cutting (done ++ grown ∷ []) (is_last grown)) more ≡ fold with_byte (exact_cutting (done ++ take n all ∷ []) (is_last all)) (drop n all)
 ends_here done grown more all n same here six =
     let front : take n all ≡ grown = rw (← here, ← same) (take-append_seam grown more) in
     let behind : drop n all ≡ more = rw (← here, ← same) (drop-append_seam grown more) in
@@ -123,7 +123,7 @@ ends_here done grown more all n same here six =
 
 -- If further bytes complete a buffer, the stream is divided into the earlier buffers, this buffer,
 -- and the buffers in the bytes after it.
-completed : (done : List (List ℕ)) (rest more all : List ℕ) (n : ℕ) → rest ++ more ≡ all → buffer_size all ≡ Some n → length rest < n → n ≤ length all → fold with_byte (begun done rest) more ≡ fold with_byte (uncut (done ++ take n all ∷ []) (is_last all)) (drop n all)
+completed : (done : List (List ℕ)) (rest more all : List ℕ) (n : ℕ) → rest ++ more ≡ all → buffer_size all ≡ Some n → length rest < n → n ≤ length all → fold with_byte (begun done rest) more ≡ fold with_byte (exact_cutting (done ++ take n all ∷ []) (is_last all)) (drop n all)
 completed done rest [] all n is size less fits = absurd (omega (arith, ap length is, length-append rest []))
 completed done rest (byte ∷ more) all n is size less fits =
     let grown = rest ++ byte ∷ [] in
@@ -252,14 +252,14 @@ next_shorter s c is = by s.ended s.taken (buffer_size s.taken) refl is
 
 -- Dividing a stream into buffers, and then adding bytes, has the same result as adding the bytes
 -- first.
-pub cut_fed : (done : List (List ℕ)) (s : Stream) (bytes : List ℕ) → fold with_byte (cut_with done s) bytes ≡ cut_with done (fed s bytes)
-cut_fed done s bytes = sym (fold-append with_byte (uncut done s.ended) s.taken bytes)
+pub cut_fed : (done : List (List ℕ)) (s : Stream) (bytes : List ℕ) → fold with_byte (cut_with done s) bytes ≡ cut_with done (fed_stream s bytes)
+cut_fed done s bytes = sym (fold-append with_byte (exact_cutting done s.ended) s.taken bytes)
 
 -- Suppose that the bytes read so far consist of the executed buffers `done` and the stream `s`.
 -- After one more read, they consist of `done` and `s` with the new bytes.
-pub read_more : (read bytes : List ℕ) (done : List (List ℕ)) (s : Stream) → cut_of read ≡ cut_with done s → cut_of (read ++ bytes) ≡ cut_with done (fed s bytes)
+pub read_more : (read bytes : List ℕ) (done : List (List ℕ)) (s : Stream) → cut_of read ≡ cut_with done s → cut_of (read ++ bytes) ≡ cut_with done (fed_stream s bytes)
 read_more read bytes done s is =
-    fold-append with_byte (uncut [] false) read bytes ∙ ap (λ (c : Cutting). fold with_byte c bytes) is ∙ cut_fed done s bytes
+    fold-append with_byte (exact_cutting [] false) read bytes ∙ ap (λ (c : Cutting). fold with_byte c bytes) is ∙ cut_fed done s bytes
 
 -- Suppose that cutting the buffers `done` off a stream leaves the stream `t`. Then cutting off
 -- `done` and the next buffer of `t` leaves the bytes after that buffer.
@@ -274,7 +274,7 @@ cuts_none s before = ap (λ (l : List (List ℕ)). cut_with l s) (sym (append-ni
 
 -- Suppose that more bytes are read, and then more buffers are executed. The bytes read so far are
 -- still divided into the executed buffers and the stream that is left.
-pub read_on : (read bytes : List ℕ) (done more : List (List ℕ)) (s t u : Stream) → cut_of read ≡ cut_with done s → t ≡ fed s bytes → CutsTo t more u → cut_of (read ++ bytes) ≡ cut_with (done ++ more) u
+pub read_on : (read bytes : List ℕ) (done more : List (List ℕ)) (s t u : Stream) → cut_of read ≡ cut_with done s → t ≡ fed_stream s bytes → CutsTo t more u → cut_of (read ++ bytes) ≡ cut_with (done ++ more) u
 read_on read bytes done more s t u is same to =
     read_more read bytes done s is ∙ ap (cut_with done) (sym same) ∙ to done
 
@@ -287,6 +287,6 @@ buffers_stay c (byte ∷ bytes) =
     (first.0 ++ others.0, others.1 ∙ ap (λ (l : List (List ℕ)). l ++ others.0) first.1 ∙ append_assoc c.buffers first.0 others.0)
 
 -- A new stream contains no complete buffer.
-pub next_opened : next_of opened ≡ None
+pub next_opened : next_of new_stream ≡ None
 unfolding command_size
 next_opened = refl

@@ -15,8 +15,8 @@ use Rattle.tpm_step.specs.declared.event.Outcome.{Outcome}
 use Rattle.tpm_machine.specs.Executions.{Execution, Leads}
 use Rattle.tpm_machine.proofs.Following.{leads_on}
 use Rattle.tpm_wire.specs.Serve.{AreFewer, AreFirst, Asking, Asks, AsksForEach, AsksInVain, Delivers, Ends, Finishes, HoldsLastBack, LosesLast, Notes, NotesEach, buffer_in, buffers_of, responses_of}
-use Rattle.tpm_wire.specs.Stream.{Cut, Cutting, CutsTo, Stream, cut_of, cut_with, fed, next_of, uncut}
-use Rattle.tpm_wire.specs.Wire.{execution_of, given}
+use Rattle.tpm_wire.specs.Stream.{Cut, Cutting, CutsTo, Stream, cut_of, cut_with, exact_cutting, fed_stream, next_of}
+use Rattle.tpm_wire.specs.Wire.{execution_of, given_event}
 use Rattle.tpm_wire.specs.declared.fault.ServeFault.{ServeFault}
 use Rattle.tpm_wire.specs.declared.fault.ServeFault.TheVariants as fault
 use Rattle.tpm_wire.specs.declared.host.Host.{Host}
@@ -40,14 +40,14 @@ asks_more g asked at asking first more asks also = folds_on (Asks g) asked at as
 
 -- Suppose that more bytes are read, and then more buffers are executed. The bytes read so far are
 -- still divided into the buffers of all executions and the stream that is left.
-pub cut_more : (read bytes : List ℕ) (first more : List Execution) (s t u : Stream) → cut_of read ≡ cut_with (buffers_of first) s → t ≡ fed s bytes → CutsTo t (buffers_of more) u → cut_of (read ++ bytes) ≡ cut_with (buffers_of (first ++ more)) u
+pub cut_more : (read bytes : List ℕ) (first more : List Execution) (s t u : Stream) → cut_of read ≡ cut_with (buffers_of first) s → t ≡ fed_stream s bytes → CutsTo t (buffers_of more) u → cut_of (read ++ bytes) ≡ cut_with (buffers_of (first ++ more)) u
 cut_more read bytes first more s t u is same to =
     read_on read bytes (buffers_of first) (buffers_of more) s t u is same to
     ∙ ap (λ (done : List (List ℕ)). cut_with done u) (sym (buffers_more first more))
 
 -- ---- one more execution
 
-pub leads_one : (can : Bool) (old r new : Record) (executions : List Execution) (buffer : List ℕ) (host : Host) (outcome : Outcome) → Leads can old executions r → Executes can r (given buffer host) (outcome_step new outcome) → Leads can old (executions ++ execution_of r buffer host new outcome ∷ []) new
+pub leads_one : (can : Bool) (old r new : Record) (executions : List Execution) (buffer : List ℕ) (host : Host) (outcome : Outcome) → Leads can old executions r → Executes can r (given_event buffer host) (outcome_step new outcome) → Leads can old (executions ++ execution_of r buffer host new outcome ∷ []) new
 leads_one can old r new executions buffer host outcome leads executes =
     leads_on can old executions r (execution_of r buffer host new outcome ∷ []) new leads (refl, executes, refl)
 
@@ -77,7 +77,7 @@ lost_last held mid holds executions r new buffer host outcome written cut =
 
 are_first : (cut : Cutting) (done : List (List ℕ)) (left : Stream) → cut ≡ cut_with done left → AreFirst done cut.buffers
 are_first cut done left is =
-    let stay = buffers_stay (uncut done left.ended) left.taken in
+    let stay = buffers_stay (exact_cutting done left.ended) left.taken in
     (stay.0, ap (λ (c : Cutting). c.buffers) is ∙ stay.1)
 
 are_fewer : (cut : Cutting) (done : List (List ℕ)) (left : Stream) (c : Cut) → cut ≡ cut_with done left → next_of left ≡ Some c → AreFewer done cut.buffers

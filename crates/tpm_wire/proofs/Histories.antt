@@ -7,7 +7,7 @@ use Rattle.tpm_machine.specs.History.{History}
 use Rattle.tpm_machine.proofs.Following.{execution_follows}
 use Rattle.tpm_wire.specs.History.{answered_history, cut_history, stream_history, turn_history}
 use Rattle.tpm_wire.specs.Stream.{Cut, Stream, next_of}
-use Rattle.tpm_wire.specs.Wire.{AnswersTurn, Turns, TurnsAt, TurnsBy, Wire, given}
+use Rattle.tpm_wire.specs.Wire.{AnswersTurn, Turns, TurnsAt, TurnsBy, Wire, given_event}
 use Rattle.tpm_wire.specs.declared.fault.NoConnection.{NoConnection}
 use Rattle.tpm_wire.specs.declared.host.Host.{Host}
 use Rattle.tpm_wire.specs.declared.turn.Turn.{Turn}
@@ -18,7 +18,7 @@ same_follows old new history same follows = subst (λ (w : Wire). Follows w.mach
 
 answered_follows : (can : Bool) (c : Cut) (old : Wire) (number : ℕ) (host : Host) (result : Result Turn NoConnection) (new : Wire) (history : History) → AnswersTurn can c old number host result new → Follows old.machine history → Follows new.machine (answered_history c old.machine host result history)
 answered_follows can c old number host (Ok (Answer outcome)) new history answers follows =
-    execution_follows can old.machine (given c.buffer host) (outcome_step new.machine outcome) history answers.0 follows
+    execution_follows can old.machine (given_event c.buffer host) (outcome_step new.machine outcome) history answers.0 follows
 answered_follows can c old number host (Ok Wants) new history answers follows = absurd answers
 answered_follows can c old number host (Ok Ended) new history answers follows = absurd answers
 answered_follows can c old number host (Err e) new history answers follows = absurd answers

@@ -18,9 +18,9 @@ use Rattle.tpm_step.specs.declared.event.Outcome.{Outcome}
 use Rattle.tpm_machine.specs.Executions.{Execution, Leads, power_cycle}
 use Rattle.tpm_machine.proofs.Following.{power_cycle_executes, stretch_follows}
 use Rattle.tpm_wire.specs.Number.{number_of}
-use Rattle.tpm_wire.specs.Schedule.{Call, Closing, Does, Event, Executed, Feeding, IsOf, IsServed, Life, Opening, PowerCycled, PowerCycling, Schedules, SchedulesAreRuns, SchedulesAreServed, SchedulesLead, Turning, buffer_due, events_in, events_of, executed, plain_event_of, lives_after, lives_after_all, new_life, with_life}
-use Rattle.tpm_wire.specs.Stream.{Cut, Cutting, Stream, cut_of, fed, fitting, next_of, opened, uncut}
-use Rattle.tpm_wire.specs.Wire.{ClosesAt, FeedsAt, TurnsAt, TurnsBy, Wire, given, new_wire}
+use Rattle.tpm_wire.specs.Schedule.{Call, Closing, Does, Event, Executed, Feeding, IsOf, IsServed, Life, Opening, PowerCycled, PowerCycling, Schedules, SchedulesAreRuns, SchedulesAreServed, SchedulesLead, Turning, buffer_due, events_in, events_of, executed_events, plain_event_of, lives_after, lives_after_all, new_life, with_life}
+use Rattle.tpm_wire.specs.Stream.{Cut, Cutting, Stream, cut_of, exact_cutting, fed_stream, fitting_count, new_stream, next_of}
+use Rattle.tpm_wire.specs.Wire.{ClosesAt, FeedsAt, TurnsAt, TurnsBy, Wire, given_event, new_wire}
 use Rattle.tpm_wire.specs.declared.fault.NoConnection.{NoConnection}
 use Rattle.tpm_wire.specs.declared.host.Host.{Host}
 use Rattle.tpm_wire.specs.declared.number.ConnectionNumber.{ConnectionNumber}
@@ -85,10 +85,10 @@ stays can old new lives so same = record {
 opening_led : (can : Bool) (old new : Wire) (lives : List (Option Life)) (connection : ConnectionNumber) → Serve old.streams lives → Does can old (Opening (Ok connection)) new → Led can old new (slice_set lives (number_of connection) (Some new_life)) []
 opening_led can old new lives connection so did = record {
   machine = ap (λ (w : Wire). w.machine) (sym did.1);
-  served = rw did.1 (set_served old.streams lives (number_of connection) (Some opened) (Some new_life) so (lowest_free-free old.streams (number_of connection) did.0).0 ([], refl, refl));
+  served = rw did.1 (set_served old.streams lives (number_of connection) (Some new_stream) (Some new_life) so (lowest_free-free old.streams (number_of connection) did.0).0 ([], refl, refl));
 }
 
-fed_served : (s : Stream) (bytes : List ℕ) (l : Life) → IsServed (Some s) (Some l) → IsServed (Some (fed s bytes)) (Some (record l { bytes = l.bytes ++ bytes }))
+fed_served : (s : Stream) (bytes : List ℕ) (l : Life) → IsServed (Some s) (Some l) → IsServed (Some (fed_stream s bytes)) (Some (record l { bytes = l.bytes ++ bytes }))
 fed_served s bytes l served = (served.0, served.1, read_more l.bytes bytes served.0 s served.2)
 
 ok_is : (x y : ℕ) (r q : Result ℕ NoConnection) → r ≡ Ok x → q ≡ Ok y → r ≡ q → x ≡ y
@@ -98,15 +98,15 @@ feeding_led : (can : Bool) (old new : Wire) (lives : List (Option Life)) (n : �
 feeding_led can old new lives n piece count None is so did = absurd did
 feeding_led can old new lives n piece count (Some s) is so did =
     let l = life_at old.streams lives n s so is in
-    let same : count ≡ fitting s (length piece) = ok_is count (fitting s (length piece)) (Ok count) (Ok (fitting s (length piece))) refl refl did.0 in
+    let same : count ≡ fitting_count s (length piece) = ok_is count (fitting_count s (length piece)) (Ok count) (Ok (fitting_count s (length piece))) refl refl did.0 in
     record {
       machine = ap (λ (w : Wire). w.machine) (sym did.1);
-      served = rw (did.1, l.1, ← same) (set_served old.streams lives n (Some (fed s (take count piece))) (Some (record l.0 { bytes = l.0.bytes ++ take count piece })) so (at_inside old.streams n s is) (fed_served s (take count piece) l.0 l.2));
+      served = rw (did.1, l.1, ← same) (set_served old.streams lives n (Some (fed_stream s (take count piece))) (Some (record l.0 { bytes = l.0.bytes ++ take count piece })) so (at_inside old.streams n s is) (fed_served s (take count piece) l.0 l.2));
     }
 
 due_is : (s : Stream) (c : Cut) (l : Life) → IsServed (Some s) (Some l) → next_of s ≡ Some c → buffer_due l ≡ c.buffer
 due_is s c l served next =
-    let first = buffers_stay (uncut (served.0 ++ c.buffer ∷ []) c.after.ended) c.after.taken in
+    let first = buffers_stay (exact_cutting (served.0 ++ c.buffer ∷ []) c.after.ended) c.after.taken in
     let buffers = ap (λ (x : Cutting). x.buffers) (served.2 ∙ cut_next served.0 s c next) ∙ first.1 ∙ append_assoc served.0 (c.buffer ∷ []) first.0 in
     unwrap_or-slice_get (cut_of l.bytes).buffers (length l.answers) []
     ∙ ap (λ (b : List (List ℕ)). get_or b (length l.answers) []) buffers
@@ -117,12 +117,12 @@ answered_served : (s : Stream) (c : Cut) (outcome : Outcome) (l : Life) → IsSe
 answered_served s c outcome l served next =
     (served.0 ++ c.buffer ∷ [], length-append served.0 (c.buffer ∷ []) ∙ ap (λ (n : ℕ). n + 1) served.1 ∙ sym (length-append l.answers (outcome ∷ [])), served.2 ∙ cut_next served.0 s c next)
 
-answer_led : (can : Bool) (old new : Wire) (lives : List (Option Life)) (n : ℕ) (host : Host) (outcome : Outcome) (s : Stream) (c : Cut) → at_place old.streams n ≡ Some s → next_of s ≡ Some c → Serve old.streams lives → Executes can old.machine (given c.buffer host) (outcome_step new.machine outcome) → new.streams ≡ slice_set old.streams n (Some c.after) → Led can old new (with_life lives n (λ l. record l { answers = l.answers ++ outcome ∷ [] })) (executed (at_place lives n) host outcome)
+answer_led : (can : Bool) (old new : Wire) (lives : List (Option Life)) (n : ℕ) (host : Host) (outcome : Outcome) (s : Stream) (c : Cut) → at_place old.streams n ≡ Some s → next_of s ≡ Some c → Serve old.streams lives → Executes can old.machine (given_event c.buffer host) (outcome_step new.machine outcome) → new.streams ≡ slice_set old.streams n (Some c.after) → Led can old new (with_life lives n (λ l. record l { answers = l.answers ++ outcome ∷ [] })) (executed_events (at_place lives n) host outcome)
 answer_led can old new lives n host outcome s c is next so executes after =
     let l = life_at old.streams lives n s so is in
     let due = due_is s c l.0 l.2 next in
     record {
-      machine = rw l.1 (new.machine, subst (λ (buffer : List ℕ). Executes can old.machine (given buffer host) (outcome_step new.machine outcome)) (sym due) executes, refl);
+      machine = rw l.1 (new.machine, subst (λ (buffer : List ℕ). Executes can old.machine (given_event buffer host) (outcome_step new.machine outcome)) (sym due) executes, refl);
       served = rw (after, l.1) (set_served old.streams lives n (Some c.after) (Some (record l.0 { answers = l.0.answers ++ outcome ∷ [] })) so (at_inside old.streams n s is) (answered_served s c outcome l.0 l.2 next));
     }
 
@@ -130,11 +130,11 @@ waits_not : (ended : Bool) (outcome : Outcome) (r q : Result Turn NoConnection) 
 waits_not true outcome r q a b e = cc
 waits_not false outcome r q a b e = cc
 
-answering_led : (can : Bool) (old new : Wire) (lives : List (Option Life)) (n : ℕ) (host : Host) (outcome : Outcome) (o : Option Stream) → at_place old.streams n ≡ o → Serve old.streams lives → TurnsAt can o old n host (Ok (Answer outcome)) new → Led can old new (with_life lives n (λ l. record l { answers = l.answers ++ outcome ∷ [] })) (executed (at_place lives n) host outcome)
+answering_led : (can : Bool) (old new : Wire) (lives : List (Option Life)) (n : ℕ) (host : Host) (outcome : Outcome) (o : Option Stream) → at_place old.streams n ≡ o → Serve old.streams lives → TurnsAt can o old n host (Ok (Answer outcome)) new → Led can old new (with_life lives n (λ l. record l { answers = l.answers ++ outcome ∷ [] })) (executed_events (at_place lives n) host outcome)
 answering_led can old new lives n host outcome None is so did = absurd did
 answering_led can old new lives n host outcome (Some s) is so did = by (next_of s) refl did
   where
-    by : (k : Option Cut) → next_of s ≡ k → TurnsBy can k s old n host (Ok (Answer outcome)) new → Led can old new (with_life lives n (λ l. record l { answers = l.answers ++ outcome ∷ [] })) (executed (at_place lives n) host outcome)
+    by : (k : Option Cut) → next_of s ≡ k → TurnsBy can k s old n host (Ok (Answer outcome)) new → Led can old new (with_life lives n (λ l. record l { answers = l.answers ++ outcome ∷ [] })) (executed_events (at_place lives n) host outcome)
     by None next d = absurd (waits_not s.ended outcome (Ok (Answer outcome)) (Ok (if s.ended then Ended else Wants)) refl refl d.0)
     by (Some c) next d = answer_led can old new lives n host outcome s c is next so d.0 d.1
 

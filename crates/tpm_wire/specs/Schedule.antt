@@ -16,7 +16,7 @@ use Rattle.tpm_machine.specs.Follows.{Follows, StretchFollows}
 use Rattle.tpm_machine.specs.History.{History}
 use Rattle.tpm_wire.specs.Number.{number_of}
 use Rattle.tpm_wire.specs.Stream.{Stream, cut_of, cut_with}
-use Rattle.tpm_wire.specs.Wire.{Closes, Feeds, Opens, Turns, Wire, given, new_wire}
+use Rattle.tpm_wire.specs.Wire.{Closes, Feeds, Opens, Turns, Wire, given_event, new_wire}
 use Rattle.tpm_wire.specs.declared.fault.Full.{Full}
 use Rattle.tpm_wire.specs.declared.fault.NoConnection.{NoConnection}
 use Rattle.tpm_wire.specs.declared.host.Host.{Host}
@@ -89,13 +89,13 @@ pub data Event : Type 0 where
   PowerCycled : Event
 
 -- the event of a turn that returned an answer: the connection's due buffer was executed
-abbrev pub executed : Option Life → Host → Outcome → List Event
-executed None host outcome = []
-executed (Some l) host outcome = Executed (given (buffer_due l) host) outcome ∷ []
+abbrev pub executed_events : Option Life → Host → Outcome → List Event
+executed_events None host outcome = []
+executed_events (Some l) host outcome = Executed (given_event (buffer_due l) host) outcome ∷ []
 
 abbrev pub events_of : List (Option Life) → Call → List Event
 events_of lives (Turning connection host (Ok (Answer outcome))) =
-    executed (at_place lives (number_of connection)) host outcome
+    executed_events (at_place lives (number_of connection)) host outcome
 events_of lives PowerCycling = PowerCycled ∷ []
 events_of lives call = []
 

@@ -12,8 +12,8 @@ use Rattle.tpm_step.specs.step.Events.{PlainEvent, Given, Cycled, Placed}
 use Rattle.tpm_machine.specs.Executions.{Execution, Leads}
 use Rattle.tpm_machine.specs.Follows.{Follows, StretchFollows}
 use Rattle.tpm_machine.specs.History.{History}
-use Rattle.tpm_wire.specs.Stream.{Cut, Cutting, Stream, cut_of, fed, next_of}
-use Rattle.tpm_wire.specs.Wire.{given}
+use Rattle.tpm_wire.specs.Stream.{Cut, Cutting, Stream, cut_of, fed_stream, next_of}
+use Rattle.tpm_wire.specs.Wire.{given_event}
 use Rattle.tpm_bytes.specs.declared.tap.Failed.{Failed}
 use Rattle.tpm_wire.specs.declared.fault.HostFault.{HostFault}
 use Rattle.tpm_wire.specs.declared.fault.ServeFault.{ServeFault}
@@ -45,7 +45,8 @@ Asking F = Mut F (Unit {0}) (Result Host HostFault)
 -- The host was asked once for its values, and the buffer was executed with them.
 abbrev pub Asks : {F : Type 0} → Asking F → F → Execution → F → Type 0
 Asks g old one new =
-    (host : Host) × Called g old tt (Ok host) new × (one.event ≡ given (buffer_in one.event) host)
+    (host : Host) × Called g old tt (Ok host) new
+    × (one.event ≡ given_event (buffer_in one.event) host)
 
 -- For each of these executions, in order, the host was asked once for its values.
 abbrev pub AsksForEach : {F : Type 0} → Asking F → F → List Execution → F → Type 0
@@ -67,7 +68,8 @@ Fills had has before after old (Err failed) new =
     (after ≡ after_read {E = Failed} before (Err failed) (buffer_limit - length old.taken))
     × (new ≡ old) × Keeps had has
 Fills had has before after old (Ok count) new =
-    (bytes : List ℕ) × Consumes had has bytes × (new ≡ fed old bytes) × (length bytes ≡ count)
+    (bytes : List ℕ) × Consumes had has bytes × (new ≡ fed_stream old bytes)
+    × (length bytes ≡ count)
     × (length new.taken ≤ buffer_limit)
     × (after ≡ after_read {E = Failed} before (Ok count) (buffer_limit - length old.taken))
 

@@ -61,12 +61,12 @@ with_byte c byte =
     if c.ended then record c { rest = rest } else with_rest c rest
 
 -- a division that consists of these buffers, with no bytes after them
-abbrev pub uncut : List (List ℕ) → Bool → Cutting
-uncut buffers ended = record { buffers = buffers; rest = []; ended = ended }
+abbrev pub exact_cutting : List (List ℕ) → Bool → Cutting
+exact_cutting buffers ended = record { buffers = buffers; rest = []; ended = ended }
 
 -- the division of a stream with these bytes into buffers, computed byte by byte
 abbrev pub cut_of : List ℕ → Cutting
-cut_of bytes = fold with_byte (uncut [] false) bytes
+cut_of bytes = fold with_byte (exact_cutting [] false) bytes
 
 -- ---- the part of a stream that a connection stores
 
@@ -77,16 +77,16 @@ pub record Stream : Type 0 where
   pub ended : Bool
 
 -- the stream of a new connection
-abbrev pub opened : Stream
-opened = record { taken = []; ended = false }
+abbrev pub new_stream : Stream
+new_stream = record { taken = []; ended = false }
 
 -- the number of bytes, out of `count`, that fit into a stream
-abbrev pub fitting : Stream → ℕ → ℕ
-fitting s count = min count (buffer_limit - length s.taken)
+abbrev pub fitting_count : Stream → ℕ → ℕ
+fitting_count s count = min count (buffer_limit - length s.taken)
 
 -- a stream after it received these bytes
-abbrev pub fed : Stream → List ℕ → Stream
-fed s bytes = record s { taken = s.taken ++ bytes }
+abbrev pub fed_stream : Stream → List ℕ → Stream
+fed_stream s bytes = record s { taken = s.taken ++ bytes }
 
 -- a buffer that was cut off a stream, and the stream after it
 pub record Cut : Type 0 where
@@ -123,7 +123,7 @@ IsFront s (Some f) = (f.size ≤ length s.taken) × (next_of s ≡ Some (cut_at 
 -- the division of a whole stream into buffers: first the executed buffers `done`, and then the
 -- buffers in the stored bytes of `s`
 abbrev pub cut_with : List (List ℕ) → Stream → Cutting
-cut_with done s = fold with_byte (uncut done s.ended) s.taken
+cut_with done s = fold with_byte (exact_cutting done s.ended) s.taken
 
 -- Cutting these buffers off the first stream leaves the second stream.
 abbrev pub CutsTo : Stream → List (List ℕ) → Stream → Type 0

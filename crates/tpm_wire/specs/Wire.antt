@@ -11,7 +11,7 @@ use Rattle.tpm_step.specs.declared.event.Outcome.{Outcome}
 use Rattle.tpm_machine.specs.Executions.{Execution}
 use Rattle.tpm_machine.specs.State.{state_of}
 use Rattle.tpm_wire.specs.Number.{number_of}
-use Rattle.tpm_wire.specs.Stream.{Cut, Stream, fed, fitting, next_of, opened}
+use Rattle.tpm_wire.specs.Stream.{Cut, Stream, fed_stream, fitting_count, new_stream, next_of}
 use Rattle.tpm_wire.specs.declared.fault.Full.{Full}
 use Rattle.tpm_wire.specs.declared.fault.NoConnection.{NoConnection}
 use Rattle.tpm_wire.specs.declared.host.Host.{Host}
@@ -46,7 +46,7 @@ with_stream w number stream = record w { streams = slice_set w.streams number st
 abbrev pub Opens : Wire → Result ConnectionNumber Full → Wire → Type 0
 Opens old (Ok connection) new =
     (lowest_free old.streams ≡ Some (number_of connection))
-    × (new ≡ with_stream old (number_of connection) (Some opened))
+    × (new ≡ with_stream old (number_of connection) (Some new_stream))
 Opens old (Err full) new = (lowest_free old.streams ≡ None) × (new ≡ old)
 
 -- No connection with this number is open, and nothing changed.
@@ -59,21 +59,22 @@ Refuses old (Err e) new = new ≡ old
 abbrev pub FeedsAt : Option Stream → Wire → ℕ → List ℕ → Result ℕ NoConnection → Wire → Type 0
 FeedsAt None old number piece result new = Refuses old result new
 FeedsAt (Some s) old number piece result new =
-    (result ≡ Ok (fitting s (length piece)))
-    × (new ≡ with_stream old number (Some (fed s (take (fitting s (length piece)) piece))))
+    (result ≡ Ok (fitting_count s (length piece)))
+    × (new
+    ≡ with_stream old number (Some (fed_stream s (take (fitting_count s (length piece)) piece))))
 
 abbrev pub Feeds : Wire → ℕ → List ℕ → Result ℕ NoConnection → Wire → Type 0
 Feeds old number piece result new =
     FeedsAt (at_place old.streams number) old number piece result new
 
 -- the event that executes a buffer with the host's values
-abbrev pub given : List ℕ → Host → PlainEvent
-given buffer host = Given buffer (locality_number host.locality) host.elapsed_ms host.random
+abbrev pub given_event : List ℕ → Host → PlainEvent
+given_event buffer host = Given buffer (locality_number host.locality) host.elapsed_ms host.random
 
 -- the execution of a buffer with the host's values, from one record to another
 abbrev pub execution_of : Record → List ℕ → Host → Record → Outcome → Execution
 execution_of old buffer host new outcome =
-    record { before = old; event = given buffer host; seen = outcome_step new outcome }
+    record { before = old; event = given_event buffer host; seen = outcome_step new outcome }
 
 -- The stream contains no complete buffer, and nothing changed.
 abbrev pub Waits : Stream → Wire → Result Turn NoConnection → Wire → Type 0
@@ -83,7 +84,7 @@ Waits s old result new = (result ≡ Ok (if s.ended then Ended else Wants)) × (
 -- the bytes after it are left in the stream. `can` says whether an allocation can fail.
 abbrev pub AnswersTurn : Bool → Cut → Wire → ℕ → Host → Result Turn NoConnection → Wire → Type 0
 AnswersTurn can c old number host (Ok (Answer outcome)) new =
-    Executes can old.machine (given c.buffer host) (outcome_step new.machine outcome)
+    Executes can old.machine (given_event c.buffer host) (outcome_step new.machine outcome)
     × (new.streams ≡ slice_set old.streams number (Some c.after))
 AnswersTurn can c old number host result new = ⊥
 

@@ -4,7 +4,7 @@
 ghost use Rattle.tpm_types.specs.Limits.{buffer_limit};
 ghost use Rattle.std.specs.Prelude.{◌≡◌, ◌+◌, ◌≤◌, drop, false, length, take};
 ghost use Rattle.arrayvec.specs.ArrayVec.{array_vec_len};
-ghost use Rattle.tpm_wire.specs.Stream.{IsFront, cut_at, fed, fitting, opened};
+ghost use Rattle.tpm_wire.specs.Stream.{IsFront, cut_at, fed_stream, fitting_count, new_stream};
 
 use crate::front::{Front, front_of};
 use arrayvec::ArrayVec;
@@ -31,7 +31,7 @@ impl Model for Connection {
 impl Connection {
     /// Returns a new connection, which has received no bytes.
     pub fn new() -> Connection
-        ensures { result ≡ opened }
+        ensures { result ≡ new_stream }
     {
         Connection {
             taken: ArrayVec::new(),
@@ -55,9 +55,9 @@ impl Connection {
 
     /// Appends as many bytes of `piece` as fit into the connection, and returns their number.
     pub fn feed(&mut self, piece: &[u8]) -> usize
-        ensures count { result ≡ fitting self.old (length piece.now) }
+        ensures count { result ≡ fitting_count self.old (length piece.now) }
         ensures after { self.new
-            ≡ fed self.old (take (fitting self.old (length piece.now)) piece.now) }
+            ≡ fed_stream self.old (take (fitting_count self.old (length piece.now)) piece.now) }
     {
         let count = self.taken.remaining_capacity().min(piece.len());
         append(&mut self.taken, &piece[..count]);

@@ -11,7 +11,7 @@ ghost use Rattle.tpm_machine.specs.History.{History, PowerCycled};
 ghost use Rattle.tpm_wire.specs.History.{turn_history};
 ghost use Rattle.tpm_wire.specs.Number.{number_of};
 ghost use Rattle.tpm_wire.specs.Stream.{cut_at};
-ghost use Rattle.tpm_wire.specs.Wire.{Closes, Feeds, Opens, Turns, execution_of, given, new_wire, wire_of};
+ghost use Rattle.tpm_wire.specs.Wire.{Closes, Feeds, Opens, Turns, execution_of, given_event, new_wire, wire_of};
 ghost use Rattle.tpm_wire.specs.declared.turn.Turn.TheVariants.{Ended, Wants};
 
 use crate::connection::Connection;
@@ -192,7 +192,7 @@ pub(crate) fn execute_front<K: Keep, S: Witness>(
 ) -> Result<(), Unsaved>
     requires { front.size ≤ length connection.old.taken }
     ensures executes { Executes K.can_refuse (state_of K.record_of machine.old)
-        (given (take front.size connection.old.taken) host)
+        (given_event (take front.size connection.old.taken) host)
         (outcome_step (state_of K.record_of machine.new) outcome.new) }
     ensures after { connection.new ≡ (cut_at front.size front.last connection.old.taken).after }
     ensures told { OnOk result (S.notes witness.old

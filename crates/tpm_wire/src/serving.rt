@@ -11,7 +11,7 @@ ghost use Rattle.tpm_step.specs.step.Step.{outcome_step};
 ghost use Rattle.tpm_containers.specs.Slots.{lowest_free};
 ghost use Rattle.tpm_wire.specs.Serve.{Delivers, Finishes, Notes, Serves, buffers_of};
 ghost use Rattle.tpm_wire.specs.Stream.{CutsTo, cut_at};
-ghost use Rattle.tpm_wire.specs.Wire.{execution_of, given, wire_of};
+ghost use Rattle.tpm_wire.specs.Wire.{execution_of, given_event, wire_of};
 ghost use Rattle.tpm_wire.specs.declared.fault.ServeFault.TheVariants.{Full, Save};
 
 use crate::connection::Connection;
@@ -189,7 +189,7 @@ fn answer_front<K: Keep, W: Write, S: Witness>(
 ) -> Result<(), ServeFault>
     requires { front.size ≤ length connection.old.taken }
     ensures executes { Executes K.can_refuse (state_of K.record_of machine.old)
-        (given (take front.size connection.old.taken) host)
+        (given_event (take front.size connection.old.taken) host)
         (outcome_step (state_of K.record_of machine.new) outcome.new) }
     ensures after { connection.new ≡ (cut_at front.size front.last connection.old.taken).after }
     ensures delivers { Delivers S.notes S.note_failed

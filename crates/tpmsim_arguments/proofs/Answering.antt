@@ -7,7 +7,7 @@ use Rattle.clap.specs.declared.error.kind.ErrorKind.TheVariants.{ArgumentConflic
 use Rattle.clap.proofs.OnLiterals.{clap_on_literals}
 use Rattle.tpm_bytes.specs.Reading.{Gives}
 use Rattle.tpmsim_arguments.specs.Answers.{Answers, AreTaken, IsTold}
-use Rattle.tpmsim_arguments.specs.Invocation.{Invocation, Served, Stored, asked, asked_by, asked_in, is_set, past_in, script_in, service_in, storage_in, run, check, assemble, spell, forms, name_code, serve, cycle_power, snapshot, restore, retell, tell, replay}
+use Rattle.tpmsim_arguments.specs.Invocation.{Invocation, Served, Stored, invocation_of, asked_by, asked_in, is_set, past_in, script_in, service_in, storage_in, run, check, assemble, spell, forms, name_code, serve, cycle_power, snapshot, restore, retell, tell, replay}
 use Rattle.tpmsim_arguments.specs.CommandLine.{program}
 use Rattle.tpmsim_arguments.specs.Fault.{fault_of_words}
 use Rattle.tpmsim_arguments.specs.declared.arguments.Arguments.{Arguments}
@@ -116,7 +116,7 @@ none_tells kind (Some command) e =
 -- if clap accepts the words and the program reads clap's matches, the result is as `Answers`
 -- requires
 pub taken : (words : List Text) (r : Result Arguments ArgumentFault) → AreTaken words
-    → Gives asked (ok_or (asked_by words) Usage) r → Answers words r
+    → Gives invocation_of (ok_or (asked_by words) Usage) r → Answers words r
 taken words (Ok (arguments.Run script trace storage)) right e = (right, found_is _ _ e)
 taken words (Ok (arguments.Check script)) right e = (right, found_is _ _ e)
 taken words (Ok (arguments.Assemble line)) right e = (right, found_is _ _ e)

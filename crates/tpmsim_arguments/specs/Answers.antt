@@ -3,7 +3,7 @@ use Rattle.std.specs.Prelude.{◌≡◌, ◌⊎◌, List, [], Some, None, Result
 use Rattle.clap.specs.Words.{IsAmong, Text, fault_of, kind_of}
 use Rattle.clap.specs.declared.error.kind.ErrorKind.{ErrorKind}
 use Rattle.clap.specs.declared.error.kind.ErrorKind.TheVariants.{DisplayHelp, DisplayVersion}
-use Rattle.tpmsim_arguments.specs.Invocation.{asked, asked_by}
+use Rattle.tpmsim_arguments.specs.Invocation.{asked_by, invocation_of}
 use Rattle.tpmsim_arguments.specs.CommandLine.{program}
 use Rattle.tpmsim_arguments.specs.declared.arguments.Arguments.{Arguments}
 use Rattle.tpmsim_arguments.specs.declared.arguments.Arguments.TheVariants.{Tell}
@@ -28,6 +28,6 @@ HaveMistake words =
 abbrev pub Answers : List Text → Result Arguments ArgumentFault → Type 0
 Answers words (Ok (Tell error)) =
     IsAmong (kind_of error) (fault_of program words) × IsTold (kind_of error)
-Answers words (Ok arguments) = AreTaken words × (asked_by words ≡ Some (asked arguments))
+Answers words (Ok arguments) = AreTaken words × (asked_by words ≡ Some (invocation_of arguments))
 Answers words (Err Usage) = HaveMistake words ⊎ (AreTaken words × (asked_by words ≡ None))
 Answers words (Err NoMemory) = Unit

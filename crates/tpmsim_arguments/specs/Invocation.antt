@@ -209,14 +209,14 @@ asked_by words = asked_in (subcommand_of program words)
 
 -- ---- the values of the code, as the definitions represent them
 
-abbrev pub kept : Place → Kept
-kept (place.Image path) = in_image path.now
-kept (place.State path past) = in_state path.now past
+abbrev pub kept_of : Place → Kept
+kept_of (place.Image path) = in_image path.now
+kept_of (place.State path past) = in_state path.now past
 
-abbrev pub served : Service → Served
-served service = record {
+abbrev pub served_of : Service → Served
+served_of service = record {
   socket = service.socket.now;
-  place = kept service.place;
+  place = kept_of service.place;
   log = option_map (λ path. path.now) service.log;
   entropy = service.entropy.now;
   locality = locality_number service.locality;
@@ -225,23 +225,24 @@ served service = record {
   completes = service.completes;
 }
 
-abbrev pub stored : Storage → Stored
-stored storage = record {
-  place = kept storage.place;
+abbrev pub stored_of : Storage → Stored
+stored_of storage = record {
+  place = kept_of storage.place;
   entropy = option_map (λ path. path.now) storage.entropy;
 }
 
-abbrev pub asked : Arguments → Invocation
-asked (arguments.Run script trace storage) = run script.now trace (option_map stored storage)
-asked (arguments.Check script) = check script.now
-asked (arguments.Assemble line) = assemble line.now
-asked (arguments.Spell digits) = spell digits.now
-asked (arguments.Forms name) = forms (option_map (λ name. name.now) name)
-asked (arguments.Code digits) = name_code digits.now
-asked (arguments.Serve service) = serve (served service)
-asked (arguments.Power state cuts past) = cycle_power state.now cuts past
-asked (arguments.Snapshot state) = snapshot state.now
-asked (arguments.Restore state text past) = restore state.now text.now past
-asked (arguments.Retell state) = retell state.now
-asked (arguments.Replay journal) = replay journal.now
-asked (arguments.Tell error) = tell (kind_of error)
+abbrev pub invocation_of : Arguments → Invocation
+invocation_of (arguments.Run script trace storage) =
+    run script.now trace (option_map stored_of storage)
+invocation_of (arguments.Check script) = check script.now
+invocation_of (arguments.Assemble line) = assemble line.now
+invocation_of (arguments.Spell digits) = spell digits.now
+invocation_of (arguments.Forms name) = forms (option_map (λ name. name.now) name)
+invocation_of (arguments.Code digits) = name_code digits.now
+invocation_of (arguments.Serve service) = serve (served_of service)
+invocation_of (arguments.Power state cuts past) = cycle_power state.now cuts past
+invocation_of (arguments.Snapshot state) = snapshot state.now
+invocation_of (arguments.Restore state text past) = restore state.now text.now past
+invocation_of (arguments.Retell state) = retell state.now
+invocation_of (arguments.Replay journal) = replay journal.now
+invocation_of (arguments.Tell error) = tell (kind_of error)

@@ -5,12 +5,12 @@ ghost use Rattle.clap.specs.Words.{first_of, found_of, rows_of, subcommand_rows_
 ghost use Rattle.tpm_bytes.specs.Reading.{Gives};
 ghost use Rattle.tpmsim_arguments.specs.Answers.{Answers};
 ghost use Rattle.tpm_types.specs.Locality.{locality_number};
-ghost use Rattle.tpmsim_arguments.specs.Invocation.{asked, asked_in, asked_of, completes_by};
-ghost use Rattle.tpmsim_arguments.specs.Invocation.{connections_by, entropy_by, is_set, kept};
+ghost use Rattle.tpmsim_arguments.specs.Invocation.{asked_in, asked_of, completes_by, invocation_of};
+ghost use Rattle.tpmsim_arguments.specs.Invocation.{connections_by, entropy_by, is_set, kept_of};
 ghost use Rattle.tpmsim_arguments.specs.Invocation.{locality_by, log_by, past_by, past_in, past_of};
 ghost use Rattle.tpmsim_arguments.specs.Invocation.{place_by, place_in, power_in, restore_in};
-ghost use Rattle.tpmsim_arguments.specs.Invocation.{run_in, script_in, served, service_in};
-ghost use Rattle.tpmsim_arguments.specs.Invocation.{storage_in, stored};
+ghost use Rattle.tpmsim_arguments.specs.Invocation.{run_in, script_in, served_of, service_in};
+ghost use Rattle.tpmsim_arguments.specs.Invocation.{storage_in, stored_of};
 ghost use Rattle.tpmsim_arguments.specs.declared.fault.ArgumentFault.TheVariants.{Usage};
 
 use crate::command_line::command;
@@ -104,7 +104,8 @@ impl<'a> Arguments<'a> {
 
     /// Returns what a command line requests, from clap's matches.
     fn of_matches(matches: &ArgMatches<'a>) -> Result<Arguments<'a>, ArgumentFault>
-        ensures { Gives asked (ok_or (asked_in (subcommand_rows_of matches.now)) Usage) result }
+        ensures { Gives invocation_of (ok_or (asked_in (subcommand_rows_of matches.now)) Usage)
+            result }
     {
         let Some((name, options)) = entered(matches) else {
             return Err(ArgumentFault::Usage);
@@ -114,7 +115,8 @@ impl<'a> Arguments<'a> {
 
     /// Returns what the command with this name requests, from clap's matches.
     fn of_command(name: &str, options: &ArgMatches<'a>) -> Option<Arguments<'a>>
-        ensures { option_map asked result ≡ asked_of name.now (rows_of (found_of options.now)) }
+        ensures { option_map invocation_of result
+            ≡ asked_of name.now (rows_of (found_of options.now)) }
     {
         match name {
             "run" => run_of(options),
@@ -179,7 +181,7 @@ fn is_set(options: &ArgMatches<'_>, flag: &str) -> bool
 
 /// Returns what `run` requests, from its matches.
 fn run_of<'a>(options: &ArgMatches<'a>) -> Option<Arguments<'a>>
-    ensures { option_map asked result ≡ run_in (rows_of (found_of options.now)) }
+    ensures { option_map invocation_of result ≡ run_in (rows_of (found_of options.now)) }
 {
     Some(Arguments::Run {
         script: script_of(options)?,
@@ -202,7 +204,7 @@ fn script_of<'a>(options: &ArgMatches<'a>) -> Option<&'a str>
 
 /// Returns what `power` requests, from its matches.
 fn power_of<'a>(options: &ArgMatches<'a>) -> Option<Arguments<'a>>
-    ensures { option_map asked result ≡ power_in (rows_of (found_of options.now)) }
+    ensures { option_map invocation_of result ≡ power_in (rows_of (found_of options.now)) }
 {
     Some(Arguments::Power {
         state: value(options, "state")?,
@@ -213,7 +215,7 @@ fn power_of<'a>(options: &ArgMatches<'a>) -> Option<Arguments<'a>>
 
 /// Returns what `restore` requests, from its matches.
 fn restore_of<'a>(options: &ArgMatches<'a>) -> Option<Arguments<'a>>
-    ensures { option_map asked result ≡ restore_in (rows_of (found_of options.now)) }
+    ensures { option_map invocation_of result ≡ restore_in (rows_of (found_of options.now)) }
 {
     Some(Arguments::Restore {
         state: value(options, "state")?,
@@ -226,7 +228,8 @@ fn restore_of<'a>(options: &ArgMatches<'a>) -> Option<Arguments<'a>>
 /// image or a folder, it is an error to name a file of random bytes, or to say how many journals to
 /// keep.
 fn storage_of<'a>(options: &ArgMatches<'a>) -> Option<Option<Storage<'a>>>
-    ensures { option_map (option_map stored) result ≡ storage_in (rows_of (found_of options.now)) }
+    ensures { option_map (option_map stored_of) result
+        ≡ storage_in (rows_of (found_of options.now)) }
 {
     let entropy = value(options, "entropy");
     let keep = value(options, "keep");
@@ -251,7 +254,7 @@ fn place_by<'a>(
     state: Option<&'a str>,
     keep: Option<&'a str>,
 ) -> Option<Place<'a>>
-    ensures { option_map kept result
+    ensures { option_map kept_of result
         ≡ place_by (option_map (λ text. text.now) image.entry)
         (option_map (λ text. text.now) state.entry) (option_map (λ text. text.now) keep.entry) }
 {
@@ -285,7 +288,7 @@ fn past_of(number: u32) -> Option<u32>
 
 /// Returns, from the matches, the place where the device that `serve` uses is kept.
 fn place_of<'a>(options: &ArgMatches<'a>) -> Option<Place<'a>>
-    ensures { option_map kept result ≡ place_in (rows_of (found_of options.now)) }
+    ensures { option_map kept_of result ≡ place_in (rows_of (found_of options.now)) }
 {
     place_by(
         value(options, "image"),
@@ -298,7 +301,7 @@ fn place_of<'a>(options: &ArgMatches<'a>) -> Option<Place<'a>>
 /// have a log.
 fn log_by<'a>(place: Place<'_>, log: Option<&'a str>) -> Option<Option<&'a str>>
     ensures { option_map (option_map (λ text. text.now)) result
-        ≡ log_by (kept place.entry) (option_map (λ text. text.now) log.entry) }
+        ≡ log_by (kept_of place.entry) (option_map (λ text. text.now) log.entry) }
 {
     match (place, log) {
         (_, None) => Some(None),
@@ -309,7 +312,7 @@ fn log_by<'a>(place: Place<'_>, log: Option<&'a str>) -> Option<Option<&'a str>>
 
 /// Returns whether the completing layer is on. Only a device in a folder can have the layer.
 fn completes_by(place: Place<'_>, completes: bool) -> Option<bool>
-    ensures { result ≡ completes_by (kept place.entry) completes }
+    ensures { result ≡ completes_by (kept_of place.entry) completes }
 {
     match place {
         Place::Image(_) if completes => None,
@@ -352,7 +355,7 @@ fn connections_by(digits: Option<&str>) -> Option<Option<u32>>
 
 /// Returns what `serve` requests, from its matches.
 fn service_of<'a>(options: &ArgMatches<'a>) -> Option<Service<'a>>
-    ensures { option_map served result ≡ service_in (rows_of (found_of options.now)) }
+    ensures { option_map served_of result ≡ service_in (rows_of (found_of options.now)) }
 {
     let socket = value(options, "socket")?;
     let place = place_of(options)?;

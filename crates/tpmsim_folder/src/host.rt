@@ -139,18 +139,14 @@ impl<'a> Host<'a> {
 
     /// Writes bytes to the journal at this offset.
     pub fn put(&self, text: &[u8], at: u64) -> Result<(), KeptFault> {
-        match self.opened()?.file.write_all_at(text, at) {
-            Ok(()) => Ok(()),
-            Err(error) => Err(fault_of(&error, Place::Journal, Said::CannotBeWritten)),
-        }
+        let written = self.opened()?.file.write_all_at(text, at);
+        written.map_err(|error| fault_of(&error, Place::Journal, Said::CannotBeWritten))
     }
 
     /// Syncs the journal to the disk.
     pub fn force(&self) -> Result<(), KeptFault> {
-        match self.opened()?.file.sync_data() {
-            Ok(()) => Ok(()),
-            Err(error) => Err(fault_of(&error, Place::Journal, Said::CannotBeForced)),
-        }
+        let synced = self.opened()?.file.sync_data();
+        synced.map_err(|error| fault_of(&error, Place::Journal, Said::CannotBeForced))
     }
 
     /// Creates a new journal with these bytes, and syncs it to the disk. If an earlier process was
@@ -211,15 +207,12 @@ impl<'a> Host<'a> {
 
     fn give_name(&self) -> Result<(), KeptFault> {
         keep_past(self.rt, &self.folder, self.past)?;
-        let named = fs::rename(
+        fs::rename(
             self.rt,
             self.folder.path(Place::NewJournal),
             self.folder.path(Place::Journal),
-        );
-        match named {
-            Ok(()) => Ok(()),
-            Err(error) => Err(fault_of(&error, Place::NewJournal, Said::CannotTakeThePlace)),
-        }
+        )
+        .map_err(|error| fault_of(&error, Place::NewJournal, Said::CannotTakeThePlace))
     }
 
     /// Syncs the folder to the disk. Returns true if the folder's own name could not be synced.

@@ -16,15 +16,12 @@ pub(crate) fn keep_past(rt: &HostRuntime, folder: &Folder, count: u32) -> Result
         let said = Said::CannotGetTheNextNumber;
         return Err(fault_of(&error, Place::LastJournal, said));
     }
-    let linked = fs::hard_link(
+    fs::hard_link(
         rt,
         folder.path(Place::Journal),
         folder.path(Place::LastJournal),
-    );
-    match linked {
-        Ok(()) => Ok(()),
-        Err(error) => Err(fault_of(&error, Place::LastJournal, Said::CannotBeMade)),
-    }
+    )
+    .map_err(|error| fault_of(&error, Place::LastJournal, Said::CannotBeMade))
 }
 
 /// Checks whether there is a journal that is not yet linked as journal.1. The journal is already

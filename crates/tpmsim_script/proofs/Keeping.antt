@@ -7,7 +7,7 @@ use Rattle.std.specs.Io.KnownBytes.{Appends, Keeps, Consumes, append_known}
 use Rattle.tpm_bytes.specs.Tap.{Marks}
 use Rattle.tpm_record.specs.Record.{Record}
 use Rattle.tpmsim_script.specs.Answers.{CutOff}
-use Rattle.tpmsim_script.specs.Keeping.{Kept, kept, Tells, PlaysLine, PlaysLines, Counts, Leaves, Writes, Played, KeepsDevice}
+use Rattle.tpmsim_script.specs.Keeping.{Kept, kept_playing, Tells, PlaysLine, PlaysLines, Counts, Leaves, Writes, Played, KeepsDevice}
 use Rattle.tpmsim_script.specs.Line.{Meaning, line_meaning, lines_of}
 use Rattle.tpmsim_script.specs.LineFault.{fault_at}
 use Rattle.tpmsim_script.specs.Lines.{BeginsTooLong, IsUnbroken, LosesFirstLine, LosesStart}
@@ -69,7 +69,7 @@ lost_line (Some text) (Some here) (Some rest) lines line h k =
 
 -- A line was played if it had its effect and the saver was notified.
 played_line : {S : Type 0} (saves saves_change : S → Record → S → Type 0) (at : Kept S) (line : List ℕ) (effect : Effect) (q : Playing) (t : S)
-    → perform_line at.playing line ≡ Some effect → q ≡ effect.next → Tells saves saves_change (line_meaning line) q.device at.saver t → PlaysLine saves saves_change at line effect.text (kept q t)
+    → perform_line at.playing line ≡ Some effect → q ≡ effect.next → Tells saves saves_change (line_meaning line) q.device at.saver t → PlaysLine saves saves_change at line effect.text (kept_playing q t)
 played_line saves saves_change at line effect q t did next told = record {
   performed = did ∙ ap (λ (p : Playing). Some (record { text = effect.text; next = p })) (sym next);
   told = told;
@@ -80,11 +80,11 @@ count_on lines line number e = omega (arith, e, length-append lines (line ∷ []
 
 pub went_on : {S : Type 0} (saves saves_change : S → Record → S → Type 0) (text here rest first now held mid : Option (List ℕ)) (number : ℕ) (start at : Kept S) (q : Playing) (t : S) (line : List ℕ) (done : Unit {0})
     → SoFar saves saves_change text here first now number start at → LosesFirstLine here line rest → Keeps now held → Did (perform_line at.playing line) held at.playing (Ok done) mid q
-    → Told (Tells saves saves_change (line_meaning line) q.device at.saver) at.saver (Ok done) t → SoFar saves saves_change text rest first mid (number + 1) start (kept q t)
+    → Told (Tells saves saves_change (line_meaning line) q.device at.saver) at.saver (Ok done) t → SoFar saves saves_change text rest first mid (number + 1) start (kept_playing q t)
 went_on saves saves_change text here rest first now held mid number start at q t line done so lost same did told = record {
   lines = so.lines ++ line ∷ [];
   print = so.print ++ did.0.text;
-  played = plays_on saves saves_change start so.lines so.print at line did.0.text (kept q t) so.played (played_line saves saves_change at line did.0 q t did.1 did.3 told);
+  played = plays_on saves saves_change start so.lines so.print at line did.0.text (kept_playing q t) so.played (played_line saves saves_change at line did.0 q t did.1 did.3 told);
   place = count_on so.lines line number so.place;
   lost = lost_line text here rest so.lines line so.lost lost;
   printed = printed_on first now held mid so.print did.0.text so.printed same did.2;
@@ -106,13 +106,13 @@ left_any None here lines P h p = tt
 left_any (Some text) None lines P h p = absurd h
 left_any (Some text) (Some here) lines P h p = (lines_of here, h, p (lines_of here))
 
-same_end : {S : Type 0} (at : Kept S) (q : Playing) (t : S) → q ≡ at.playing → t ≡ at.saver → at ≡ kept q t
+same_end : {S : Type 0} (at : Kept S) (q : Playing) (t : S) → q ≡ at.playing → t ≡ at.saver → at ≡ kept_playing q t
 same_end at q t e f = λ i. record { playing = sym e i; saver = sym f i }
 
 pub stopped : {S : Type 0} (saves saves_change : S → Record → S → Type 0) (text left here rest first now held new : Option (List ℕ)) (writer : Marks) (number : ℕ) (start at : Kept S) (q : Playing) (t : S) (line : List ℕ) (why : LineFault)
     → SoFar saves saves_change text here first now number start at → LosesFirstLine here line rest → Keeps now held → Did (perform_line at.playing line) held at.playing (Err why) new q
     → Told (Tells saves saves_change (line_meaning line) q.device at.saver) at.saver (Err why) t
-    → KeepsDevice saves saves_change text left first new writer start (Err (fault_at number why)) (λ end. end ≡ kept q t)
+    → KeepsDevice saves saves_change text left first new writer start (Err (fault_at number why)) (λ end. end ≡ kept_playing q t)
 stopped saves saves_change text left here rest first now held new writer number start at q t line stop.Bad so lost same did told = record {
   lines = so.lines;
   print = so.print;
@@ -126,8 +126,8 @@ stopped saves saves_change text left here rest first now held new writer number 
 stopped saves saves_change text left here rest first now held new writer number start at q t line stop.Write so lost same did told = record {
   lines = so.lines ++ line ∷ [];
   print = so.print ++ did.0.text;
-  end = kept q t;
-  played = plays_on saves saves_change start so.lines so.print at line did.0.text (kept q t) so.played (played_line saves saves_change at line did.0 q t did.1 did.3 told);
+  end = kept_playing q t;
+  played = plays_on saves saves_change start so.lines so.print at line did.0.text (kept_playing q t) so.played (played_line saves saves_change at line did.0 q t did.1 did.3 told);
   count = tt;
   others = left_any text rest (so.lines ++ line ∷ []) (Leaves (Err fault.Write) left q) (lost_line text here rest so.lines line so.lost lost) (λ rest. tt);
   written = cut_within first now held new so.print did.0.text so.printed same did.2;
@@ -174,7 +174,7 @@ left_none (Some text) (Some here) left lines p h k = (lines_of here, h, ap lines
 
 pub ended : {S : Type 0} (saves saves_change : S → Record → S → Type 0) (text left here first now new : Option (List ℕ)) (number : ℕ) (start at : Kept S) (q : Playing)
     → SoFar saves saves_change text here first now number start at → IfSome here (λ text. text ≡ []) → Keeps now new → q ≡ at.playing
-    → Played saves saves_change text left first new start (Ok tt) (λ end. end ≡ kept q at.saver)
+    → Played saves saves_change text left first new start (Ok tt) (λ end. end ≡ kept_playing q at.saver)
 ended saves saves_change text left here first now new number start at q so empty same e = record {
   lines = so.lines;
   print = so.print;
@@ -188,7 +188,7 @@ ended saves saves_change text left here first now new number start at q so empty
 
 ended_long : {S : Type 0} (saves saves_change : S → Record → S → Type 0) (text left here first now new : Option (List ℕ)) (number : ℕ) (start at : Kept S) (q : Playing)
     → SoFar saves saves_change text here first now number start at → IfSome here BeginsTooLong → Keeps now new → q ≡ at.playing
-    → Played saves saves_change text left first new start (Err (fault.Line number)) (λ end. end ≡ kept q at.saver)
+    → Played saves saves_change text left first new start (Err (fault.Line number)) (λ end. end ≡ kept_playing q at.saver)
 ended_long saves saves_change text left here first now new number start at q so long same e = record {
   lines = so.lines;
   print = so.print;
@@ -202,7 +202,7 @@ ended_long saves saves_change text left here first now new number start at q so 
 
 ended_unread : {S : Type 0} (saves saves_change : S → Record → S → Type 0) (text left here first now new : Option (List ℕ)) (number : ℕ) (start at : Kept S) (q : Playing)
     → SoFar saves saves_change text here first now number start at → LosesStart here left → Keeps now new → q ≡ at.playing
-    → Played saves saves_change text left first new start (Err fault.Read) (λ end. end ≡ kept q at.saver)
+    → Played saves saves_change text left first new start (Err fault.Read) (λ end. end ≡ kept_playing q at.saver)
 ended_unread saves saves_change text left here first now new number start at q so lost same e = record {
   lines = so.lines;
   print = so.print;
@@ -216,7 +216,7 @@ ended_unread saves saves_change text left here first now new number start at q s
 
 ended_unwritten : {S : Type 0} (saves saves_change : S → Record → S → Type 0) (text left here first now new : Option (List ℕ)) (number : ℕ) (start at : Kept S) (q : Playing)
     → SoFar saves saves_change text here first now number start at → CutOff now new → q ≡ at.playing
-    → Played saves saves_change text left first new start (Err fault.Write) (λ end. end ≡ kept q at.saver)
+    → Played saves saves_change text left first new start (Err fault.Write) (λ end. end ≡ kept_playing q at.saver)
 ended_unwritten saves saves_change text left here first now new number start at q so cut e = record {
   lines = so.lines;
   print = so.print;
@@ -231,9 +231,9 @@ ended_unwritten saves saves_change text left here first now new number start at 
 pub failed : {S : Type 0} (saves saves_change : S → Record → S → Type 0) (text left here rest first now new : Option (List ℕ)) (writer : Marks) (number : ℕ) (start at : Kept S) (q : Playing) (why : ScriptFault) (line : List ℕ)
     → SoFar saves saves_change text here first now number start at → NextFound number here (Err why) line rest
     → UnlessFailed {X = Bool} (Err why) (Keeps now new) → OnUnread {X = Bool} (Err why) (LosesStart here left) → OnUnwritten {X = Bool} (Err why) (CutOff now new) → q ≡ at.playing
-    → KeepsDevice saves saves_change text left first new writer start (Err why) (λ end. end ≡ kept q at.saver)
+    → KeepsDevice saves saves_change text left first new writer start (Err why) (λ end. end ≡ kept_playing q at.saver)
 failed saves saves_change text left here rest first now new writer number start at q (fault.Line bad) line so found same lost cut e =
-    subst (λ n. Played saves saves_change text left first new start (Err (fault.Line n)) (λ end. end ≡ kept q at.saver)) (sym found.0)
+    subst (λ n. Played saves saves_change text left first new start (Err (fault.Line n)) (λ end. end ≡ kept_playing q at.saver)) (sym found.0)
     (ended_long saves saves_change text left here first now new number start at q so found.1 same e)
 failed saves saves_change text left here rest first now new writer number start at q fault.Read line so found same lost cut e =
     ended_unread saves saves_change text left here first now new number start at q so lost same e
@@ -259,7 +259,7 @@ left_more_long (Some text) (Some here) left lines p h k = (lines_of here, h, (k.
 ended_full : {S : Type 0} (saves saves_change : S → Record → S → Type 0) (text left here first now new : Option (List ℕ)) (number : ℕ) (start at : Kept S) (q : Playing)
     → (so : SoFar saves saves_change text here first now number start at) → number ≡ 1048577
     → IfSome text (λ text. (rest : List (List ℕ)) × (lines_of text ≡ so.lines ++ rest) × Leaves (Err fault.TooManyLines) left at.playing rest) → Keeps now new → q ≡ at.playing
-    → Played saves saves_change text left first new start (Err fault.TooManyLines) (λ end. end ≡ kept q at.saver)
+    → Played saves saves_change text left first new start (Err fault.TooManyLines) (λ end. end ≡ kept_playing q at.saver)
 ended_full saves saves_change text left here first now new number start at q so limit more same e = record {
   lines = so.lines;
   print = so.print;
@@ -274,7 +274,7 @@ ended_full saves saves_change text left here first now new number start at q so 
 pub ended_at_limit : {S : Type 0} (saves saves_change : S → Record → S → Type 0) (text left here rest first now new : Option (List ℕ)) (writer : Marks) (number known : ℕ) (start at : Kept S) (q : Playing) (next : Result Bool ScriptFault) (line : List ℕ)
     → number ≡ 1048577 → SoFar saves saves_change text here first now number start at → NextFound known here next line rest
     → UnlessFailed next (Keeps now new) → OnUnread next (LosesStart here left) → OnUnwritten next (CutOff now new) → q ≡ at.playing
-    → KeepsDevice saves saves_change text left first new writer start (end_at_limit next) (λ end. end ≡ kept q at.saver)
+    → KeepsDevice saves saves_change text left first new writer start (end_at_limit next) (λ end. end ≡ kept_playing q at.saver)
 ended_at_limit saves saves_change text left here rest first now new writer number known start at q (Ok true) line limit so found same lost cut e =
     ended_full saves saves_change text left here first now new number start at q so limit (left_more text here rest left so.lines line at.playing so.lost found) same e
 ended_at_limit saves saves_change text left here rest first now new writer number known start at q (Ok false) line limit so found same lost cut e =
@@ -306,11 +306,11 @@ told_there saves saves_change line said device old result new e told = subst (λ
 -- Whether a run satisfies `KeepsDevice` depends only on the text, the output and the script at its
 -- start.
 pub begun_at : {S : Type 0} (saves saves_change : S → Record → S → Type 0) (before text left held old new : Option (List ℕ)) (writer : Marks) (q p : Playing) (saver : S) (result : Result (Unit {0}) ScriptFault) (Last : Kept S → Type 0)
-    → before ≡ text → held ≡ old → q ≡ p → KeepsDevice saves saves_change before left held new writer (kept q saver) result Last → KeepsDevice saves saves_change text left old new writer (kept p saver) result Last
+    → before ≡ text → held ≡ old → q ≡ p → KeepsDevice saves saves_change before left held new writer (kept_playing q saver) result Last → KeepsDevice saves saves_change text left old new writer (kept_playing p saver) result Last
 begun_at saves saves_change before text left held old new writer q p saver result Last a b c h =
-    subst (λ x. KeepsDevice saves saves_change text left old new writer (kept x saver) result Last) c
-    (subst (λ x. KeepsDevice saves saves_change text left x new writer (kept q saver) result Last) b
-    (subst (λ x. KeepsDevice saves saves_change x left held new writer (kept q saver) result Last) a h))
+    subst (λ x. KeepsDevice saves saves_change text left old new writer (kept_playing x saver) result Last) c
+    (subst (λ x. KeepsDevice saves saves_change text left x new writer (kept_playing q saver) result Last) b
+    (subst (λ x. KeepsDevice saves saves_change x left held new writer (kept_playing q saver) result Last) a h))
 
 others_yet : (text : Option (List ℕ)) (lines : List (List ℕ)) (P Q : List (List ℕ) → Type 0) → ((rest : List (List ℕ)) → Q rest) → IfSome text (λ text. (rest : List (List ℕ)) × (lines_of text ≡ lines ++ rest) × P rest)
     → IfSome text (λ text. (rest : List (List ℕ)) × (lines_of text ≡ lines ++ rest) × Q rest)

@@ -13,8 +13,8 @@ abbrev pub unknown_word : BadLine
 unknown_word = record { fault = fault.BadName; wanted = wanted.Word }
 
 -- the fault of a line that ends after its first word, although an argument is expected there
-abbrev pub missing : Wanted → BadLine
-missing wanted = record { fault = fault.Missing; wanted = wanted }
+abbrev pub missing_argument : Wanted → BadLine
+missing_argument wanted = record { fault = fault.Missing; wanted = wanted }
 
 -- the fault of a wrong argument; `wanted` says what is expected instead
 abbrev pub misplaced : Wanted → BadLine

@@ -18,8 +18,8 @@ pub record Kept (S : Type 0) : Type 0 where
   pub playing : Playing
   pub saver : S
 
-abbrev pub kept : {S : Type 0} → Playing → S → Kept S
-kept playing saver = record { playing = playing; saver = saver }
+abbrev pub kept_playing : {S : Type 0} → Playing → S → Kept S
+kept_playing playing saver = record { playing = playing; saver = saver }
 
 -- How the saver was notified of the device after a line. After a command, the saver was notified
 -- that the device may have changed. After a power cycle, it was notified of the device with its

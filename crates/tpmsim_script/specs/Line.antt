@@ -7,7 +7,7 @@ use Rattle.std.specs.Result.{result_ok}
 use Rattle.hex.specs.Hex.{decode_of}
 use Rattle.tpm_types.specs.Locality.{locality_number}
 use Rattle.tpm_number.specs.Number.{decimal_of, is_word, locality_of}
-use Rattle.tpmsim_script.specs.BadLine.{missing, misplaced, number_fault, unknown_word}
+use Rattle.tpmsim_script.specs.BadLine.{missing_argument, misplaced, number_fault, unknown_word}
 use Rattle.tpmsim_script.specs.declared.bad_line.BadLine.{BadLine}
 use Rattle.tpmsim_script.specs.declared.bad_line.Wanted.TheVariants as wanted
 use Rattle.tpmsim_script.specs.declared.line.Line as declared
@@ -41,10 +41,10 @@ unfoldable pub reading_alone : List ℕ → Result Meaning BadLine
 reading_alone word =
     if is_word (codes "cmd") word then Ok (Executes [])
     else if is_word (codes "power") word then Ok CyclesPower
-    else if is_word (codes "do") word then Err (missing wanted.Command)
-    else if is_word (codes "loc") word then Err (missing wanted.Locality)
-    else if is_word (codes "wait") word then Err (missing wanted.Milliseconds)
-    else if is_word (codes "entropy") word then Err (missing wanted.Entropy)
+    else if is_word (codes "do") word then Err (missing_argument wanted.Command)
+    else if is_word (codes "loc") word then Err (missing_argument wanted.Locality)
+    else if is_word (codes "wait") word then Err (missing_argument wanted.Milliseconds)
+    else if is_word (codes "entropy") word then Err (missing_argument wanted.Entropy)
     else Err unknown_word
 
 -- the meaning of the argument of `loc`

@@ -5,7 +5,7 @@ use Rattle.tpm_bytes.specs.Tap.{Marks}
 use Rattle.tpm_machine.specs.State.{state_of}
 use Rattle.tpm_record.specs.Record.{Record}
 use Rattle.tpmsim_script.specs.Answers.{CutOff}
-use Rattle.tpmsim_script.specs.Script.{Playing, Effect, playing}
+use Rattle.tpmsim_script.specs.Script.{Playing, Effect, script_playing}
 use Rattle.tpmsim_script.specs.declared.line_fault.LineFault.{LineFault}
 use Rattle.tpmsim_script.specs.declared.line_fault.LineFault.TheVariants.{Bad, Write, Save}
 use Rattle.tpmsim_script.specs.declared.player.Player.{Player}
@@ -13,7 +13,7 @@ use Rattle.tpmsim_script.specs.declared.player.Player.{Player}
 -- the script that a player plays; `record_of` maps the state of the player's device to its record
 abbrev pub playing_of : {K S O P N : Type 0} → (K → Record) → Player K S O P N → Playing
 playing_of record_of player =
-    playing player.traced player.script (state_of record_of player.machine)
+    script_playing player.traced player.script (state_of record_of player.machine)
 
 -- How a line was performed. On success, the line had its effect, and its output was printed after
 -- the old contents. If the line is bad, it had no effect and printed nothing. If the writer failed,

@@ -29,8 +29,8 @@ pub record Playing : Type 0 where
   pub device : Record
 
 -- the script that the code plays, with the trace option and the record of its device
-abbrev pub playing : Bool → Script → Record → Playing
-playing traced script device = record {
+abbrev pub script_playing : Bool → Script → Record → Playing
+script_playing traced script device = record {
   traced = traced;
   locality = locality_number script.locality;
   waited = script.waited;

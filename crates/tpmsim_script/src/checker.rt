@@ -56,10 +56,10 @@ impl Checker {
         match said {
             Line::Command(digits) => self.check_hex(digits),
             Line::Words(words) => self.check_words(words),
-            Line::Wait(milliseconds) => match self.script.wait(milliseconds) {
-                Ok(()) => Ok(()),
-                Err(_) => Err(too_large(Wanted::Milliseconds)),
-            },
+            Line::Wait(milliseconds) => self
+                .script
+                .wait(milliseconds)
+                .map_err(|_| too_large(Wanted::Milliseconds)),
             Line::Entropy(digits) => self.check_entropy(digits),
             Line::Locality(_) | Line::PowerCycle | Line::Nothing => Ok(()),
         }
@@ -106,10 +106,9 @@ impl Checker {
         let Ok(entropy) = self.room.decode(digits) else {
             return Err(misplaced(Wanted::Entropy));
         };
-        match self.script.set_entropy(entropy) {
-            Ok(()) => Ok(()),
-            Err(_) => Err(misplaced(Wanted::Entropy)),
-        }
+        self.script
+            .set_entropy(entropy)
+            .map_err(|_| misplaced(Wanted::Entropy))
     }
 }
 

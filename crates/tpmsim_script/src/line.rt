@@ -5,7 +5,7 @@ ghost use Rattle.std.specs.Prelude.{◌≡◌, ◌+◌, ◌*◌, ◌==◌, ◌�
 ghost use Rattle.std.specs.List.{list_all, position};
 ghost use Rattle.tpm_bytes.specs.Reading.{Gives};
 ghost use Rattle.tpm_number.specs.Number.{is_digit, numeral};
-ghost use Rattle.tpmsim_script.specs.BadLine.{missing, misplaced, number_fault, too_large};
+ghost use Rattle.tpmsim_script.specs.BadLine.{missing_argument, misplaced, number_fault, too_large};
 ghost use Rattle.tpmsim_script.specs.Line.{Tells, bytes_of, hex_of, line_meaning, line_reading};
 ghost use Rattle.tpmsim_script.specs.Line.{locality_reading, meaning_of, reading_alone, reading_by};
 ghost use Rattle.tpmsim_script.specs.Line.{reading_with, wait_reading};
@@ -143,7 +143,7 @@ const UNKNOWN_WORD: BadLine = BadLine {
 
 /// The fault of a line that ends after its first word, although an argument is expected there.
 fn missing(wanted: Wanted) -> BadLine
-    ensures { result ≡ missing wanted }
+    ensures { result ≡ missing_argument wanted }
 {
     BadLine {
         fault: AsmFault::Missing,

@@ -106,10 +106,7 @@ impl<K: Keep> Player<K> {
             (printout (W.contents (device_of writer.old)) self.old.answers)
             (printout (W.contents (device_of writer.new)) self.new.answers)) }
     {
-        match self.answers.flush(writer) {
-            Ok(()) => Ok(()),
-            Err(_) => Err(ScriptFault::Write),
-        }
+        self.answers.flush(writer).map_err(|_| ScriptFault::Write)
     }
 
     /// Performs a parsed line.
@@ -222,9 +219,8 @@ impl<K: Keep> Player<K> {
             return Ok(());
         }
         let text = trace_text(event, self.outcome.row, self.outcome.response.as_slice());
-        match self.answers.put_text(writer, text.as_str().as_bytes()) {
-            Ok(()) => Ok(()),
-            Err(_) => Err(LineFault::Write),
-        }
+        self.answers
+            .put_text(writer, text.as_str().as_bytes())
+            .map_err(|_| LineFault::Write)
     }
 }

@@ -6,7 +6,7 @@ ghost use Rattle.std.specs.Io.KnownBytes.{Keeps};
 ghost use Rattle.tpm_bytes.specs.Tap.{device_of, marks_of};
 ghost use Rattle.tpm_machine.specs.State.{state_of};
 ghost use Rattle.tpmsim_script.specs.Answers.{CutOff, backlog, printout};
-ghost use Rattle.tpmsim_script.specs.Keeping.{KeepsDevice, kept};
+ghost use Rattle.tpmsim_script.specs.Keeping.{KeepsDevice, kept_playing};
 ghost use Rattle.tpmsim_script.specs.Lines.{Agrees, LosesStart, line_of, rest_of, text_left};
 ghost use Rattle.tpmsim_script.specs.Player.{playing_of};
 ghost use Rattle.tpmsim_script.specs.Run.{AreTheirs, NextFound, OnNoMemory, OnTooMany, OnUnread};
@@ -113,7 +113,7 @@ pub fn run_device<K: Keep, S: Saver, R: Read, W: Write>(
         (R.remaining (device_of reader.old)) (R.remaining (device_of reader.new))
         (W.contents (device_of writer.old)) (W.contents (device_of writer.new))
         (marks_of writer.new)
-        (kept (at_first trace (state_of K.record_of machine)) saver.old) result
+        (kept_playing (at_first trace (state_of K.record_of machine)) saver.old) result
         (λ end. S.saves end.saver end.playing.device saver.new) }
 
     // The fault Read means that the reader failed, Write that the writer failed, and Save that the
@@ -199,8 +199,8 @@ impl<K: Keep> Run<K> {
             (printout (W.contents (device_of writer.old)) self.old.player.answers)
             (printout (W.contents (device_of writer.new)) self.new.player.answers)
             (marks_of writer.new)
-            (kept (playing_of K.record_of self.old.player) saver.old) result
-            (λ end. end ≡ kept (playing_of K.record_of self.new.player) saver.new) }
+            (kept_playing (playing_of K.record_of self.old.player) saver.old) result
+            (λ end. end ≡ kept_playing (playing_of K.record_of self.new.player) saver.new) }
         ensures failed { AreTheirs result (marks_of reader.new) (marks_of writer.new)
             (S.has_failed saver.new) }
         ensures memory { OnNoMemory result ⊥ }

@@ -72,7 +72,7 @@ use Rattle.tpm_nvactions.specs.Access.{changed_nv}
 use Rattle.tpm_nvactions.specs.NvChangeAuth.{nv_change_auth_row}
 use Rattle.tpm_nvactions.specs.NvDefineSpace as definition
 use Rattle.tpm_step.specs.step.Table.{row_of}
-use Rattle.tpm_step.specs.rows.Footprint.{Touches, emptied}
+use Rattle.tpm_step.specs.rows.Footprint.{Touches, emptied_fixed}
 use Rattle.tpm_commands.specs.Part.{Part, Nothing, Sessions, NvData, NvCounter, NvUndefined, Lockout, Banks}
 use Rattle.tpm_commands.specs.Part.{Saved, DisableClear, Cleared}
 use Rattle.tpm_step.specs.rows.IndexChanges.{ChangesIndices, Defines, Writes}
@@ -389,13 +389,13 @@ cleared_or_same objects n = by (at_number transient_byte objects n) refl
 
 -- After TPM2_Clear, ownerAuth, endorsementAuth and lockoutAuth are empty, and the removed objects
 -- and indices have no authorization value.
-all_cleared : (r : Record) (after : Fixed) (values : AuthValues) → Ascends r.nv.indices → Ascends r.persistent → HaveValues r values → HaveValues (record r { fixed = emptied r.fixed after; objects = cleared_objects r.objects; persistent = cleared_persistent r.persistent; nv = cleared r.nv }) (cleared_values values)
+all_cleared : (r : Record) (after : Fixed) (values : AuthValues) → Ascends r.nv.indices → Ascends r.persistent → HaveValues r values → HaveValues (record r { fixed = emptied_fixed r.fixed after; objects = cleared_objects r.objects; persistent = cleared_persistent r.persistent; nv = cleared r.nv }) (cleared_values values)
 unfolding object_at with_hierarchy_auth cleared
 all_cleared r after values up also have =
     let first : Record = with_auth r auth.Lockout [] in
     let second : Record = with_auth first auth.Endorsement [] in
     let third : Record = with_auth second auth.Owner [] in
-    let new : Record = record r { fixed = emptied r.fixed after; objects = cleared_objects r.objects; persistent = cleared_persistent r.persistent; nv = cleared r.nv } in
+    let new : Record = record r { fixed = emptied_fixed r.fixed after; objects = cleared_objects r.objects; persistent = cleared_persistent r.persistent; nv = cleared r.nv } in
     kept_values third new (cleared_values values)
     (λ h.
     parts_keep third new h

@@ -6,7 +6,7 @@ use Rattle.tpm_types.specs.declared.refused.Refused.{Refused}
 use Rattle.tpm_commands.specs.declared.command_code.CommandCode.{CommandCode}
 use Rattle.tpm_commands.specs.declared.command_code.CommandCode.TheVariants as command
 use Rattle.tpm_record.specs.rows.Request.{Request, second_handle}
-use Rattle.tpm_step.specs.history.Counters.{AllBelow, CountLaws, Counters, HasNoDefinition, IsDefinition, begun_at, count_at, counted_at, counters_by, counters_of, counts_of, defined_handle, defines, defines_by, is_named, largest, next_count}
+use Rattle.tpm_step.specs.history.Counters.{AllBelow, CountLaws, Counters, HasNoDefinition, IsDefinition, begun_at, count_at, counted_at, counters_by, counters_of, counts_of, defined_handle, defines, defines_by, is_named, largest_of, next_count}
 use Rattle.tpm_step.specs.history.HandleMap.{by_handle}
 use Rattle.tpm_step.specs.history.History.{Done, History, ObjectPlaced, PastEvent, PowerCycled}
 use Rattle.tpm_step.proofs.history.HandleMap.{at_other, at_same, same_handle}
@@ -19,7 +19,7 @@ use Rattle.tpm_step.proofs.history.Indices.{some_none, some_same}
 abbrev Moves : Counters → Counters → (defined : Bool) → Handle → Type 0
 Moves c d defined handle =
     (d.at handle ≡ c.at handle)
-    ⊎ (((d.at handle ≡ Some (next_count (largest c.all) (c.at handle))) × (d.all ≡ next_count (largest c.all) (c.at handle) ∷ c.all))
+    ⊎ (((d.at handle ≡ Some (next_count (largest_of c.all) (c.at handle))) × (d.all ≡ next_count (largest_of c.all) (c.at handle) ∷ c.all))
     ⊎ ((d.at handle ≡ None) × (defined ≡ true)))
 
 increment_moves : (named : Result Handle Refused) (c : Counters) (handle : Handle) → Moves c (by_handle named counted_at c) false handle
@@ -28,11 +28,11 @@ increment_moves (Ok named) c handle =
     elim (cases_eq handle.number named.number) [
       | inl same ↦
           inr (inl (subst (λ (h : Handle). ((counted_at h c).at handle ≡ Some n) × ((counted_at h c).all ≡ n ∷ c.all)) (same_handle handle named same) (at_same handle handle (Some n) c.at refl, refl)))
-      | inr apart ↦ inl (at_other named handle (Some (next_count (largest c.all) (c.at named))) c.at apart)
+      | inr apart ↦ inl (at_other named handle (Some (next_count (largest_of c.all) (c.at named))) c.at apart)
     ]
   where
     n : ℕ
-    n = next_count (largest c.all) (c.at handle)
+    n = next_count (largest_of c.all) (c.at handle)
 
 definition_moves : (named : Result Handle Refused) (c : Counters) (handle : Handle) → Moves c (by_handle named begun_at c) (is_named named handle) handle
 definition_moves (Err e) c handle = inl refl
@@ -55,32 +55,32 @@ event_moves history (ObjectPlaced at object) handle = inl refl
 
 -- ---- the largest value never falls
 
-increment_grows : (named : Result Handle Refused) (c : Counters) → largest c.all ≤ largest (by_handle named counted_at c).all
+increment_grows : (named : Result Handle Refused) (c : Counters) → largest_of c.all ≤ largest_of (by_handle named counted_at c).all
 increment_grows (Ok named) c = omega arith
 increment_grows (Err e) c = omega arith
 
-definition_grows : (named : Result Handle Refused) (c : Counters) → largest c.all ≤ largest (by_handle named begun_at c).all
+definition_grows : (named : Result Handle Refused) (c : Counters) → largest_of c.all ≤ largest_of (by_handle named begun_at c).all
 definition_grows (Ok named) c = omega arith
 definition_grows (Err e) c = omega arith
 
-command_grows : (code : CommandCode) (q : Request) (c : Counters) → largest c.all ≤ largest (counters_by code q c).all
+command_grows : (code : CommandCode) (q : Request) (c : Counters) → largest_of c.all ≤ largest_of (counters_by code q c).all
 command_grows command.NvIncrement q c = increment_grows (second_handle q.handles) c
 command_grows command.NvDefineSpace q c = definition_grows (defined_handle q.parameters) c
 command_grows _ q c = omega arith
 
-event_grows : (history : History) (one : PastEvent) → largest (counts_of history) ≤ largest (counts_of (one ∷ history))
+event_grows : (history : History) (one : PastEvent) → largest_of (counts_of history) ≤ largest_of (counts_of (one ∷ history))
 event_grows history (Done c) = command_grows c.command.code c.request (counters_of history)
 event_grows history PowerCycled = omega arith
 event_grows history (ObjectPlaced at object) = omega arith
 
-history_grows : (old new : History) → largest (counts_of old) ≤ largest (counts_of (new ++ old))
+history_grows : (old new : History) → largest_of (counts_of old) ≤ largest_of (counts_of (new ++ old))
 history_grows old [] = omega arith
 history_grows old (one ∷ new) = omega (arith, history_grows old new, event_grows (new ++ old) one)
 
 -- ---- each value is at most the largest
 
 abbrev IsWithin : Counters → Type 0
-IsWithin c = (handle : Handle) (n : ℕ) → c.at handle ≡ Some n → n ≤ largest c.all
+IsWithin c = (handle : Handle) (n : ℕ) → c.at handle ≡ Some n → n ≤ largest_of c.all
 
 command_within : (code : CommandCode) (q : Request) (c : Counters) → IsWithin c → IsWithin (counters_by code q c)
 command_within code q c within handle n some = by (command_moves code q c handle)
@@ -88,11 +88,11 @@ command_within code q c within handle n some = by (command_moves code q c handle
     d : Counters
     d = counters_by code q c
 
-    by : Moves c d (defines_by code q handle) handle → n ≤ largest d.all
+    by : Moves c d (defines_by code q handle) handle → n ≤ largest_of d.all
     by (inl same) = omega (arith, within handle n (sym same ∙ some), command_grows code q c)
     by (inr (inl counts)) =
-        let is : next_count (largest c.all) (c.at handle) ≡ n = some_same _ n (sym counts.0 ∙ some) in
-        subst (λ all. n ≤ largest all) (sym counts.1) (omega (arith, is))
+        let is : next_count (largest_of c.all) (c.at handle) ≡ n = some_same _ n (sym counts.0 ∙ some) in
+        subst (λ all. n ≤ largest_of all) (sym counts.1) (omega (arith, is))
     by (inr (inr begun)) = absurd (some_none n (sym begun.0 ∙ some))
 
 history_within : (history : History) → IsWithin (counters_of history)
@@ -111,7 +111,7 @@ Since least now = (n : ℕ) × (now ≡ Some n) × (least ≤ n)
 one_since : (least : ℕ) (c d : Counters) (handle : Handle) → Moves c d false handle → Since least (c.at handle) → Since least (d.at handle)
 one_since least c d handle (inl same) since = subst (Since least) (sym same) since
 one_since least c d handle (inr (inl counts)) (n, at, low) =
-    let next : Option ℕ → Option ℕ = λ o. Some (next_count (largest c.all) o) in
+    let next : Option ℕ → Option ℕ = λ o. Some (next_count (largest_of c.all) o) in
     (n + 1, counts.0 ∙ ap next at, omega (arith, low))
 one_since least c d handle (inr (inr begun)) since = absurd (false≢true begun.1)
 
@@ -129,30 +129,30 @@ never_down old (one ∷ new) handle n some none =
 abbrev Above : (most : ℕ) → (now : Option ℕ) → Type 0
 Above most now = (now ≡ None) ⊎ ((n : ℕ) × (now ≡ Some n) × (most < n))
 
-one_above : (most : ℕ) (c d : Counters) (defined : Bool) (handle : Handle) → most ≤ largest c.all → Moves c d defined handle → Above most (c.at handle) → Above most (d.at handle)
+one_above : (most : ℕ) (c d : Counters) (defined : Bool) (handle : Handle) → most ≤ largest_of c.all → Moves c d defined handle → Above most (c.at handle) → Above most (d.at handle)
 one_above most c d defined handle grown (inl same) above = subst (Above most) (sym same) above
 one_above most c d defined handle grown (inr (inl counts)) (inl none) =
-    let next : Option ℕ → Option ℕ = λ o. Some (next_count (largest c.all) o) in
-    inr (largest c.all + 1, counts.0 ∙ ap next none, omega (arith, grown))
+    let next : Option ℕ → Option ℕ = λ o. Some (next_count (largest_of c.all) o) in
+    inr (largest_of c.all + 1, counts.0 ∙ ap next none, omega (arith, grown))
 one_above most c d defined handle grown (inr (inl counts)) (inr (n, at, low)) =
-    let next : Option ℕ → Option ℕ = λ o. Some (next_count (largest c.all) o) in
+    let next : Option ℕ → Option ℕ = λ o. Some (next_count (largest_of c.all) o) in
     inr (n + 1, counts.0 ∙ ap next at, omega (arith, low))
 one_above most c d defined handle grown (inr (inr begun)) above = inl begun.0
 
-all_above : (old new : History) (handle : Handle) → count_at old handle ≡ None → Above (largest (counts_of old)) (count_at (new ++ old) handle)
+all_above : (old new : History) (handle : Handle) → count_at old handle ≡ None → Above (largest_of (counts_of old)) (count_at (new ++ old) handle)
 all_above old [] handle none = inl none
 all_above old (one ∷ new) handle none =
-    one_above (largest (counts_of old)) (counters_of (new ++ old)) (counters_of (one ∷ new ++ old)) (defines one handle) handle (history_grows old new)
+    one_above (largest_of (counts_of old)) (counters_of (new ++ old)) (counters_of (one ∷ new ++ old)) (defines one handle) handle (history_grows old new)
     (event_moves (new ++ old) one handle) (all_above old new handle none)
 
-all_below : (ns : List ℕ) (n : ℕ) → largest ns < n → AllBelow n ns
+all_below : (ns : List ℕ) (n : ℕ) → largest_of ns < n → AllBelow n ns
 all_below [] n below = tt
 all_below (m ∷ ns) n below = (omega (arith, below), all_below ns n (omega (arith, below)))
 
 first_exceeds : (old new : History) (handle : Handle) (n : ℕ) → count_at old handle ≡ None → count_at (new ++ old) handle ≡ Some n → AllBelow n (counts_of old)
 first_exceeds old new handle n none some = by (all_above old new handle none)
   where
-    by : Above (largest (counts_of old)) (count_at (new ++ old) handle) → AllBelow n (counts_of old)
+    by : Above (largest_of (counts_of old)) (count_at (new ++ old) handle) → AllBelow n (counts_of old)
     by (inl still) = absurd (some_none n (sym still ∙ some))
     by (inr (m, at, low)) = let same : m ≡ n = some_same m n (sym at ∙ some) in all_below (counts_of old) n (omega (arith, same, low))
 

@@ -34,7 +34,7 @@ use Rattle.tpm_commands.specs.Part.{Cleared}
 use Rattle.tpm_commands.specs.CommandCode.{part_of}
 use Rattle.tpm_step.specs.rows.IndexChanges.{ChangesAuth, ChangesIndices, Defines, Increments, IsCounter, KeepsCount}
 use Rattle.tpm_step.specs.rows.IndexChanges.{Undefines, Writes, stored_count}
-use Rattle.tpm_step.specs.history.Counters.{Counters, begun_at, counted_at, counters_by, defined_handle, largest, next_count}
+use Rattle.tpm_step.specs.history.Counters.{Counters, begun_at, counted_at, counters_by, defined_handle, largest_of, next_count}
 use Rattle.tpm_step.specs.history.DeviceCounters.{AreCounted, IsCounted}
 use Rattle.tpm_step.specs.history.HandleMap.{by_handle, with_at}
 use Rattle.tpm_step.proofs.history.HandleMap.{at_other, at_same}
@@ -88,7 +88,7 @@ next_by false most n = refl
 
 counter_counted : (contents : NvContents) (handle : Handle) (old : NvIndex) (n : ℕ) (c : Counters) → index_at contents handle ≡ Some old → IsCounter old → n ≡ number_or contents.max_count old + 1 → n < 2 ^ 64 → AreCounted contents c → AreCounted (counted (changed_index contents handle (with_data old (to_be_bytes w64 n))) n) (counted_at handle c)
 counter_counted contents handle old n c found counter is small are = record {
-  most = ap (λ m. max m n) are.most ∙ ap (λ m. max (largest c.all) m) next;
+  most = ap (λ m. max m n) are.most ∙ ap (λ m. max (largest_of c.all) m) next;
   each = changed_each (Counts c.at) (Counts (with_at handle count c.at)) contents handle old new found here (others_count handle count c.at) are.each;
 }
   where
@@ -96,12 +96,12 @@ counter_counted contents handle old n c found counter is small are = record {
     new = with_data old (to_be_bytes w64 n)
 
     count : Option ℕ
-    count = Some (next_count (largest c.all) (c.at handle))
+    count = Some (next_count (largest_of c.all) (c.at handle))
 
     was : IsCounted old (c.at handle)
     was = are.each handle old found counter
 
-    next : n ≡ next_count (largest c.all) (c.at handle)
+    next : n ≡ next_count (largest_of c.all) (c.at handle)
     next =
         is ∙ sym (next_by (index_has old attribute.Written) contents.max_count (from_be_bytes w64 old.bytes))
         ∙ ap (λ o. next_count contents.max_count o) was.value ∙ ap (λ m. next_count m (c.at handle)) are.most

@@ -34,7 +34,7 @@ use Rattle.tpm_step.specs.step.Execution.{Executes}
 use Rattle.tpm_step.specs.step.Step.{Stepped, acceptance, accepted, counted_in, step}
 use Rattle.tpm_step.specs.history.Executions.{Leads}
 use Rattle.tpm_step.proofs.step.PowerCycles.{none_taken, starting_banks}
-use Rattle.tpm_step.specs.history.FailedRun.{IsFailedRun, failed_run, protected_index, tried, wrong_after, zeros}
+use Rattle.tpm_step.specs.history.FailedRun.{IsFailedRun, failed_run, protected_index, tried_device, wrong_after, zeros}
 
 -- ---- each record of the run satisfies the invariant of all records
 
@@ -65,7 +65,7 @@ index = record {
   data_size = refl;
 }
 
-is_tried : (failed forgiving time : ℕ) → failed < 2 ^ 32 → forgiving < 1000000 → time < 2 ^ 64 → IsRecord (tried failed forgiving time)
+is_tried : (failed forgiving time : ℕ) → failed < 2 ^ 32 → forgiving < 1000000 → time < 2 ^ 64 → IsRecord (tried_device failed forgiving time)
 is_tried failed forgiving time few short soon = record {
   saved = tt;
   hierarchies = hierarchies;
@@ -102,23 +102,23 @@ failed = failure check.Authorization 1 protection.Tries
 abbrev locked : Refused
 locked = refusal check.Authorization (plain code.Lockout)
 
-first_step : step (tried 0 0 0) (wrong_after 0) ≡ refused_with failed (tried 1 0 0)
+first_step : step (tried_device 0 0 0) (wrong_after 0) ≡ refused_with failed (tried_device 1 0 0)
 unfolding code_number general body_of sessions_pass present_handle_at accepted acceptance entry_passes authorize grant password_grant trimmed area_at entry_at allowed_handle_at header_at code_named shape_of opened_after after_failure forgiven_after auth_value_of entity_at is_available is_present protection_of
 first_step = refl
 
-second_step : step (tried 1 0 0) (wrong_after 0) ≡ refused_with failed (tried 2 0 0)
+second_step : step (tried_device 1 0 0) (wrong_after 0) ≡ refused_with failed (tried_device 2 0 0)
 unfolding code_number general body_of sessions_pass present_handle_at accepted acceptance entry_passes authorize grant password_grant trimmed area_at entry_at allowed_handle_at header_at code_named shape_of opened_after after_failure forgiven_after auth_value_of entity_at is_available is_present protection_of
 second_step = refl
 
-third_step : step (tried 2 0 0) (wrong_after 0) ≡ refused_with failed (tried 3 0 0)
+third_step : step (tried_device 2 0 0) (wrong_after 0) ≡ refused_with failed (tried_device 3 0 0)
 unfolding code_number general body_of sessions_pass present_handle_at accepted acceptance entry_passes authorize grant password_grant trimmed area_at entry_at allowed_handle_at header_at code_named shape_of opened_after after_failure forgiven_after auth_value_of entity_at is_available is_present protection_of
 third_step = refl
 
-fourth_step : step (tried 3 0 0) (wrong_after 999999) ≡ refused_with locked (tried 3 999999 999999)
+fourth_step : step (tried_device 3 0 0) (wrong_after 999999) ≡ refused_with locked (tried_device 3 999999 999999)
 unfolding code_number general body_of sessions_pass present_handle_at accepted acceptance entry_passes authorize grant password_grant trimmed area_at entry_at allowed_handle_at header_at code_named shape_of opened_after after_failure forgiven_after auth_value_of entity_at is_available is_present protection_of
 fourth_step = refl
 
-fifth_step : step (tried 3 999999 999999) (wrong_after 1) ≡ refused_with failed (tried 3 0 1000000)
+fifth_step : step (tried_device 3 999999 999999) (wrong_after 1) ≡ refused_with failed (tried_device 3 0 1000000)
 unfolding code_number general body_of sessions_pass present_handle_at accepted acceptance entry_passes authorize grant password_grant trimmed area_at entry_at allowed_handle_at header_at code_named shape_of opened_after after_failure forgiven_after auth_value_of entity_at is_available is_present protection_of
 fifth_step = refl
 
@@ -142,25 +142,25 @@ executes_so r elapsed e after below sound is counts nine ten =
     nine_not : (let nine : ℕ = 9 in nine ≡ 0) → ⊥
     nine_not none = omega (arith, none)
 
-first_executes : Executes false (tried 0 0 0) (wrong_after 0) (step (tried 0 0 0) (wrong_after 0))
+first_executes : Executes false (tried_device 0 0 0) (wrong_after 0) (step (tried_device 0 0 0) (wrong_after 0))
 unfolding code_number general body_of sessions_pass present_handle_at accepted acceptance entry_passes authorize grant password_grant trimmed area_at entry_at allowed_handle_at header_at code_named shape_of opened_after after_failure forgiven_after auth_value_of entity_at is_available is_present protection_of
-first_executes = executes_so (tried 0 0 0) 0 failed (tried 1 0 0) (omega arith) (is_tried 1 0 0 (omega arith) (omega arith) (omega arith)) first_step refl refl refl
+first_executes = executes_so (tried_device 0 0 0) 0 failed (tried_device 1 0 0) (omega arith) (is_tried 1 0 0 (omega arith) (omega arith) (omega arith)) first_step refl refl refl
 
-second_executes : Executes false (tried 1 0 0) (wrong_after 0) (step (tried 1 0 0) (wrong_after 0))
+second_executes : Executes false (tried_device 1 0 0) (wrong_after 0) (step (tried_device 1 0 0) (wrong_after 0))
 unfolding code_number general body_of sessions_pass present_handle_at accepted acceptance entry_passes authorize grant password_grant trimmed area_at entry_at allowed_handle_at header_at code_named shape_of opened_after after_failure forgiven_after auth_value_of entity_at is_available is_present protection_of
-second_executes = executes_so (tried 1 0 0) 0 failed (tried 2 0 0) (omega arith) (is_tried 2 0 0 (omega arith) (omega arith) (omega arith)) second_step refl refl refl
+second_executes = executes_so (tried_device 1 0 0) 0 failed (tried_device 2 0 0) (omega arith) (is_tried 2 0 0 (omega arith) (omega arith) (omega arith)) second_step refl refl refl
 
-third_executes : Executes false (tried 2 0 0) (wrong_after 0) (step (tried 2 0 0) (wrong_after 0))
+third_executes : Executes false (tried_device 2 0 0) (wrong_after 0) (step (tried_device 2 0 0) (wrong_after 0))
 unfolding code_number general body_of sessions_pass present_handle_at accepted acceptance entry_passes authorize grant password_grant trimmed area_at entry_at allowed_handle_at header_at code_named shape_of opened_after after_failure forgiven_after auth_value_of entity_at is_available is_present protection_of
-third_executes = executes_so (tried 2 0 0) 0 failed (tried 3 0 0) (omega arith) (is_tried 3 0 0 (omega arith) (omega arith) (omega arith)) third_step refl refl refl
+third_executes = executes_so (tried_device 2 0 0) 0 failed (tried_device 3 0 0) (omega arith) (is_tried 3 0 0 (omega arith) (omega arith) (omega arith)) third_step refl refl refl
 
-fourth_executes : Executes false (tried 3 0 0) (wrong_after 999999) (step (tried 3 0 0) (wrong_after 999999))
+fourth_executes : Executes false (tried_device 3 0 0) (wrong_after 999999) (step (tried_device 3 0 0) (wrong_after 999999))
 unfolding code_number general body_of sessions_pass present_handle_at accepted acceptance entry_passes authorize grant password_grant trimmed area_at entry_at allowed_handle_at header_at code_named shape_of opened_after after_failure forgiven_after auth_value_of entity_at is_available is_present protection_of
-fourth_executes = executes_so (tried 3 0 0) 999999 locked (tried 3 999999 999999) (omega arith) (is_tried 3 999999 999999 (omega arith) (omega arith) (omega arith)) fourth_step refl refl refl
+fourth_executes = executes_so (tried_device 3 0 0) 999999 locked (tried_device 3 999999 999999) (omega arith) (is_tried 3 999999 999999 (omega arith) (omega arith) (omega arith)) fourth_step refl refl refl
 
-fifth_executes : Executes false (tried 3 999999 999999) (wrong_after 1) (step (tried 3 999999 999999) (wrong_after 1))
+fifth_executes : Executes false (tried_device 3 999999 999999) (wrong_after 1) (step (tried_device 3 999999 999999) (wrong_after 1))
 unfolding code_number general body_of sessions_pass present_handle_at accepted acceptance entry_passes authorize grant password_grant trimmed area_at entry_at allowed_handle_at header_at code_named shape_of opened_after after_failure forgiven_after auth_value_of entity_at is_available is_present protection_of
-fifth_executes = executes_so (tried 3 999999 999999) 1 failed (tried 3 0 1000000) (omega arith) (is_tried 3 0 1000000 (omega arith) (omega arith) (omega arith)) fifth_step refl refl refl
+fifth_executes = executes_so (tried_device 3 999999 999999) 1 failed (tried_device 3 0 1000000) (omega arith) (is_tried 3 0 1000000 (omega arith) (omega arith) (omega arith)) fifth_step refl refl refl
 
 left : (r after : Record) (elapsed : ℕ) (e : Refused) → step r (wrong_after elapsed) ≡ refused_with e after → after ≡ (step r (wrong_after elapsed)).after
 left r after elapsed e is = sym (ap (λ (x : Stepped). x.after) is)
@@ -168,22 +168,22 @@ left r after elapsed e is = sym (ap (λ (x : Stepped). x.after) is)
 abbrev then_executes : (r s : Record) (elapsed : ℕ) → r ≡ s → Executes false r (wrong_after elapsed) (step r (wrong_after elapsed)) → Executes false s (wrong_after elapsed) (step r (wrong_after elapsed))
 then_executes r s elapsed same executes = subst (λ (old : Record). Executes false old (wrong_after elapsed) (step r (wrong_after elapsed))) same executes
 
-leads_so : Leads false (tried 0 0 0) failed_run (tried 3 0 1000000)
+leads_so : Leads false (tried_device 0 0 0) failed_run (tried_device 3 0 1000000)
 leads_so =
-    let first = left (tried 0 0 0) (tried 1 0 0) 0 failed first_step in
-    let second = left (tried 1 0 0) (tried 2 0 0) 0 failed second_step in
-    let third = left (tried 2 0 0) (tried 3 0 0) 0 failed third_step in
-    let fourth = left (tried 3 0 0) (tried 3 999999 999999) 999999 locked fourth_step in
-    let fifth = left (tried 3 999999 999999) (tried 3 0 1000000) 1 failed fifth_step in (
+    let first = left (tried_device 0 0 0) (tried_device 1 0 0) 0 failed first_step in
+    let second = left (tried_device 1 0 0) (tried_device 2 0 0) 0 failed second_step in
+    let third = left (tried_device 2 0 0) (tried_device 3 0 0) 0 failed third_step in
+    let fourth = left (tried_device 3 0 0) (tried_device 3 999999 999999) 999999 locked fourth_step in
+    let fifth = left (tried_device 3 999999 999999) (tried_device 3 0 1000000) 1 failed fifth_step in (
       refl,
       first_executes,
       (
         first,
-        then_executes (tried 1 0 0) _ 0 first second_executes,
+        then_executes (tried_device 1 0 0) _ 0 first second_executes,
         (
           second,
-          then_executes (tried 2 0 0) _ 0 second third_executes,
-          (third, then_executes (tried 3 0 0) _ 999999 third fourth_executes, (fourth, then_executes (tried 3 999999 999999) _ 1 fourth fifth_executes, fifth)),
+          then_executes (tried_device 2 0 0) _ 0 second third_executes,
+          (third, then_executes (tried_device 3 0 0) _ 999999 third fourth_executes, (fourth, then_executes (tried_device 3 999999 999999) _ 1 fourth fifth_executes, fifth)),
         ),
       ),
     )

@@ -50,7 +50,7 @@ use Rattle.tpm_step.specs.step.Table.{row_of}
 use Rattle.tpm_step.specs.declared.refused_command.RefusedCommand.{RefusedCommand}
 use Rattle.tpm_step.proofs.rows.Binding.{err_bind, err_bind_is, err_if}
 use Rattle.tpm_step.specs.uses.EntryHmacs.{used_in}
-use Rattle.tpm_step.specs.history.Tries.{FailsTry, IsAnsweredTry, IsRefusedTry, check_for, counts_try, fails_try, is_try, touched, touched_by, touched_of_session, touched_where, try_refusal}
+use Rattle.tpm_step.specs.history.Tries.{FailsTry, IsAnsweredTry, IsRefusedTry, check_for, counts_try, fails_try, is_try, touched_by, touched_of_session, touched_protection, touched_where, try_refusal}
 use Rattle.tpm_step.specs.rows.Order.{IsPlain}
 use Rattle.tpm_step.proofs.rows.Table.{row_plain}
 use Rattle.tpm_step.proofs.rows.Uncounted.{err_in_command, general_plain}
@@ -98,8 +98,8 @@ is_failure e = is_try e.counted || is_auth_fail e.rc.code
 -- the entry has to authorize, or None. The entity whose authorization value is used to check the
 -- entry is not locked out.
 record FailsAt (r : Record) (c : Whole) (locality n : ℕ) (used : Option Handle) (entry : Entry) (e : Refused) : Type 0 where
-  unlocked : is_locked_out r.fixed.lockout (touched r c locality n used entry) ≡ false
-  is : e ≡ failure (check_for used) n (touched r c locality n used entry)
+  unlocked : is_locked_out r.fixed.lockout (touched_protection r c locality n used entry) ≡ false
+  is : e ≡ failure (check_for used) n (touched_protection r c locality n used entry)
 
 -- If the refusal increments failedTries or has the response code AUTH_FAIL, entry n failed
 -- (`FailsAt`).
@@ -110,13 +110,13 @@ module _ (r : Record) (c : Whole) (locality n : ℕ) (used : Option Handle) (ent
   other_at : (check : Check) (rc : Rc) → IsOther rc → IfFailsAt r c locality n used entry (refusal check rc)
   other_at check rc other fails = absurd (false≢true (sym other ∙ fails))
 
-  failure_at : (granted : Option Grant) (p : Protection) → check_of granted ≡ check_for used → touched r c locality n used entry ≡ p → is_locked_out r.fixed.lockout p ≡ false → FailsAt r c locality n used entry (failure (check_of granted) n p)
+  failure_at : (granted : Option Grant) (p : Protection) → check_of granted ≡ check_for used → touched_protection r c locality n used entry ≡ p → is_locked_out r.fixed.lockout p ≡ false → FailsAt r c locality n used entry (failure (check_of granted) n p)
   failure_at granted p same touches unlocked = record {
     unlocked = ap (is_locked_out r.fixed.lockout) touches ∙ unlocked;
     is = ap (λ k. failure k n p) same ∙ ap (failure (check_for used) n) (sym touches);
   }
 
-  comparison_at : (granted : Option Grant) (p : Protection) (holds : Bool) → check_of granted ≡ check_for used → touched r c locality n used entry ≡ p → IfErr (may_be_tried r.fixed.lockout granted p >>= λ tried. refused_if (not holds) (failure (check_of granted) n p) >>= λ compared. let done : Result (Option Grant) Refused = Ok granted in done) (IfFailsAt r c locality n used entry)
+  comparison_at : (granted : Option Grant) (p : Protection) (holds : Bool) → check_of granted ≡ check_for used → touched_protection r c locality n used entry ≡ p → IfErr (may_be_tried r.fixed.lockout granted p >>= λ tried. refused_if (not holds) (failure (check_of granted) n p) >>= λ compared. let done : Result (Option Grant) Refused = Ok granted in done) (IfFailsAt r c locality n used entry)
   comparison_at granted p holds same touches =
       let Q : Refused → Type 0 = IfFailsAt r c locality n used entry in
       err_bind_is Q (may_be_tried r.fixed.lockout granted p) _ (err_if Q _ _ (other_at _ _ refl)) (λ tried may.
@@ -139,7 +139,7 @@ demand_at : (k : SessionType) (r : Record) (c : Whole) (locality n : ℕ) (handl
 demand_at type.Hmac r c locality n handle s used e = search (rules, err_bind, err_if, other_at)
 demand_at _ r c locality n handle s used e = search (rules, err_other, use_other, other_at)
 
-session_at : (r : Record) (c : Whole) (locality n : ℕ) (used : Option Handle) (e : Entry) (s : Session) → touched r c locality n used e ≡ touched_of_session r c locality n used s → IfErr (session_grant r c locality n used e s) (IfFailsAt r c locality n used e)
+session_at : (r : Record) (c : Whole) (locality n : ℕ) (used : Option Handle) (e : Entry) (s : Session) → touched_protection r c locality n used e ≡ touched_of_session r c locality n used s → IfErr (session_grant r c locality n used e s) (IfFailsAt r c locality n used e)
 unfolding session_grant demanded
 session_at r c locality n None e s touches =
     comparison_at r c locality n None e None (entry_protection r s None) (comparison_holds r c n None e s) refl touches

@@ -24,7 +24,7 @@ use Rattle.tpm_step.specs.history.AuthValues.{auth_of}
 use Rattle.tpm_step.specs.history.HandleMap.{by_handle, with_at}
 use Rattle.tpm_step.specs.history.History.{AcceptedCommand, Done, History}
 use Rattle.tpm_step.specs.uses.Replays.{starts_under}
-use Rattle.tpm_step.specs.history.Sessions.{Bound, LiveSession, LiveSessions, asserted_by, bound_in, changed_session, entries_ended, entries_rolled, entry_ended, entry_rolled, nonce_size, restarted, rolled_by, sessions_by, sessions_of, started, started_by, started_with, used, used_by, with_asserted, with_nonce, with_started, without_session}
+use Rattle.tpm_step.specs.history.Sessions.{Bound, LiveSession, LiveSessions, asserted_by, bound_in, changed_session, entries_ended, entries_rolled, entry_ended, entry_rolled, nonce_size, restarted_session, rolled_by, sessions_by, sessions_of, started_by, started_session, started_with, used_by, used_session, with_asserted, with_nonce, with_started, without_session}
 use Rattle.tpm_step.proofs.history.HandleMap.{at_other, at_same, same_handle}
 
 -- ---- the same session at two times
@@ -114,7 +114,7 @@ changed_kept change handle other live new keeps is =
 ended_kept : (handle other : Handle) (live : LiveSessions) (new : LiveSession) → without_session handle live other ≡ Some new → Kept (live other) new
 ended_kept handle other live new is = put_came (Kept (live other) new) handle other None live new (λ same none. absurd cc) (there (live other) new) is
 
-restarts : (s : LiveSession) → Keeps s (restarted s)
+restarts : (s : LiveSession) → Keeps s (restarted_session s)
 restarts s = record { continues = record { kind = refl; hash = refl; size = refl; latest = inl refl; earlier = λ nonce among. among }; asserted = inr refl }
 
 -- ---- the effect of a single entry on sessions
@@ -127,8 +127,8 @@ uses type.Trial s = keeps_self s
 entry_end_kept : (live : LiveSessions) (e : Entry) (grant : Option Grant) (handle : Handle) (new : LiveSession) → entry_ended live e grant handle ≡ Some new → Kept (live handle) new
 entry_end_kept live e grant handle new is = by (continues_session e.attributes) (is_some grant) is
   where
-    by : (continues grants : Bool) → cond continues (cond grants (changed_session used e.session live) live) (without_session e.session live) handle ≡ Some new → Kept (live handle) new
-    by true true is = changed_kept used e.session handle live new (λ s found. uses s.kind s) is
+    by : (continues grants : Bool) → cond continues (cond grants (changed_session used_session e.session live) live) (without_session e.session live) handle ≡ Some new → Kept (live handle) new
+    by true true is = changed_kept used_session e.session handle live new (λ s found. uses s.kind s) is
     by true false is = there (live handle) new is
     by false grants is = ended_kept e.session handle live new is
 
@@ -253,8 +253,8 @@ begun_empty (Ok p) bound random new is =
     ap (λ (s : LiveSession). s.assertions) (sym same)
 begun_empty (Err e) bound random new is = absurd cc
 
-started_empty : (c : AcceptedCommand) (auth_values : List (List ℕ)) (new : LiveSession) → started c auth_values ≡ Some new → new.assertions ≡ []
-unfolding started
+started_empty : (c : AcceptedCommand) (auth_values : List (List ℕ)) (new : LiveSession) → started_session c auth_values ≡ Some new → new.assertions ≡ []
+unfolding started_session
 started_empty c auth_values new is = begun_empty (parameters_in c.request.parameters) (bound_in c.request.handles c.views auth_values) c.request.random new is
 
 module _ (c : AcceptedCommand) (history : History) (live : LiveSessions) (handle : Handle) (new : LiveSession) where
@@ -268,7 +268,7 @@ module _ (c : AcceptedCommand) (history : History) (live : LiveSessions) (handle
   start_came is = by c.answer.handle refl is
     where
       told : Option LiveSession
-      told = started c (map (auth_of history) c.request.handles)
+      told = started_session c (map (auth_of history) c.request.handles)
 
       by : (made : Option Handle) → c.answer.handle ≡ made → by_handle (ok_or made handle_refusal) (λ at. with_at at told) live handle ≡ Some new → CameBy command.StartAuthSession
       by None answered is = still command.StartAuthSession is
@@ -284,12 +284,12 @@ module _ (c : AcceptedCommand) (history : History) (live : LiveSessions) (handle
       by (Err e) is = still command.FlushContext is
       by (Ok at) is = Stayed (ended_kept at handle live new is)
 
-  restart_came : by_handle (first_handle c.request.handles) (changed_session restarted) live handle ≡ Some new → CameBy command.PolicyRestart
+  restart_came : by_handle (first_handle c.request.handles) (changed_session restarted_session) live handle ≡ Some new → CameBy command.PolicyRestart
   restart_came is = by (first_handle c.request.handles) is
     where
-      by : (named : Result Handle Refused) → by_handle named (changed_session restarted) live handle ≡ Some new → CameBy command.PolicyRestart
+      by : (named : Result Handle Refused) → by_handle named (changed_session restarted_session) live handle ≡ Some new → CameBy command.PolicyRestart
       by (Err e) is = still command.PolicyRestart is
-      by (Ok at) is = Stayed (changed_kept restarted at handle live new (λ s found. restarts s) is)
+      by (Ok at) is = Stayed (changed_kept restarted_session at handle live new (λ s found. restarts s) is)
 
   asserted_came : (code : CommandCode) → asserts code ≡ true → with_asserted code c history live handle ≡ Some new → CameBy code
   asserted_came code it_does is = by (session_handle code c.request.handles) refl is

@@ -43,7 +43,7 @@ use Rattle.tpm_commands.specs.CommandCode.{part_of}
 use Rattle.tpm_step.proofs.rows.Binding.{ok_bind, ok_bind_is, ok_then, ok_weaker}
 use Rattle.tpm_step.proofs.rows.Table.{row_touches}
 use Rattle.tpm_step.specs.history.DevicePcrs.{AreSaved, IsSavedAs}
-use Rattle.tpm_step.specs.history.Pcrs.{count_in, extended_by_all, if_pcr, measured_by, names_pcr, pcr_by, resumed, updates_by}
+use Rattle.tpm_step.specs.history.Pcrs.{count_in, extended_by_all, if_pcr, measured_by, names_pcr, pcr_by, resumed_value, updates_by}
 use Rattle.tpm_pcr.proofs.OneValue.{event_digest, extensions_at, extensions_count, zeros_at}
 
 -- A success has the same effect on the PCR values and the update counter of a device as on those of
@@ -202,7 +202,7 @@ restored_at s values banks is alg.Sha256 n = front_or s.sha256 banks.sha256 n (v
 -- update counter is 0.
 abbrev Begins : StartupType → PcrValues → BankValues → BankValues → Type 0
 Begins t saved old new =
-    ((bank : HashAlg) (n : ℕ) → pcr_value new bank n ≡ resumed (Ok t) n (saved bank n) (pcr_value old bank n))
+    ((bank : HashAlg) (n : ℕ) → pcr_value new bank n ≡ resumed_value (Ok t) n (saved bank n) (pcr_value old bank n))
     × (new.update_count ≡ 0)
 
 uncounted_begins : (t : StartupType) (saved : PcrValues) (old new : BankValues) → t ≡ type.Clear → new ≡ record old { update_count = 0 } → Begins t saved old new
@@ -233,7 +233,7 @@ startup_measures r q saved has =
     ok_bind_is _ (start_of t (kind_of r.fixed.saved)) _ (λ start starts.
     let begins = start_begins r t r.fixed.saved start q.random saved refl has starts in
     record {
-      values = λ bank n below. begins.0 bank n ∙ ap (λ (x : Result StartupType Refused). resumed x n (saved bank n) (pcr_value r.fixed.banks bank n)) (sym read);
+      values = λ bank n below. begins.0 bank n ∙ ap (λ (x : Result StartupType Refused). resumed_value x n (saved bank n) (pcr_value r.fixed.banks bank n)) (sym read);
       updates = begins.1;
     }))
 

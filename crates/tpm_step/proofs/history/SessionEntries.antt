@@ -21,7 +21,7 @@ use Rattle.tpm_step.specs.step.Entries as device
 use Rattle.tpm_step.specs.step.Entries.{draw_of, restarted_by}
 use Rattle.tpm_step.specs.step.Granted.{Granted, granted_entries}
 use Rattle.tpm_step.specs.history.DeviceSessions.{AreLive, SessionFacts, facts_of, session_facts}
-use Rattle.tpm_step.specs.history.Sessions.{LiveSession, LiveSessions, changed_session, entries_ended, entries_rolled, entry_ended, entry_rolled, nonce_size, used, used_by, with_nonce, without_session}
+use Rattle.tpm_step.specs.history.Sessions.{LiveSession, LiveSessions, changed_session, entries_ended, entries_rolled, entry_ended, entry_rolled, nonce_size, used_by, used_session, with_nonce, without_session}
 use Rattle.tpm_step.proofs.history.LiveSessions.{ChangesAs, changed_live, ended_live, of_both, of_one, policy_live, unchanged_live}
 
 -- ---- new nonces
@@ -60,30 +60,30 @@ entries_roll r (e ∷ es) left live are =
 
 -- ---- resetting policies, and ending sessions
 
-used_told : (kind : SessionType) (s : Session) (l : LiveSession) → s.kind ≡ kind → session_facts s ≡ facts_of l → facts_of (used_by kind l) ≡ facts_of (used l)
+used_told : (kind : SessionType) (s : Session) (l : LiveSession) → s.kind ≡ kind → session_facts s ≡ facts_of l → facts_of (used_by kind l) ≡ facts_of (used_session l)
 used_told kind s l is same = ap (λ (k : SessionType). facts_of (used_by k l)) (sym is ∙ ap (λ (f : SessionFacts). f.start.kind) same)
 
 module _ (r : Record) (e : Entry) (live : LiveSessions) (are : AreLive r.sessions live) where
-  restarted_live : (kind : SessionType) (s : Session) → s.kind ≡ kind → session_of r e ≡ Some s → AreLive (restarted_by kind r e s.hash).sessions (changed_session used e.session live)
-  restarted_live type.Hmac s is found = unchanged_live used r.sessions e.session live (of_one (ChangesAs (λ s. s) used) (session_of r e) s found (λ l same. same ∙ used_told type.Hmac s l is same)) are
+  restarted_live : (kind : SessionType) (s : Session) → s.kind ≡ kind → session_of r e ≡ Some s → AreLive (restarted_by kind r e s.hash).sessions (changed_session used_session e.session live)
+  restarted_live type.Hmac s is found = unchanged_live used_session r.sessions e.session live (of_one (ChangesAs (λ s. s) used_session) (session_of r e) s found (λ l same. same ∙ used_told type.Hmac s l is same)) are
   restarted_live type.Policy s is found =
-      policy_live r.sessions e.session s (starting s.hash) used live found
+      policy_live r.sessions e.session s (starting s.hash) used_session live found
       (λ l same. ap (λ (f : SessionFacts). record f { policy = starting f.start.hash }) same ∙ used_told type.Policy s l is same) are
-  restarted_live type.Trial s is found = unchanged_live used r.sessions e.session live (of_one (ChangesAs (λ s. s) used) (session_of r e) s found (λ l same. same ∙ used_told type.Trial s l is same)) are
+  restarted_live type.Trial s is found = unchanged_live used_session r.sessions e.session live (of_one (ChangesAs (λ s. s) used_session) (session_of r e) s found (λ l same. same ∙ used_told type.Trial s l is same)) are
 
-  used_live : AreLive (device.entry_restarted r e).sessions (changed_session used e.session live)
+  used_live : AreLive (device.entry_restarted r e).sessions (changed_session used_session e.session live)
   unfolding device.entry_restarted
   used_live = by (session_of r e) refl
     where
-      by : (found : Option Session) → session_of r e ≡ found → AreLive (option_map_or (λ (s : Session). restarted_by s.kind r e s.hash) found r).sessions (changed_session used e.session live)
+      by : (found : Option Session) → session_of r e ≡ found → AreLive (option_map_or (λ (s : Session). restarted_by s.kind r e s.hash) found r).sessions (changed_session used_session e.session live)
       by (Some s) is = restarted_live s.kind s refl is
-      by None is = unchanged_live used r.sessions e.session live (λ s found. absurd cc) are
+      by None is = unchanged_live used_session r.sessions e.session live (λ s found. absurd cc) are
 
   entry_ends : (grant : Option Grant) → AreLive (device.entry_ended r e grant).sessions (entry_ended live e grant)
   unfolding device.entry_ended
   entry_ends grant = by (continues_session e.attributes) (is_some grant)
     where
-      by : (continues grants : Bool) → AreLive (cond (not continues) (record r { sessions = flushed r.sessions e.session }) (cond grants (device.entry_restarted r e) r)).sessions (cond continues (cond grants (changed_session used e.session live) live) (without_session e.session live))
+      by : (continues grants : Bool) → AreLive (cond (not continues) (record r { sessions = flushed r.sessions e.session }) (cond grants (device.entry_restarted r e) r)).sessions (cond continues (cond grants (changed_session used_session e.session live) live) (without_session e.session live))
       by false grants = ended_live r.sessions e.session live are
       by true true = used_live
       by true false = are

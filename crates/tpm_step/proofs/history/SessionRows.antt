@@ -34,7 +34,7 @@ use Rattle.tpm_step.specs.history.DevicePcrs.{HasPcrs}
 use Rattle.tpm_step.specs.history.DeviceSessions.{AreLive, SessionFacts, bound_of, facts_of, session_facts}
 use Rattle.tpm_step.specs.history.HandleMap.{by_handle, with_at}
 use Rattle.tpm_step.specs.history.History.{AcceptedCommand, History}
-use Rattle.tpm_step.specs.history.Sessions.{Bound, LiveSession, LiveSessions, asserted_by, bound_in, changed_session, restarted, sessions_by, start_key, started, started_by, started_with, with_asserted, without_session}
+use Rattle.tpm_step.specs.history.Sessions.{Bound, LiveSession, LiveSessions, asserted_by, bound_in, changed_session, restarted_session, sessions_by, start_key, started_by, started_session, started_with, with_asserted, without_session}
 use Rattle.tpm_step.specs.history.View.{View, view_name, view_of}
 use Rattle.tpm_step.specs.history.Views.{view_protection}
 use Rattle.tpm_step.proofs.history.Asserted.{IsAsserted, asserted_as, is_asserted}
@@ -83,10 +83,10 @@ module _ (r : Record) (c : AcceptedCommand) (history : History) (live : LiveSess
       ∙ ap (bound_in q.handles (map (view_of r) q.handles)) (sym valued) ∙ bound_is r q.handles bind second
 
   abbrev told : Option LiveSession
-  told = started c (map (auth_of history) q.handles)
+  told = started_session c (map (auth_of history) q.handles)
 
   started_told : (bind : Handle) (p : Parameters) → second_handle q.handles ≡ Ok bind → parameters_in q.parameters ≡ Ok p → Some (session_facts (session_with p (binding_of r bind) (take (length p.nonce_caller) q.random))) ≡ option_map facts_of told
-  unfolding started
+  unfolding started_session
   started_told bind p second read =
       let nonce : List ℕ = take (length p.nonce_caller) q.random in
       ap (λ (f : SessionFacts). Some f) (start_told p (binding_of r bind) nonce)
@@ -128,8 +128,8 @@ module _ (r : Record) (c : AcceptedCommand) (history : History) (live : LiveSess
       ok_bind_is _ (first_handle q.handles) _ (λ handle is.
       ok_bind _ (all_read q.parameters) _ (λ ended.
       ok_bind_is _ (policy_session r.sessions handle) _ (λ s found. λ answer.
-      subst (λ (named : Result Handle Refused). AreLive (with_session_policy r.sessions handle (starting s.hash)) (by_handle named (changed_session restarted) live)) (sym is)
-      (policy_live r.sessions handle s (starting s.hash) restarted live (some_is _ _ s found) (λ l same. ap (λ (f : SessionFacts). record f { policy = starting f.start.hash }) same) are))))
+      subst (λ (named : Result Handle Refused). AreLive (with_session_policy r.sessions handle (starting s.hash)) (by_handle named (changed_session restarted_session) live)) (sym is)
+      (policy_live r.sessions handle s (starting s.hash) restarted_session live (some_is _ _ s found) (λ l same. ap (λ (f : SessionFacts). record f { policy = starting f.start.hash }) same) are))))
 
   abbrev AreAsserted : CommandCode → Success → Type 0
   AreAsserted code s = c.answer ≡ s.answer → AreLive s.after.sessions (with_asserted code c history live)

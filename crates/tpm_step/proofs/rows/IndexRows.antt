@@ -57,7 +57,7 @@ use Rattle.tpm_step.specs.rows.Handles.{FitsRule, HandlesFit}
 use Rattle.tpm_step.specs.rows.IndexChanges.{ChangesIndices, HasNoConflict}
 use Rattle.tpm_step.specs.rows.Order.{IsLate, Late, Orders, Plain}
 use Rattle.tpm_step.specs.rows.RowLaws.{RowLaws, SuccessLaws}
-use Rattle.tpm_step.specs.rows.Shapes.{AnswersItsShape, Grows, behind, spelled}
+use Rattle.tpm_step.specs.rows.Shapes.{AnswersItsShape, Grows, behind, parameters_check}
 use Rattle.tpm_step.proofs.rows.Binding.{err_bind, err_if, ok_bind, ok_bind_is, ok_then}
 use Rattle.tpm_step.proofs.rows.IndexChanges.{auth_changes, bits_write, counts_so}
 use Rattle.tpm_step.proofs.rows.IndexChanges.{extended_writes, keeps_count, none_is, passes_so}
@@ -177,7 +177,7 @@ defined_grows r h i = let more = put_length r.nv.indices h.number i in omega (ar
 -- TPM2_NV_DefineSpace parses a buffer of at most 32 bytes and then the public area of an index. The
 -- buffer is the authorization value; its trailing zeros are removed after parsing.
 define_reads : (text : List ℕ)
-    → outcome (parameters_in text) ≡ spelled 1 (kind.Buffer 32 ∷ kind.NvPublic ∷ []) text
+    → outcome (parameters_in text) ≡ parameters_check 1 (kind.Buffer 32 ∷ kind.NvPublic ∷ []) text
 unfolding parameters_in
 define_reads text =
     let last = λ (rest : List ℕ). parameter 2 (behind (filled_by nv_public_at rest)) >>= λ rest. all_read rest in

@@ -34,7 +34,7 @@ use Rattle.tpm_record.specs.declared.rows.target.Target.{Target}
 use Rattle.tpm_step.specs.rows.Handles.{FitsRule, HandlesFit}
 use Rattle.tpm_step.specs.rows.Order.{InOrder, IsLate, Late, Orders}
 use Rattle.tpm_step.specs.rows.Refusals.{Passes}
-use Rattle.tpm_step.specs.rows.Shapes.{ReadsParameters, behind_kind, spelled}
+use Rattle.tpm_step.specs.rows.Shapes.{ReadsParameters, behind_kind, parameters_check}
 use Rattle.tpm_step.proofs.rows.Binding.{bind_assoc, err_bind, err_fault, err_if, err_or}
 use Rattle.tpm_step.proofs.rows.Readings.{all_read_outcome, only_read, outcome, read_all}
 use Rattle.tpm_step.proofs.rows.Readings.{read_one, trimmed_read}
@@ -85,7 +85,7 @@ parameter_fault n (Err rc) = refl
 
 -- if parameters are not of the expected kinds, they are refused by the check of parameters
 pub spelled_faults : (n : ℕ) (kinds : List ParameterKind) (text : List ℕ)
-    → IfErr (spelled n kinds text) (λ e. e.check ≡ check.Parameters)
+    → IfErr (parameters_check n kinds text) (λ e. e.check ≡ check.Parameters)
 spelled_faults n [] text = err_if (λ e. e.check ≡ check.Parameters) _ _ refl
 spelled_faults n (kind ∷ kinds) text = err_bind _ (parameter n (behind_kind kind text)) _ (parameter_fault n (behind_kind kind text)) (λ rest. spelled_faults (n + 1) kinds rest)
 
@@ -249,7 +249,7 @@ late_after Fit s (Err e) is late = inr (inr (is, late))
 -- a row satisfies `Orders` if it first parses all parameters, and then refuses only late (`Late`)
 pub behind_reading : {P X : Type 0} (r : Record) (rules : List HandleRule) (handles : List Handle)
     (kinds : List ParameterKind) (text : List ℕ) (read : Result P Refused)
-    (f : P → Result X Refused) → outcome read ≡ spelled 1 kinds text
+    (f : P → Result X Refused) → outcome read ≡ parameters_check 1 kinds text
     → ((p : P) → Late (HandlesFit r rules handles) (f p))
     → Orders r rules handles kinds text (read >>= f)
 behind_reading r rules handles kinds text (Ok p) f is late = record { order = late_after _ _ (f p) (sym is) (late p) }
@@ -259,7 +259,7 @@ behind_reading r rules handles kinds text (Err e) f is late = record { order = i
 -- assertion, and then refuses only late (`Late`)
 pub behind_handed : {P A X : Type 0} (r : Record) (rules : List HandleRule) (handles : List Handle)
     (kinds : List ParameterKind) (text : List ℕ) (read : Result P Refused) (g : P → A)
-    (f : A → Result X Refused) → outcome read ≡ spelled 1 kinds text
+    (f : A → Result X Refused) → outcome read ≡ parameters_check 1 kinds text
     → ((a : A) → Late (HandlesFit r rules handles) (f a))
     → Orders r rules handles kinds text ((read >>= λ p. Ok (g p)) >>= f)
 behind_handed r rules handles kinds text (Ok p) g f is late = behind_reading r rules handles kinds text (Ok (g p)) f is late

@@ -7,7 +7,7 @@ use Rattle.tpm_types.specs.AuthValue.{auth_value_at, trimmed}
 use Rattle.tpm_types.specs.Buffer.{buffer_at}
 use Rattle.tpm_types.specs.declared.refused.Refused.{Refused}
 use Rattle.tpm_record.specs.rows.Rows.{all_read, only, parameter}
-use Rattle.tpm_step.specs.rows.Shapes.{behind, behind_kind, spelled}
+use Rattle.tpm_step.specs.rows.Shapes.{behind, behind_kind, parameters_check}
 
 -- ---- the outcome of reading parameters
 
@@ -28,7 +28,7 @@ pub read_all : {P : Type 0} (x : Result (Unit {0}) Refused) (p : P) → outcome 
 read_all (Ok u) p = refl
 read_all (Err e) p = refl
 
-pub only_read : {X : Type 0} (k : ParameterKind) (text : List ℕ) (x : Result (X × List ℕ) Rc) → behind x ≡ behind_kind k text → outcome (only x) ≡ spelled 1 (k ∷ []) text
+pub only_read : {X : Type 0} (k : ParameterKind) (text : List ℕ) (x : Result (X × List ℕ) Rc) → behind x ≡ behind_kind k text → outcome (only x) ≡ parameters_check 1 (k ∷ []) text
 only_read k text x is =
     read_one 1 x _ (λ rest. all_read rest) (λ a. read_all (all_read a.1) a.0)
     ∙ ap (λ (b : Result (List ℕ) Rc). parameter 1 b >>= λ rest. all_read rest) is

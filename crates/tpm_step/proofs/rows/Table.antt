@@ -21,7 +21,7 @@ use Rattle.tpm_step.specs.rows.Order.{Plain}
 use Rattle.tpm_step.specs.rows.Refusals.{Passes}
 use Rattle.tpm_step.specs.rows.RowLaws.{RowLaws, SuccessLaws}
 use Rattle.tpm_step.specs.rows.Sessions.{SessionsStay}
-use Rattle.tpm_step.specs.rows.Shapes.{AnswersItsShape, GrowsAsShaped, ReadsParameters, spelled}
+use Rattle.tpm_step.specs.rows.Shapes.{AnswersItsShape, GrowsAsShaped, ReadsParameters, parameters_check}
 use Rattle.tpm_step.specs.rows.Sizes.{AreSized}
 use Rattle.tpm_step.proofs.rows.Binding.{ok_weaker}
 use Rattle.tpm_step.proofs.rows.CapabilityRows as capability
@@ -135,7 +135,7 @@ pub row_plain : (r : Record) (c : CommandCode) (q : Request) → Plain (row_of r
 row_plain r c q = (laws_of c).plain r q
 
 pub row_reads : (r : Record) (c : CommandCode) (q : Request)
-    → ReadsParameters (spelled 1 (shape_of c).parameters q.parameters) (row_of r c q)
+    → ReadsParameters (parameters_check 1 (shape_of c).parameters q.parameters) (row_of r c q)
 row_reads r c q = in_order_reads _ _ _ ((laws_of c).order r q).order
 
 pub row_passes : (r : Record) (c : CommandCode) (q : Request)

@@ -10,7 +10,7 @@ use Rattle.tpm_record.specs.IsRecord.{IsRecord}
 use Rattle.tpm_record.specs.Record.{Record}
 use Rattle.tpm_step.specs.step.Events.{Placed}
 use Rattle.tpm_step.specs.step.Execution.{Executes}
-use Rattle.tpm_step.specs.history.Executions.{Leads, placing}
+use Rattle.tpm_step.specs.history.Executions.{Leads, placing_execution}
 use Rattle.tpm_step.specs.step.Placing.{placed, placed_at}
 use Rattle.tpm_step.specs.step.Step.{step}
 use Rattle.tpm_step.proofs.rows.AllPlaces.{all_set}
@@ -52,5 +52,5 @@ placed_executes can r object one is = record {
   fits = omega arith;
 }
 
-pub placing_leads : (can : Bool) (r : Record) (object : Object) → IsObject object → IsRecord r → Leads can r (placing r object ∷ []) (placed r object)
+pub placing_leads : (can : Bool) (r : Record) (object : Object) → IsObject object → IsRecord r → Leads can r (placing_execution r object ∷ []) (placed r object)
 placing_leads can r object one is = (refl, placed_executes can r object one is, refl)

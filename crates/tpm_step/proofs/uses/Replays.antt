@@ -19,7 +19,7 @@ use Rattle.tpm_auth.specs.SessionGrant.{only_encrypts, other_entries}
 use Rattle.tpm_policy_meaning.specs.Asserted.{IsAmong}
 use Rattle.tpm_step.specs.uses.EntryHmacs.{AllShowHmacs, HasHmac, ShowsHmacs, cp_hash_in, hmac_in, nonce_where, text_in}
 use Rattle.tpm_step.specs.history.History.{AcceptedCommand, Done, History, ObjectPlaced, PastEvent, PowerCycled}
-use Rattle.tpm_step.specs.uses.Replays.{HasNonceAgain, HaveOneHmac, IsReplay, LivesThrough, Repeats, ReplaysRepeat, starts}
+use Rattle.tpm_step.specs.uses.Replays.{HasNonceAgain, HaveOneHmac, IsReplay, LivesThrough, Repeats, Replay, ReplaysRepeat, before_second, first_text, second_text, starts}
 use Rattle.tpm_step.specs.history.Sessions.{LiveSession, rolled_by, sessions_of}
 use Rattle.tpm_step.proofs.history.LivingOn.{Asserted, Begun, Came, Continues, Stayed, Was, continues_self, continues_then, entries_kept, entries_renewed, row_came}
 
@@ -126,48 +126,44 @@ hmac_is : (history : History) (c : AcceptedCommand) (place : ℕ) (e : Entry) (s
 hmac_is history c place e s some (inl is) = is
 hmac_is history c place e s some (inr empty) = absurd (some empty.1)
 
-module _ (buffer : List ℕ) (before : History) (first : AcceptedCommand) (between : History) (second : AcceptedCommand) (place : ℕ) (e : Entry) (s : LiveSession) (replay : IsReplay buffer before first between second place e s) (shows : AllShowHmacs (Done second ∷ between ++ Done first ∷ before)) where
-  abbrev after : History
-  after = between ++ Done first ∷ before
+module _ (replay : Replay) (holds : IsReplay replay) (shows : AllShowHmacs (Done replay.second ∷ before_second replay)) where
+  shows_first : ShowsHmacs replay.before replay.first
+  shows_first = (shows_before replay.between (Done replay.first ∷ replay.before) shows.1).0
 
-  shows_first : ShowsHmacs before first
-  shows_first = (shows_before between (Done first ∷ before) shows.1).0
-
-  entry_again : slice_get second.command.entries place ≡ Some e
+  entry_again : slice_get replay.second.command.entries replay.place ≡ Some replay.entry
   entry_again =
-      let same : second.command ≡ first.command = ap (λ (x : Whole × List ℕ). x.0) (ok_is {E = Rc} (second.command, []) (first.command, []) (sym replay.spelled_second ∙ replay.spelled_first)) in
-      ap (λ (c : Whole). slice_get c.entries place) same ∙ replay.entry
+      let spelled = ok_is {E = Rc} (replay.second.command, []) (replay.first.command, []) (sym holds.spelled_second ∙ holds.spelled_first) in
+      let same : replay.second.command ≡ replay.first.command = ap (λ (x : Whole × List ℕ). x.0) spelled in
+      ap (λ (c : Whole). slice_get c.entries replay.place) same ∙ holds.entry
 
-  -- At the second event, the session has the same type, hash and size of nonces as at the first
-  -- event. The nonce of the first event is among the session's earlier nonces.
+  -- At the second command, the session has the same type, hash and size of nonces as at the first
+  -- command. The nonce of the first command is among the session's earlier nonces.
   abbrev IsLater : LiveSession → Type 0
-  IsLater t = (sessions_of after e.session ≡ Some t) × Continues s t × IsAmong s.nonce_tpm t.earlier_nonces
+  IsLater t = (sessions_of (before_second replay) replay.entry.session ≡ Some t) × Continues replay.session t × IsAmong replay.session.nonce_tpm t.earlier_nonces
 
   later_one : (t : LiveSession) × IsLater t
   later_one =
-      let (unstarted, some, through) = first_apart e.session between (Done first) before replay.lives_on in
-      let (t, lives) = there_is (sessions_of after e.session) (lives_last e.session between (Done first ∷ before) some through) in
-      let (mid, was, later) = lived_on e.session between (Done first ∷ before) t shows.1 through lives in
-      let (continues, among) = done_renews first before place e s mid shows_first unstarted replay.entry replay.lives was in
-      (t, (lives, continues_then s mid t continues later, later.earlier s.nonce_tpm among))
+      let (unstarted, some, through) = first_apart replay.entry.session replay.between (Done replay.first) replay.before holds.lives_on in
+      let (t, lives) = there_is (sessions_of (before_second replay) replay.entry.session) (lives_last replay.entry.session replay.between (Done replay.first ∷ replay.before) some through) in
+      let (mid, was, later) = lived_on replay.entry.session replay.between (Done replay.first ∷ replay.before) t shows.1 through lives in
+      let (continues, among) = done_renews replay.first replay.before replay.place replay.entry replay.session mid shows_first unstarted holds.entry holds.lives was in
+      (t, (lives, continues_then replay.session mid t continues later, later.earlier replay.session.nonce_tpm among))
 
-  repeats : (t : LiveSession) → IsLater t → (same : Bool) → bytes_eq s.nonce_tpm t.nonce_tpm ≡ same → HasNonceAgain s t ⊎ HaveOneHmac before first after second place e s t
+  repeats : (t : LiveSession) → IsLater t → (same : Bool) → bytes_eq replay.session.nonce_tpm t.nonce_tpm ≡ same → HasNonceAgain replay.session t ⊎ HaveOneHmac replay t
   repeats t (lives, continues, among) true is =
-      let one : s.nonce_tpm ≡ t.nonce_tpm = (bytes_eq-Decides s.nonce_tpm t.nonce_tpm).0 is in
+      let one : replay.session.nonce_tpm ≡ t.nonce_tpm = (bytes_eq-Decides replay.session.nonce_tpm t.nonce_tpm).0 is in
       inl (sym one, subst (λ (nonce : List ℕ). IsAmong nonce t.earlier_nonces) one among)
   repeats t (lives, continues, among) false is =
-      let hmac = hmac_is before first place e s replay.has_hmac (shows_first.hmacs place e s replay.entry replay.names_session replay.lives replay.is_hmac) in
-      let again = hmac_is after second place e t replay.has_hmac (shows.0.hmacs place e t entry_again replay.names_session lives (continues.kind ∙ replay.is_hmac)) in
-      inr (
-        (λ text. false≢true (sym is ∙ (bytes_eq-Decides s.nonce_tpm t.nonce_tpm).1 (text_nonce before after first second place e s t continues.hash continues.size text))),
-        hmac,
-        again,
-      )
+      let hmac = hmac_is replay.before replay.first replay.place replay.entry replay.session holds.has_hmac (shows_first.hmacs replay.place replay.entry replay.session holds.entry holds.names_session holds.lives holds.is_hmac) in
+      let again = hmac_is (before_second replay) replay.second replay.place replay.entry t holds.has_hmac (shows.0.hmacs replay.place replay.entry t entry_again holds.names_session lives (continues.kind ∙ holds.is_hmac)) in
+      let nonces : first_text replay ≡ second_text replay t → replay.session.nonce_tpm ≡ t.nonce_tpm =
+      text_nonce replay.before (before_second replay) replay.first replay.second replay.place replay.entry replay.session t continues.hash continues.size in
+      inr ((λ text. false≢true (sym is ∙ (bytes_eq-Decides replay.session.nonce_tpm t.nonce_tpm).1 (nonces text))), hmac, again)
 
-  replay_repeats : Repeats before first between second place e s
-  replay_repeats = let (t, is) = later_one in record { now = t; lives = is.0; hash = is.1.hash; repeats = repeats t is (bytes_eq s.nonce_tpm t.nonce_tpm) refl }
+  replay_repeats : Repeats replay
+  replay_repeats = let (t, is) = later_one in record { now = t; lives = is.0; hash = is.1.hash; repeats = repeats t is (bytes_eq replay.session.nonce_tpm t.nonce_tpm) refl }
 
 pub replays_repeat : (history : History) → AllShowHmacs history → ReplaysRepeat history
-replays_repeat history shows buffer before first between second after place e s is replay =
-    replay_repeats buffer before first between second place e s replay
-    (shows_before after (Done second ∷ between ++ Done first ∷ before) (subst AllShowHmacs is shows))
+replays_repeat history shows replay after is holds =
+    replay_repeats replay holds
+    (shows_before after (Done replay.second ∷ before_second replay) (subst AllShowHmacs is shows))

@@ -4,7 +4,6 @@ use Rattle.std.proofs.Common.{◌≡◌, ℕ, Bool, List, [], ◌∷◌, ◌++�
 use Rattle.tpm_bytes.proofs.Fields.{ok_is}
 use Rattle.tpm_types.specs.declared.rc.Rc.{Rc}
 use Rattle.tpm_types.specs.declared.refused.Refused.{Refused}
-use Rattle.tpm_types_command.specs.AuthEntry.{Entry}
 use Rattle.tpm_types_command.specs.Command.{Whole, command_at}
 use Rattle.tpm_record.specs.Record.{Record}
 use Rattle.tpm_record.specs.Tick.{ticked}
@@ -21,9 +20,8 @@ use Rattle.tpm_step.proofs.step.Decoding.{general_reads}
 use Rattle.tpm_step.specs.uses.EntryHmacs.{AllShowHmacs}
 use Rattle.tpm_step.specs.history.Executions.{Execution, Leads, history_after, with_execution}
 use Rattle.tpm_step.specs.history.History.{AcceptedCommand, Done, History, command_of, with_command}
-use Rattle.tpm_step.specs.uses.Replays.{LivesThrough}
-use Rattle.tpm_step.specs.uses.RunReplays.{Gives, IsRecorded, IsRunReplay, RunRepeats, RunReplaysRepeat}
-use Rattle.tpm_step.specs.history.Sessions.{LiveSession}
+use Rattle.tpm_step.specs.uses.Replays.{IsReplay, LivesThrough}
+use Rattle.tpm_step.specs.uses.RunReplays.{Gives, IsRecorded, IsRunReplay, RunRepeats, RunReplay, RunReplaysRepeat, replay_between}
 use Rattle.tpm_step.proofs.history.Leading.{history_apart}
 use Rattle.tpm_step.proofs.uses.Replays.{replays_repeat}
 
@@ -88,61 +86,65 @@ history_joined : (history : History) (earlier later : List Execution) → histor
 history_joined history [] later = refl
 history_joined history (one ∷ earlier) later = history_joined (with_execution one history) earlier later
 
-module _ (can : Bool) (old : Record) (history : History) (earlier : List Execution) (one : Execution) (meanwhile : List Execution) (two : Execution) (later : List Execution) (new : Record) (place : ℕ) (e : Entry) (s : LiveSession) (leads : Leads can old (earlier ++ (one ∷ meanwhile ++ two ∷ later)) new) (shows : AllShowHmacs (history_after history (earlier ++ (one ∷ meanwhile ++ two ∷ later)))) (replay : IsRunReplay history earlier one meanwhile two place e s) where
+module _ (can : Bool) (old : Record) (history : History) (replay : RunReplay) (later : List Execution) (new : Record) (leads : Leads can old (replay.earlier ++ (replay.one ∷ replay.meanwhile ++ replay.two ∷ later)) new) (shows : AllShowHmacs (history_after history (replay.earlier ++ (replay.one ∷ replay.meanwhile ++ replay.two ∷ later)))) (holds : IsRunReplay history replay) where
   abbrev before : History
-  before = history_after history earlier
+  before = history_after history replay.earlier
 
   abbrev between : History
-  between = history_after [] meanwhile
+  between = history_after [] replay.meanwhile
 
-  from_one : Executes can one.before one.event one.seen × Leads can one.seen.after (meanwhile ++ two ∷ later) new
-  from_one = executed can old earlier one (meanwhile ++ two ∷ later) new leads
+  from_one : Executes can replay.one.before replay.one.event replay.one.seen × Leads can replay.one.seen.after (replay.meanwhile ++ replay.two ∷ later) new
+  from_one = executed can old replay.earlier replay.one (replay.meanwhile ++ replay.two ∷ later) new leads
 
-  module _ (first second : AcceptedCommand) (at_first : IsAcceptedAt replay.buffer one first) (at_second : IsAcceptedAt replay.buffer two second) where
-    whole : history_after history (earlier ++ (one ∷ meanwhile ++ two ∷ later)) ≡ history_after [] later ++ (Done second ∷ between ++ Done first ∷ before)
+  module _ (first second : AcceptedCommand) (at_first : IsAcceptedAt replay.buffer replay.one first) (at_second : IsAcceptedAt replay.buffer replay.two second) where
+    whole : history_after history (replay.earlier ++ (replay.one ∷ replay.meanwhile ++ replay.two ∷ later)) ≡ history_after [] later ++ (Done second ∷ between ++ Done first ∷ before)
     whole =
-        history_joined history earlier (one ∷ meanwhile ++ two ∷ later)
-        ∙ ap (λ (h : History). history_after h (meanwhile ++ two ∷ later)) (at_first.is before)
-        ∙ history_joined (Done first ∷ before) meanwhile (two ∷ later)
-        ∙ ap (λ (h : History). history_after (with_execution two h) later) (history_apart meanwhile (Done first ∷ before))
+        history_joined history replay.earlier (replay.one ∷ replay.meanwhile ++ replay.two ∷ later)
+        ∙ ap (λ (h : History). history_after h (replay.meanwhile ++ replay.two ∷ later)) (at_first.is before)
+        ∙ history_joined (Done first ∷ before) replay.meanwhile (replay.two ∷ later)
+        ∙ ap (λ (h : History). history_after (with_execution replay.two h) later) (history_apart replay.meanwhile (Done first ∷ before))
         ∙ ap (λ (h : History). history_after h later) (at_second.is (between ++ Done first ∷ before))
         ∙ history_apart later (Done second ∷ between ++ Done first ∷ before)
 
-    stretch : history_after [] (one ∷ meanwhile) ≡ between ++ Done first ∷ []
-    stretch = ap (λ (h : History). history_after h meanwhile) (at_first.is []) ∙ history_apart meanwhile (Done first ∷ [])
+    stretch : history_after [] (replay.one ∷ replay.meanwhile) ≡ between ++ Done first ∷ []
+    stretch = ap (λ (h : History). history_after h replay.meanwhile) (at_first.is []) ∙ history_apart replay.meanwhile (Done first ∷ [])
 
-    entry_there : slice_get first.command.entries place ≡ Some e
+    entry_there : slice_get first.command.entries replay.place ≡ Some replay.entry
     entry_there =
-        let same : first.command ≡ replay.command = ap (λ (x : Whole × List ℕ). x.0) (ok_is {E = Rc} (first.command, []) (replay.command, []) (sym at_first.spelled ∙ replay.spelled)) in
-        ap (λ (c : Whole). slice_get c.entries place) same ∙ replay.entry
+        let spelled = ok_is {E = Rc} (first.command, []) (holds.command, []) (sym at_first.spelled ∙ holds.spelled) in
+        let same : first.command ≡ holds.command = ap (λ (x : Whole × List ℕ). x.0) spelled in
+        ap (λ (c : Whole). slice_get c.entries replay.place) same ∙ holds.entry
 
-    repeats : RunRepeats history earlier one meanwhile two place e s
+    in_history : IsReplay (replay_between history replay first second)
+    in_history = record {
+      spelled_first = at_first.spelled;
+      spelled_second = at_second.spelled;
+      entry = entry_there;
+      has_hmac = holds.has_hmac;
+      names_session = holds.names_session;
+      lives = holds.lives;
+      is_hmac = holds.is_hmac;
+      lives_on = subst (λ (events : History). LivesThrough replay.entry.session events before) stretch holds.lives_on;
+    }
+
+    repeats : RunRepeats history replay
     repeats = record {
       first = first;
       second = second;
       at_first = at_first.is;
       at_second = at_second.is;
       repeats =
-          replays_repeat (history_after history (earlier ++ (one ∷ meanwhile ++ two ∷ later))) shows replay.buffer before first between second (history_after [] later) place e s whole (record {
-            spelled_first = at_first.spelled;
-            spelled_second = at_second.spelled;
-            entry = entry_there;
-            has_hmac = replay.has_hmac;
-            names_session = replay.names_session;
-            lives = replay.lives;
-            is_hmac = replay.is_hmac;
-            lives_on = subst (λ (events : History). LivesThrough e.session events before) stretch replay.lives_on;
-          });
+          replays_repeat (history_after history (replay.earlier ++ (replay.one ∷ replay.meanwhile ++ replay.two ∷ later))) shows (replay_between history replay first second) (history_after [] later) whole in_history;
     }
 
-  run_repeats : RunRepeats history earlier one meanwhile two place e s
+  run_repeats : RunRepeats history replay
   run_repeats =
-      let (first, at_first) = accepted_at can replay.buffer one from_one.0 replay.gives replay.accepted in
-      let (second, at_second) = accepted_at can replay.buffer two (executed can one.seen.after meanwhile two later new from_one.1).0 replay.gives_again replay.accepted_again in
+      let (first, at_first) = accepted_at can replay.buffer replay.one from_one.0 holds.gives holds.accepted in
+      let (second, at_second) = accepted_at can replay.buffer replay.two (executed can replay.one.seen.after replay.meanwhile replay.two later new from_one.1).0 holds.gives_again holds.accepted_again in
       repeats first second at_first at_second
 
 pub run_replays_repeat : (can : Bool) (old : Record) (executions : List Execution) (new : Record) (history : History) → Leads can old executions new → AllShowHmacs (history_after history executions) → RunReplaysRepeat history executions
-run_replays_repeat can old executions new history leads shows earlier one meanwhile two later place e s is replay =
-    run_repeats can old history earlier one meanwhile two later new place e s
+run_replays_repeat can old executions new history leads shows replay later is holds =
+    run_repeats can old history replay later new
     (subst (λ (l : List Execution). Leads can old l new) is leads)
-    (subst (λ (l : List Execution). AllShowHmacs (history_after history l)) is shows) replay
+    (subst (λ (l : List Execution). AllShowHmacs (history_after history l)) is shows) holds

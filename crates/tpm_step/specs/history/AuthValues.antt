@@ -92,16 +92,19 @@ cleared_values values =
 -- with this handle gets a value of its own
 abbrev pub values_by : CommandCode → Request → (made : Option Handle) → Option Sensitive
     → AuthValues → AuthValues
-values_by command.HierarchyChangeAuth q made area values = with_value (changed_value q) values
-values_by command.NvChangeAuth q made area values = with_value (changed_value q) values
-values_by command.NvDefineSpace q made area values = with_value (defined_value q) values
-values_by command.CreatePrimary q made area values = with_value (created_value q made) values
-values_by command.Load q made area values = with_value (loaded_value area made) values
-values_by command.EvictControl q made area values = with_value (copied_value q values) values
-values_by command.Startup q made area values =
-    started_values (only (startup_type_at q.parameters)) values
-values_by command.Clear q made area values = cleared_values values
-values_by _ q made area values = values
+values_by command.HierarchyChangeAuth request made area values =
+    with_value (changed_value request) values
+values_by command.NvChangeAuth request made area values = with_value (changed_value request) values
+values_by command.NvDefineSpace request made area values = with_value (defined_value request) values
+values_by command.CreatePrimary request made area values =
+    with_value (created_value request made) values
+values_by command.Load request made area values = with_value (loaded_value area made) values
+values_by command.EvictControl request made area values =
+    with_value (copied_value request values) values
+values_by command.Startup request made area values =
+    started_values (only (startup_type_at request.parameters)) values
+values_by command.Clear request made area values = cleared_values values
+values_by _ request made area values = values
 
 -- the authorization value of each handle after a history. At first all values are empty, and a
 -- power cycle changes none of them. An object from a saved context has its own value, without

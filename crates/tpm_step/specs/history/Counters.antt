@@ -22,9 +22,9 @@ abbrev pub no_counters : Counters
 no_counters = record { at = λ handle. None; all = [] }
 
 -- the largest number in a list, or 0 if the list is empty
-abbrev pub largest : List ℕ → ℕ
-largest [] = 0
-largest (n ∷ ns) = max (largest ns) n
+abbrev pub largest_of : List ℕ → ℕ
+largest_of [] = 0
+largest_of (n ∷ ns) = max (largest_of ns) n
 
 -- the next value of a counter: one more than its value; at the first increment, one more than the
 -- largest value that any counter ever had
@@ -37,7 +37,7 @@ next_count most (Some n) = n + 1
 -- the effect of TPM2_NV_Increment: the counter at this handle gets its next value
 abbrev pub counted_at : Handle → Counters → Counters
 counted_at handle c =
-    let n : ℕ = next_count (largest c.all) (c.at handle) in
+    let n : ℕ = next_count (largest_of c.all) (c.at handle) in
     record { at = with_at handle (Some n) c.at; all = n ∷ c.all }
 
 -- the effect of TPM2_NV_DefineSpace: the counter at this handle starts again, without a value
@@ -133,4 +133,4 @@ pub record CountLaws : Type 0 where
   -- the value of a counter is at most the largest value that any counter had
   pub within : (history : History) (handle : Handle) (n : ℕ)
       → count_at history handle ≡ Some n
-      → n ≤ largest (counts_of history)
+      → n ≤ largest_of (counts_of history)

@@ -6,7 +6,7 @@ use Rattle.tpm_nv.specs.Access.{index_has}
 use Rattle.tpm_nv.specs.Index.{NvContents, NvIndex, index_at}
 use Rattle.tpm_record.specs.Record.{Record}
 use Rattle.tpm_step.specs.rows.IndexChanges.{IsCounter, stored_count}
-use Rattle.tpm_step.specs.history.Counters.{AllBelow, Counters, HasNoDefinition, counters_of, counts_of, defines, largest}
+use Rattle.tpm_step.specs.history.Counters.{AllBelow, Counters, HasNoDefinition, counters_of, counts_of, defines, largest_of}
 use Rattle.tpm_step.specs.history.History.{History, PastEvent}
 
 -- The NV index is a counter with this value, or without a value if `count` is None. No startup
@@ -19,7 +19,7 @@ pub record IsCounted (index : NvIndex) (count : Option ℕ) : Type 0 where
 -- had is the same in both. Each counter of the device has the value that the history has for its
 -- handle.
 pub record AreCounted (contents : NvContents) (c : Counters) : Type 0 where
-  pub most : contents.max_count ≡ largest c.all
+  pub most : contents.max_count ≡ largest_of c.all
   pub each : (handle : Handle) (index : NvIndex)
       → index_at contents handle ≡ Some index
       → IsCounter index

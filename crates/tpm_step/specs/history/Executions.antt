@@ -26,8 +26,9 @@ abbrev pub power_cycle : Record → Execution
 power_cycle r = record { before = r; event = Cycled; seen = step r Cycled }
 
 -- the execution that places an object in this record
-abbrev pub placing : Record → Object → Execution
-placing r object = record { before = r; event = Placed object; seen = step r (Placed object) }
+abbrev pub placing_execution : Record → Object → Execution
+placing_execution r object =
+    record { before = r; event = Placed object; seen = step r (Placed object) }
 
 -- the history after one more execution
 abbrev pub with_execution : Execution → History → History

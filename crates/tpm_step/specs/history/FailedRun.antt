@@ -32,8 +32,8 @@ protected_index = record {
 -- a started device with `protected_index`, after `failed` failed tries, when its Time is `time`.
 -- `forgiving` is the number of milliseconds that already count towards the next decrement of
 -- failedTries. The device's maxTries is 3, and its recoveryTime is 1,000 seconds.
-abbrev pub tried : (failed forgiving time : ℕ) → Record
-tried failed forgiving time =
+abbrev pub tried_device : (failed forgiving time : ℕ) → Record
+tried_device failed forgiving time =
     let r : Record = manufactured zeros in
     let lockout : LockoutState = new_lockout in
     record r {
@@ -67,18 +67,18 @@ stepped_at r event = record { before = r; event = event; seen = step r event }
 -- in lockout; and a fifth, 1 millisecond after the fourth, when failedTries goes down by one
 abbrev pub failed_run : List Execution
 failed_run =
-    stepped_at (tried 0 0 0) (wrong_after 0)
-    ∷ stepped_at (tried 1 0 0) (wrong_after 0)
-    ∷ stepped_at (tried 2 0 0) (wrong_after 0)
-    ∷ stepped_at (tried 3 0 0) (wrong_after 999999)
-    ∷ stepped_at (tried 3 999999 999999) (wrong_after 1)
+    stepped_at (tried_device 0 0 0) (wrong_after 0)
+    ∷ stepped_at (tried_device 1 0 0) (wrong_after 0)
+    ∷ stepped_at (tried_device 2 0 0) (wrong_after 0)
+    ∷ stepped_at (tried_device 3 0 0) (wrong_after 999999)
+    ∷ stepped_at (tried_device 3 999999 999999) (wrong_after 1)
     ∷ []
 
 -- The failed run is a sequence of events without a reset of failedTries, and the device's
 -- recoveryTime is not 0. Four tries fail in this run, and no more than four may fail.
 pub record IsFailedRun : Type 0 where
-  pub leads : Leads false (tried 0 0 0) failed_run (tried 3 0 1000000)
+  pub leads : Leads false (tried_device 0 0 0) failed_run (tried_device 3 0 1000000)
   pub quiet : HasNoReset (history_after [] failed_run)
-  pub counts : (tried 0 0 0).fixed.lockout.fields.recovery_time ≢ 0
+  pub counts : (tried_device 0 0 0).fixed.lockout.fields.recovery_time ≢ 0
   pub failures : failures_in failed_run ≡ 4
-  pub within : tries_within (tried 0 0 0) failed_run ≡ 4
+  pub within : tries_within (tried_device 0 0 0) failed_run ≡ 4

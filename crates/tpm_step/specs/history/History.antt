@@ -55,13 +55,13 @@ pub record AcceptedCommand : Type 0 where
 -- request and this answer
 abbrev pub command_on : Record → Whole → List (Option Grant) → Request → AnswerParts
     → AcceptedCommand
-command_on r command grants q answer = record {
+command_on device command grants request answer = record {
   command = command;
   grants = grants;
-  request = q;
+  request = request;
   answer = answer;
-  views = map (view_of r) command.handles;
-  sensitive = sensitive_in command.code r q;
+  views = map (view_of device) command.handles;
+  sensitive = sensitive_in command.code device request;
 }
 
 -- the history's event for a command that was accepted on this record

@@ -47,23 +47,23 @@ measured_by bank (Err e) old = old
 
 -- a PCR's value after TPM2_Startup; with STATE, PCR 0 to 15 get the values that the last shutdown
 -- saved
-abbrev pub resumed : Result StartupType Refused → ℕ → (saved old : List ℕ) → List ℕ
-resumed (Ok type.Clear) pcr saved old = old
-resumed (Ok type.State) pcr saved old = if nat_lt pcr 16 then saved else old
-resumed (Err e) pcr saved old = old
+abbrev pub resumed_value : Result StartupType Refused → ℕ → (saved old : List ℕ) → List ℕ
+resumed_value (Ok type.Clear) pcr saved old = old
+resumed_value (Ok type.State) pcr saved old = if nat_lt pcr 16 then saved else old
+resumed_value (Err e) pcr saved old = old
 
 abbrev pub pcr_by : CommandCode → Request → HashAlg → ℕ → (saved old : List ℕ) → List ℕ
-pcr_by command.PcrReset q bank pcr saved old =
-    if names_pcr q.handles pcr then replicate (digest_size bank) 0 else old
-pcr_by command.PcrExtend q bank pcr saved old =
-    if names_pcr q.handles pcr
-    then extended_by_all bank (only (digest_values_at q.parameters)) old else old
-pcr_by command.PcrEvent q bank pcr saved old =
-    if names_pcr q.handles pcr
-    then measured_by bank (only (buffer_at data_limit q.parameters)) old else old
-pcr_by command.Startup q bank pcr saved old =
-    resumed (only (startup_type_at q.parameters)) pcr saved old
-pcr_by _ q bank pcr saved old = old
+pcr_by command.PcrReset request bank pcr saved old =
+    if names_pcr request.handles pcr then replicate (digest_size bank) 0 else old
+pcr_by command.PcrExtend request bank pcr saved old =
+    if names_pcr request.handles pcr
+    then extended_by_all bank (only (digest_values_at request.parameters)) old else old
+pcr_by command.PcrEvent request bank pcr saved old =
+    if names_pcr request.handles pcr
+    then measured_by bank (only (buffer_at data_limit request.parameters)) old else old
+pcr_by command.Startup request bank pcr saved old =
+    resumed_value (only (startup_type_at request.parameters)) pcr saved old
+pcr_by _ request bank pcr saved old = old
 
 abbrev pub saved_by : CommandCode → Pcrs → PcrValues
 saved_by command.Shutdown p = p.values

@@ -41,46 +41,46 @@ pcr_parts_in history hash p = record {
 -- depend on it
 abbrev pub assertion_by : Code → AcceptedCommand → History → HashAlg → (nonce_tpm : List ℕ)
     → Result Assertion Refused
-assertion_by command.PolicyPcr c history hash nonce_tpm = do
-  p ← pcr_parameters c.request.parameters
+assertion_by command.PolicyPcr accepted history hash nonce_tpm = do
+  p ← pcr_parameters accepted.request.parameters
   Ok (Pcr (pcr_parts_in history hash p))
-assertion_by command.PolicyOr c history hash nonce_tpm = do
-  digests ← only (digest_list_at c.request.parameters)
+assertion_by command.PolicyOr accepted history hash nonce_tpm = do
+  digests ← only (digest_list_at accepted.request.parameters)
   Ok (Or digests)
-assertion_by command.PolicyAuthValue c history hash nonce_tpm = Ok AuthValue
-assertion_by command.PolicyPassword c history hash nonce_tpm = Ok Password
-assertion_by command.PolicyCommandCode c history hash nonce_tpm = do
-  number ← only (or_fault (number_at w32 c.request.parameters) (plain code.Insufficient))
+assertion_by command.PolicyAuthValue accepted history hash nonce_tpm = Ok AuthValue
+assertion_by command.PolicyPassword accepted history hash nonce_tpm = Ok Password
+assertion_by command.PolicyCommandCode accepted history hash nonce_tpm = do
+  number ← only (or_fault (number_at w32 accepted.request.parameters) (plain code.Insufficient))
   Ok (CommandCode number)
-assertion_by command.PolicyCpHash c history hash nonce_tpm = do
-  cp_hash ← only (buffer_at 32 c.request.parameters)
+assertion_by command.PolicyCpHash accepted history hash nonce_tpm = do
+  cp_hash ← only (buffer_at 32 accepted.request.parameters)
   Ok (CpHash cp_hash)
-assertion_by command.PolicyNvWritten c history hash nonce_tpm = do
-  is_written ← only (yes_no_at c.request.parameters)
+assertion_by command.PolicyNvWritten accepted history hash nonce_tpm = do
+  is_written ← only (yes_no_at accepted.request.parameters)
   Ok (NvWritten is_written)
-assertion_by command.PolicyLocality c history hash nonce_tpm = do
-  localities ← only (or_fault (number_at w8 c.request.parameters) (plain code.Insufficient))
+assertion_by command.PolicyLocality accepted history hash nonce_tpm = do
+  localities ← only (or_fault (number_at w8 accepted.request.parameters) (plain code.Insufficient))
   Ok (Locality localities)
-assertion_by command.PolicySecret c history hash nonce_tpm = do
-  p ← secret_parameters c.request.parameters
+assertion_by command.PolicySecret accepted history hash nonce_tpm = do
+  p ← secret_parameters accepted.request.parameters
   Ok (Secret (record {
-    name = name_in c.views 0;
+    name = name_in accepted.views 0;
     nonce = p.nonce;
     nonce_tpm = nonce_tpm;
     cp_hash = p.cp_hash;
     reference = p.reference;
     expiration = p.expiration;
   }))
-assertion_by command.PolicyNv c history hash nonce_tpm = do
-  p ← nv_parameters c.request.parameters
+assertion_by command.PolicyNv accepted history hash nonce_tpm = do
+  p ← nv_parameters accepted.request.parameters
   Ok (Nv (record {
-    name = name_in c.views 1;
+    name = name_in accepted.views 1;
     operand = p.operand;
     offset = p.offset;
     operation = p.operation;
     compared = Ok [];
   }))
-assertion_by _ c history hash nonce_tpm = Err handle_refusal
+assertion_by _ accepted history hash nonce_tpm = Err handle_refusal
 
 -- the list of assertions, with the new assertion prepended if it could be parsed
 abbrev pub with_assertion : Result Assertion Refused → List Assertion → List Assertion

@@ -121,8 +121,9 @@ started_by (Err e) bound random = None
 
 -- the session that a command starts, given the authorization values of its handles before the
 -- command
-unfoldable pub started : AcceptedCommand → (auth_values : List (List ℕ)) → Option LiveSession
-started c auth_values = started_by (parameters_in c.request.parameters)
+unfoldable pub started_session : AcceptedCommand → (auth_values : List (List ℕ))
+    → Option LiveSession
+started_session c auth_values = started_by (parameters_in c.request.parameters)
     (bound_in c.request.handles c.views auth_values) c.request.random
 
 -- ---- what a command does to sessions, apart from the effects of its entries
@@ -132,7 +133,7 @@ started c auth_values = started_by (parameters_in c.request.parameters)
 abbrev pub with_started : AcceptedCommand → History → LiveSessions → LiveSessions
 with_started c history live =
     by_handle (ok_or c.answer.handle handle_refusal)
-    (λ handle. with_at handle (started c (map (auth_of history) c.request.handles))) live
+    (λ handle. with_at handle (started_session c (map (auth_of history) c.request.handles))) live
 
 -- a live session after a command that makes an assertion on it
 abbrev pub asserted_by : CommandCode → AcceptedCommand → History → LiveSession → LiveSession
@@ -146,8 +147,8 @@ with_asserted code c history live =
     (changed_session (asserted_by code c history)) live
 
 -- a live session without its assertions
-abbrev pub restarted : LiveSession → LiveSession
-restarted s = record s { assertions = [] }
+abbrev pub restarted_session : LiveSession → LiveSession
+restarted_session s = record s { assertions = [] }
 
 -- the live sessions after a command with this code. TPM2_FlushContext ends a session, and
 -- TPM2_PolicyRestart clears the assertions of a session. Apart from these two commands, only
@@ -157,7 +158,7 @@ sessions_by command.StartAuthSession c history live = with_started c history liv
 sessions_by command.FlushContext c history live =
     by_handle (flushed_handle c.request.parameters) without_session live
 sessions_by command.PolicyRestart c history live =
-    by_handle (first_handle c.request.handles) (changed_session restarted) live
+    by_handle (first_handle c.request.handles) (changed_session restarted_session) live
 sessions_by command.PolicyPcr c history live = with_asserted command.PolicyPcr c history live
 sessions_by command.PolicyOr c history live = with_asserted command.PolicyOr c history live
 sessions_by command.PolicyAuthValue c history live =
@@ -208,17 +209,17 @@ entries_rolled live (e ∷ es) left =
 -- and a trial session are unchanged
 abbrev pub used_by : SessionType → LiveSession → LiveSession
 used_by type.Hmac s = s
-used_by type.Policy s = restarted s
+used_by type.Policy s = restarted_session s
 used_by type.Trial s = s
 
-abbrev pub used : LiveSession → LiveSession
-used s = used_by s.kind s
+abbrev pub used_session : LiveSession → LiveSession
+used_session s = used_by s.kind s
 
 -- the live sessions after an entry of a command; without continueSession, the entry's session ends
 abbrev pub entry_ended : LiveSessions → Entry → Option Grant → LiveSessions
 entry_ended live e grant =
     if continues_session e.attributes
-    then (if is_some grant then changed_session used e.session live else live)
+    then (if is_some grant then changed_session used_session e.session live else live)
     else without_session e.session live
 
 abbrev pub entries_ended : LiveSessions → List (Entry × Option Grant) → LiveSessions

@@ -69,29 +69,33 @@ fails_try r (Placed object) = false
 -- entry has to authorize this handle. The last argument is what the policy requires in the entry,
 -- or the refusal if the session may not authorize the handle
 abbrev pub touched_where : Record → Session → Handle → Result Demand Refused → Protection
-touched_where r s handle (Ok demand) =
-    entry_protection r s (Some (record { handle = handle; demand = demand }))
-touched_where r s handle (Err e) = protection.None
+touched_where device session handle (Ok demand) =
+    entry_protection device session (Some (record { handle = handle; demand = demand }))
+touched_where device session handle (Err e) = protection.None
 
 -- the protection of the entity whose authorization value is used to check entry n, if the entry
 -- names this session. The handle is the one that the entry has to authorize, or None
-abbrev pub touched_of_session : Record → Whole → (locality n : ℕ) → Option Handle → Session
+abbrev pub touched_of_session : Record → Whole → (locality position : ℕ) → Option Handle → Session
     → Protection
-touched_of_session r c locality n (Some handle) s =
-    touched_where r s handle (demanded r c locality n handle s)
-touched_of_session r c locality n None s = entry_protection r s None
+touched_of_session device command locality position (Some handle) session =
+    touched_where device session handle (demanded device command locality position handle session)
+touched_of_session device command locality position None session =
+    entry_protection device session None
 
 -- the protection of the entity whose authorization value is used to check an entry; for a password,
 -- this is the entity that the password has to authorize
-abbrev pub touched_by : SessionKind → Record → Whole → (locality n : ℕ) → Option Handle → Entry
-    → Protection
-touched_by kind.Password r c locality n used e = used_protection r used
-touched_by kind.Session r c locality n used e =
-    option_map_or (touched_of_session r c locality n used) (session_of r e) protection.None
-touched_by kind.Other r c locality n used e = protection.None
+abbrev pub touched_by : SessionKind → Record → Whole → (locality position : ℕ) → Option Handle
+    → Entry → Protection
+touched_by kind.Password device command locality position used entry = used_protection device used
+touched_by kind.Session device command locality position used entry =
+    option_map_or (touched_of_session device command locality position used)
+    (session_of device entry) protection.None
+touched_by kind.Other device command locality position used entry = protection.None
 
-abbrev pub touched : Record → Whole → (locality n : ℕ) → Option Handle → Entry → Protection
-touched r c locality n used e = touched_by (session_kind e.session) r c locality n used e
+abbrev pub touched_protection : Record → Whole → (locality position : ℕ) → Option Handle → Entry
+    → Protection
+touched_protection device command locality position used entry =
+    touched_by (session_kind entry.session) device command locality position used entry
 
 -- The command's authorization is refused with AUTH_FAIL for the entry at this position, counted
 -- from 0. The entry was checked with the authorization value of a protected entity other than
@@ -103,7 +107,7 @@ pub record FailsTry (r : Record) (locality : ℕ) (buffer : List ℕ) : Type 0 w
   pub refused : Refused
   pub decoded : general r buffer ≡ Ok command
   pub there : slice_get command.entries place ≡ Some entry
-  pub touches : touched r command locality (place + 1) (used_in command place) entry
+  pub touches : touched_protection r command locality (place + 1) (used_in command place) entry
       ≡ protection.Tries
   pub is : authorize r command locality ≡ Err refused
   pub fails : refused.rc ≡ entry_fault (place + 1) code.AuthFail

@@ -47,8 +47,8 @@ StartsNv old new = (new ≡ old) ⊎ (new ≡ started old)
 -- hierarchy's new proof, are copied from the second argument. All authorization values are empty
 -- except platformAuth. The failed tries are cleared, the number of PCR updates is incremented, and
 -- Clock, resetCount and restartCount are 0
-abbrev pub emptied : Fixed → Fixed → Fixed
-emptied f after = record f {
+abbrev pub emptied_fixed : Fixed → Fixed → Fixed
+emptied_fixed f after = record f {
   hierarchies = record f.hierarchies {
     owner = record { auth_value = []; secrets = after.hierarchies.owner.secrets };
     endorsement = record {
@@ -92,7 +92,7 @@ Touches DisableClear old new =
     new ≡ record old { fixed = record old.fixed { disable_clear = new.fixed.disable_clear } }
 Touches Cleared old new =
     new ≡ record old {
-      fixed = emptied old.fixed new.fixed;
+      fixed = emptied_fixed old.fixed new.fixed;
       objects = cleared_objects old.objects;
       persistent = cleared_persistent old.persistent;
       nv = cleared old.nv;

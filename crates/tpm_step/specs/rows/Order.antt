@@ -9,7 +9,7 @@ use Rattle.tpm_commands.specs.declared.shape.HandleRule.{HandleRule}
 use Rattle.tpm_commands.specs.declared.shape.ParameterKind.{ParameterKind}
 use Rattle.tpm_record.specs.Record.{Record}
 use Rattle.tpm_step.specs.rows.Handles.{HandlesFit}
-use Rattle.tpm_step.specs.rows.Shapes.{spelled}
+use Rattle.tpm_step.specs.rows.Shapes.{parameters_check}
 
 -- A check is late if it comes after the row has parsed its parameters. The late checks are the
 -- command's own checks and, if the handles do not fit, the check of handles.
@@ -36,9 +36,9 @@ InOrder Fit spelling (Err e) = IsInPlace Fit spelling e
 
 -- The row of a command with these handle rules and these kinds of parameters reports refusals in
 -- the order of its checks. `row` may also be the rest of a row after some of its steps.
-pub record Orders {X : Type 0} (r : Record) (rules : List HandleRule) (handles : List Handle)
+pub record Orders {X : Type 0} (device : Record) (rules : List HandleRule) (handles : List Handle)
     (kinds : List ParameterKind) (text : List ℕ) (row : Result X Refused) : Type 0 where
-  pub order : InOrder (HandlesFit r rules handles) (spelled 1 kinds text) row
+  pub order : InOrder (HandlesFit device rules handles) (parameters_check 1 kinds text) row
 
 -- The refusal neither counts as a failed try nor disables lockoutAuth.
 abbrev pub IsPlain : Refused → Type 0

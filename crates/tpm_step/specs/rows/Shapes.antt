@@ -88,11 +88,11 @@ behind_kind kind.PersistentHandle text = behind (persistent_handle_at text)
 
 -- parses parameters of these kinds up to the end of the bytes; the first parameter has number n.
 -- The result is the first fault, if any
-abbrev pub spelled : ℕ → List ParameterKind → List ℕ → Result (Unit {0}) Refused
-spelled n [] text = all_read text
-spelled n (kind ∷ kinds) text = do
+abbrev pub parameters_check : ℕ → List ParameterKind → List ℕ → Result (Unit {0}) Refused
+parameters_check n [] text = all_read text
+parameters_check n (kind ∷ kinds) text = do
   rest ← parameter n (behind_kind kind text)
-  spelled (n + 1) kinds rest
+  parameters_check (n + 1) kinds rest
 
 -- The row refuses the parameters with this fault, unless it refuses a handle first.
 abbrev pub ParametersFail : {X : Type 0} → Refused → Result X Refused → Type 0

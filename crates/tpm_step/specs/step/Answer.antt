@@ -68,12 +68,12 @@ text_of a = record { handle = a.handle; parameters = a.parameters; drawn = a.dra
 -- entry asks for it, and the response to each entry is computed. Last, the policy sessions that
 -- authorized a handle are reset, and sessions without continueSession end
 unfoldable pub answer_to : Whole → List (Option Grant) → Written → Record → List ℕ → Answered
-answer_to c grants a effect random =
-    let granted : List Granted = granted_entries c grants in
-    let drawn : Drawn = entries_rolled effect c.entries (drop a.drawn random) in
-    let parameters : List ℕ = encrypted_answer drawn.after granted a.parameters in
+answer_to command grants answer effect random =
+    let granted : List Granted = granted_entries command grants in
+    let drawn : Drawn = entries_rolled effect command.entries (drop answer.drawn random) in
+    let parameters : List ℕ = encrypted_answer drawn.after granted answer.parameters in
     record {
-      response = success_text c.entries a.handle parameters
-          (entries_answer drawn.after (OfResponse (code_number c.code) parameters) granted);
+      response = success_text command.entries answer.handle parameters
+          (entries_answer drawn.after (OfResponse (code_number command.code) parameters) granted);
       after = entries_ended drawn.after granted;
     }

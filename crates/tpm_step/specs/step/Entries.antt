@@ -62,21 +62,22 @@ password_answer = 0 ∷ 0 ∷ 1 ∷ 0 ∷ 0 ∷ []
 -- longer bound to it. The HMAC is empty if the policy required a password. It is also empty if the
 -- command's HMAC was empty, even if the key is no longer empty (a choice of this implementation)
 unfoldable pub answer_mac : Record → HashedParts → Option Grant → Entry → Session → List ℕ
-answer_mac r hashed grant e s =
-    if length e.hmac == 0 || demands_password grant then []
-    else response_mac_of s (used_auth_value r s grant) (parameter_hash_of s.hash hashed) e.nonce
-    e.attributes
+answer_mac device hashed grant entry session =
+    if length entry.hmac == 0 || demands_password grant then []
+    else response_mac_of session (used_auth_value device session grant)
+    (parameter_hash_of session.hash hashed) entry.nonce entry.attributes
 
 -- the response to an entry with a session: the new nonceTPM, the attributes of the command's entry,
 -- and the HMAC
 unfoldable pub session_answer : Record → HashedParts → Option Grant → Entry → Session → List ℕ
-session_answer r hashed grant e s =
-    sized_text s.nonce_tpm ++ e.attributes.octet ∷ []
-    ++ sized_text (answer_mac r hashed grant e s)
+session_answer device hashed grant entry session =
+    sized_text session.nonce_tpm ++ entry.attributes.octet ∷ []
+    ++ sized_text (answer_mac device hashed grant entry session)
 
 unfoldable pub entry_answer : Record → HashedParts → Option Grant → Entry → List ℕ
-entry_answer r hashed grant e =
-    option_map_or (session_answer r hashed grant e) (session_of r e) password_answer
+entry_answer device hashed grant entry =
+    option_map_or (session_answer device hashed grant entry) (session_of device entry)
+    password_answer
 
 -- the responses to the entries of a command, given the grant of each entry
 abbrev pub entries_answer : Record → HashedParts → List Granted → List ℕ

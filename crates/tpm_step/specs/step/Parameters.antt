@@ -31,9 +31,10 @@ session_bytes direction.Encrypt s value e = encrypted_parameter s value s.nonce_
 -- the parameters, with the first parameter decrypted or encrypted by the session of this entry;
 -- unchanged if the entry has no session
 unfoldable pub entry_parameters : Direction → Record → Option Grant → Entry → List ℕ → List ℕ
-entry_parameters d r grant e text =
+entry_parameters d device grant entry text =
     option_map_or (λ (s : Session).
-    with_first_buffer (session_bytes d s (granted_value r grant) e) text) (session_of r e) text
+    with_first_buffer (session_bytes d s (granted_value device grant) entry) text)
+    (session_of device entry) text
 
 -- the parameters, with the first parameter decrypted or encrypted by the session of the first entry
 -- that asks for it; unchanged if no entry asks

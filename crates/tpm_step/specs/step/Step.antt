@@ -52,10 +52,10 @@ pub record Accepted : Type 0 where
 
 -- the request of a command, with its parameters decrypted by its sessions
 abbrev pub request_in : Record → Whole → List (Option Grant) → ℕ → List ℕ → Request
-request_in r c grants locality random = record {
-  handles = c.handles;
+request_in device command grants locality random = record {
+  handles = command.handles;
   locality = locality;
-  parameters = plain_parameters r (granted_entries c grants) c.parameters;
+  parameters = plain_parameters device (granted_entries command grants) command.parameters;
   random = random;
 }
 

@@ -49,11 +49,11 @@ is_bound_to s name auth_value =
 -- the authorization value in the HMAC key of the entry at this position, given the handle that the
 -- entry has to authorize
 abbrev pub value_in_key : History → AcceptedCommand → ℕ → LiveSession → Option Handle → List ℕ
-value_in_key history c place s None = []
-value_in_key history c place s (Some handle) =
+value_in_key history accepted place session None = []
+value_in_key history accepted place session (Some handle) =
     let value : List ℕ = auth_of history handle in
-    let is_bound : Bool = is_bound_to s (name_in c.views place) value in
-    if has_value_in_key s.kind is_bound (policy_in s).demand then value else []
+    let is_bound : Bool = is_bound_to session (name_in accepted.views place) value in
+    if has_value_in_key session.kind is_bound (policy_in session).demand then value else []
 
 -- the HMAC key of the entry at this position: sessionKey || authValue
 abbrev pub key_in : History → AcceptedCommand → ℕ → LiveSession → List ℕ
@@ -78,22 +78,24 @@ nonce_where history test entries = option_map_or (entry_nonce history) (find tes
 -- the message of an entry's HMAC: cpHash || nonceCaller || nonceTPM || nonceTPM of the decrypt
 -- session || nonceTPM of the encrypt session || sessionAttributes
 unfoldable pub text_in : History → AcceptedCommand → ℕ → Entry → LiveSession → List ℕ
-text_in history c place e s =
-    let others : List Entry = other_entries c.command (place + 1) in
-    entry_text (cp_hash_in c s.hash) e.nonce s.nonce_tpm (nonce_where history decrypts others)
-    (nonce_where history only_encrypts others) e.attributes
+text_in history accepted place entry session =
+    let others : List Entry = other_entries accepted.command (place + 1) in
+    entry_text (cp_hash_in accepted session.hash) entry.nonce session.nonce_tpm
+    (nonce_where history decrypts others) (nonce_where history only_encrypts others)
+    entry.attributes
 
 -- ---- the HMAC of an entry
 
 abbrev pub hmac_in : History → AcceptedCommand → ℕ → Entry → LiveSession → List ℕ
-hmac_in history c place e s =
-    hmac_of s.hash (key_in history c place s) (text_in history c place e s)
+hmac_in history accepted place entry session =
+    hmac_of session.hash (key_in history accepted place session)
+    (text_in history accepted place entry session)
 
 -- The entry contains the HMAC of its message with its key, or both its key and its HMAC are empty.
 abbrev pub HasHmac : History → AcceptedCommand → ℕ → Entry → LiveSession → Type 0
-HasHmac history c place e s =
-    (e.hmac ≡ hmac_in history c place e s)
-    ⊎ ((key_in history c place s ≡ []) × (e.hmac ≡ []))
+HasHmac history accepted place entry session =
+    (entry.hmac ≡ hmac_in history accepted place entry session)
+    ⊎ ((key_in history accepted place session ≡ []) × (entry.hmac ≡ []))
 
 -- ---- every command of a history
 

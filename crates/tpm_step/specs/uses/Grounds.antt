@@ -67,16 +67,18 @@ NamesCommand role.Admin number = is_some number ≡ true
 -- code; the role ADMIN requires a recorded code. A recorded cpHash is the cpHash of this command,
 -- and a recorded written state is the written state of this NV index. The command's locality is
 -- allowed.
-pub record MeetsPolicy (history : History) (c : AcceptedCommand) (place : ℕ) (e : Entry)
-    (s : LiveSession) : Type 0 where
-  pub allowed : allows_in means.Policy c place ≡ true
-  pub policy : IsPolicyOf s (policy_at c place)
-  pub pcrs : asserts_pcrs s ≡ true → HoldsPcrs e.session history s
-  pub command : IfSome (policy_in s).command (λ number. number ≡ code_number c.command.code)
-  pub named : NamesCommand (role_at c.command.code place) (policy_in s).command
-  pub cp_hash : IfSome (policy_in s).cp_hash (λ hash. hash ≡ cp_hash_in c s.hash)
-  pub written : IfSome (policy_in s).nv_written (λ is_written. written_at c place ≡ Some is_written)
-  pub locality : bit_at (policy_in s).localities c.request.locality ≡ 1
+pub record MeetsPolicy (history : History) (accepted : AcceptedCommand) (place : ℕ) (entry : Entry)
+    (session : LiveSession) : Type 0 where
+  pub allowed : allows_in means.Policy accepted place ≡ true
+  pub policy : IsPolicyOf session (policy_at accepted place)
+  pub pcrs : asserts_pcrs session ≡ true → HoldsPcrs entry.session history session
+  pub command : IfSome (policy_in session).command
+      (λ number. number ≡ code_number accepted.command.code)
+  pub named : NamesCommand (role_at accepted.command.code place) (policy_in session).command
+  pub cp_hash : IfSome (policy_in session).cp_hash (λ hash. hash ≡ cp_hash_in accepted session.hash)
+  pub written : IfSome (policy_in session).nv_written
+      (λ is_written. written_at accepted place ≡ Some is_written)
+  pub locality : bit_at (policy_in session).localities accepted.request.locality ≡ 1
 
 -- If the policy requires a password (true), the entry contains the password, and otherwise the
 -- right HMAC.

@@ -70,20 +70,20 @@ pub record WritesIndex (c : AcceptedCommand) (place : ℕ) (public : NvPublic)
 
 -- The entry at this position of a command names a policy session with this hash. Unless the hash is
 -- broken (`BreaksHash`), the property holds for the use of the handle at this position.
-pub record IsUsedBySession (history : History) (c : AcceptedCommand) (place : ℕ) (hash : HashAlg)
-    (policy : PolicyExpression) (Holds : PolicyUse → Type 0) : Type 0
+pub record IsUsedBySession (history : History) (accepted : AcceptedCommand) (place : ℕ)
+    (hash : HashAlg) (policy : PolicyExpression) (Holds : PolicyUse → Type 0) : Type 0
   where
     pub handle : Handle
-    pub used : used_in c.command place ≡ Some handle
+    pub used : used_in accepted.command place ≡ Some handle
     pub entry : Entry
-    pub given : slice_get c.command.entries place ≡ Some entry
+    pub given : slice_get accepted.command.entries place ≡ Some entry
     pub session : LiveSession
     pub lives : sessions_of history entry.session ≡ Some session
     pub kind : session.kind ≡ type.Policy
     pub session_hash : session.hash ≡ hash
     pub holds : Holds (record {
       history = history;
-      command = c;
+      command = accepted;
       place = place;
       handle = handle;
       entry = entry;

@@ -35,21 +35,36 @@ LivesThrough handle (event ∷ events) before =
 
 -- ---- a replay
 
--- The same buffer encodes two accepted commands, `first` and, later, `second`. Their entry at this
--- position, counted from 0, has an HMAC and names an HMAC session, which survives between the two
--- commands.
-pub record IsReplay (buffer : List ℕ) (before : History) (first : AcceptedCommand)
-    (between : History) (second : AcceptedCommand) (place : ℕ) (e : Entry) (s : LiveSession)
-    : Type 0
-  where
-    pub spelled_first : command_at buffer ≡ Ok (first.command, [])
-    pub spelled_second : command_at buffer ≡ Ok (second.command, [])
-    pub entry : slice_get first.command.entries place ≡ Some e
-    pub has_hmac : e.hmac ≢ []
-    pub names_session : session_kind e.session ≡ kind.Session
-    pub lives : sessions_of before e.session ≡ Some s
-    pub is_hmac : s.kind ≡ type.Hmac
-    pub lives_on : LivesThrough e.session (between ++ Done first ∷ []) before
+-- A buffer, two accepted commands of a history, and one of their entries. `before` is the history
+-- before the first command, and `between` contains the events between the two commands. `place` is
+-- the entry's position, counted from 0. `session` is the session that the entry names, before the
+-- first command.
+pub record Replay : Type 0 where
+  pub buffer : List ℕ
+  pub before : History
+  pub first : AcceptedCommand
+  pub between : History
+  pub second : AcceptedCommand
+  pub place : ℕ
+  pub entry : Entry
+  pub session : LiveSession
+
+-- the history before the second command
+abbrev pub before_second : Replay → History
+before_second replay = replay.between ++ Done replay.first ∷ replay.before
+
+-- The buffer encodes both commands. The entry has an HMAC and names an HMAC session, which
+-- survives between the two commands.
+pub record IsReplay (replay : Replay) : Type 0 where
+  pub spelled_first : command_at replay.buffer ≡ Ok (replay.first.command, [])
+  pub spelled_second : command_at replay.buffer ≡ Ok (replay.second.command, [])
+  pub entry : slice_get replay.first.command.entries replay.place ≡ Some replay.entry
+  pub has_hmac : replay.entry.hmac ≢ []
+  pub names_session : session_kind replay.entry.session ≡ kind.Session
+  pub lives : sessions_of replay.before replay.entry.session ≡ Some replay.session
+  pub is_hmac : replay.session.kind ≡ type.Hmac
+  pub lives_on : LivesThrough replay.entry.session
+      (replay.between ++ Done replay.first ∷ []) replay.before
 
 -- The session has the same nonceTPM as at the earlier time. This nonceTPM is also among the
 -- session's earlier nonces.
@@ -57,29 +72,37 @@ abbrev pub HasNonceAgain : (earlier now : LiveSession) → Type 0
 HasNonceAgain earlier now =
     (now.nonce_tpm ≡ earlier.nonce_tpm) × IsAmong now.nonce_tpm now.earlier_nonces
 
--- The entry has the same HMAC at both events, although the messages differ. The HMAC at each event
--- is computed with the key that the session's entry has at that event.
-abbrev pub HaveOneHmac : (before : History) (first : AcceptedCommand) (after : History)
-    (second : AcceptedCommand) (place : ℕ) (e : Entry) (s t : LiveSession) → Type 0
-HaveOneHmac before first after second place e s t =
-    (text_in before first place e s ≢ text_in after second place e t)
-    × (e.hmac ≡ hmac_in before first place e s) × (e.hmac ≡ hmac_in after second place e t)
+-- the text of the entry's HMAC at the first command
+abbrev pub first_text : Replay → List ℕ
+first_text replay =
+    text_in replay.before replay.first replay.place replay.entry replay.session
 
--- At the second event of a replay, the session has the same hash as at the first event. Either it
--- also has the same nonceTPM again, or two different messages have the same HMAC.
-pub record Repeats (before : History) (first : AcceptedCommand) (between : History)
-    (second : AcceptedCommand) (place : ℕ) (e : Entry) (s : LiveSession) : Type 0 where
+-- the text of the entry's HMAC at the second command, where the session is `now`
+abbrev pub second_text : Replay → (now : LiveSession) → List ℕ
+second_text replay now =
+    text_in (before_second replay) replay.second replay.place replay.entry now
+
+-- The entry has the same HMAC at both commands, although the texts differ. The HMAC at each command
+-- is computed with the key that the session's entry has at that command.
+abbrev pub HaveOneHmac : Replay → (now : LiveSession) → Type 0
+HaveOneHmac replay now =
+    (first_text replay ≢ second_text replay now)
+    × (replay.entry.hmac
+    ≡ hmac_in replay.before replay.first replay.place replay.entry replay.session)
+    × (replay.entry.hmac
+    ≡ hmac_in (before_second replay) replay.second replay.place replay.entry now)
+
+-- At the second command of a replay, the session has the same hash as at the first command. Either
+-- it also has the same nonceTPM again, or two different texts have the same HMAC.
+pub record Repeats (replay : Replay) : Type 0 where
   pub now : LiveSession
-  pub lives : sessions_of (between ++ Done first ∷ before) e.session ≡ Some now
-  pub hash : now.hash ≡ s.hash
-  pub repeats : HasNonceAgain s now
-      ⊎ HaveOneHmac before first (between ++ Done first ∷ before) second place e s now
+  pub lives : sessions_of (before_second replay) replay.entry.session ≡ Some now
+  pub hash : now.hash ≡ replay.session.hash
+  pub repeats : HasNonceAgain replay.session now ⊎ HaveOneHmac replay now
 
 -- Every replay in a history repeats a nonceTPM or an HMAC.
 abbrev pub ReplaysRepeat : History → Type 0
 ReplaysRepeat history =
-    (buffer : List ℕ) (before : History) (first : AcceptedCommand) (between : History)
-    (second : AcceptedCommand) (after : History) (place : ℕ) (e : Entry) (s : LiveSession)
-    → history ≡ after ++ (Done second ∷ between ++ Done first ∷ before)
-    → IsReplay buffer before first between second place e s
-    → Repeats before first between second place e s
+    (replay : Replay) (after : History)
+    → history ≡ after ++ (Done replay.second ∷ replay.between ++ Done replay.first ∷ replay.before)
+    → IsReplay replay → Repeats replay

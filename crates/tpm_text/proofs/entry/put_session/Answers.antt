@@ -1,7 +1,7 @@
 use Rattle.std.proofs.Common.{rules, refl}
 use Rattle.std.proofs.lemmas.Result.{err_from_is_err_and}
 use Rattle.std.specs.Int.{w8, w32, to_be_bytes}
-use Rattle.tpm_text.specs.Draft.{drafted}
+use Rattle.tpm_text.specs.Draft.{drafted_bytes}
 use Rattle.tpm_text.specs.EntryPieces.{four_of}
 use Rattle.tpm_text.proofs.EntryTexts.{no_session_text, parts_drafted, session_text}
 use Rattle.tpm_text.proofs.Growing.{drafts_err, drafts_ok}
@@ -32,4 +32,4 @@ returns-in_err-octet_in c =
 pub returns : goal.returns
 returns c =
     let nonce = drafts_ok _ _ _ _ c.in_ok-put_buffer.was c.put_buffer.ensures in
-    rw (session_text c.args.text.now (four_of c.in_ok-pieces.pieces) c.in_ok-pieces.ensures, c.in_ok-handle_in.ensures, nonce.1, c.in_ok-octet_in.ensures) (parts_drafted (to_be_bytes w32 c.in_ok-handle_in.field-0.number) (to_be_bytes w8 c.in_ok-octet_in.field-0) nonce.0 _ _ (drafted c.put.new.self) (drafted c.put_buffer.new.self) (drafted c.put-2.new.self) _ _ (search rules) nonce.2 (search rules) c.put_buffer-2.ensures)
+    rw (session_text c.args.text.now (four_of c.in_ok-pieces.pieces) c.in_ok-pieces.ensures, c.in_ok-handle_in.ensures, nonce.1, c.in_ok-octet_in.ensures) (parts_drafted (to_be_bytes w32 c.in_ok-handle_in.field-0.number) (to_be_bytes w8 c.in_ok-octet_in.field-0) nonce.0 _ _ (drafted_bytes c.put.new.self) (drafted_bytes c.put_buffer.new.self) (drafted_bytes c.put-2.new.self) _ _ (search rules) nonce.2 (search rules) c.put_buffer-2.ensures)

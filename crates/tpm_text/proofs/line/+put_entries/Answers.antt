@@ -2,7 +2,7 @@ use Rattle.std.proofs.Common.{arith, refl, sym, ap, ◌∙◌, ◌∷◌, ◌-�
 use Rattle.std.proofs.lemmas.Result.{err_from_is_err_and}
 use Rattle.tpm_types_command.specs.AuthArea.{entries_text}
 use Rattle.tpm_types_command.specs.AuthEntry.{auth_entry_text}
-use Rattle.tpm_text.specs.Draft.{drafted, grown}
+use Rattle.tpm_text.specs.Draft.{drafted_bytes, grown_draft}
 use Rattle.tpm_text.specs.Entry.{entry_in}
 use Rattle.tpm_text.specs.Pieces.{token_of}
 use Rattle.tpm_text.specs.Tokens.{tokens_left}
@@ -30,4 +30,4 @@ returns t c =
     let written = drafts_ok _ _ _ _ (column_ok c.in-Some.token.column c.put_entry.result _ told) c.put_entry.ensures in
     let read = entry_read (entry_in c.in-Some.token.text.now) written.0 written.1 in
     rw (entry_first c.args.most (c.args.most - 1) (tokens_left c.args.tokens.now) (tokens_left c.next_entry.new.self) (token_of c.in-Some.token) read.0 (omega (arith, c.if-most-eq0.false)) c.in-Some.ensures.0 c.in-Some.ensures.1 read.1)
-    (laid_behind entries_text (auth_entry_text read.0) (λ entries. read.0 ∷ entries) (λ entries. refl) _ (drafted c.args.draft.now) (drafted c.put_entry.new.draft) _ _ _ (written.2 ∙ ap (grown (drafted c.args.draft.now)) read.2) c.put_entries.ensures)
+    (laid_behind entries_text (auth_entry_text read.0) (λ entries. read.0 ∷ entries) (λ entries. refl) _ (drafted_bytes c.args.draft.now) (drafted_bytes c.put_entry.new.draft) _ _ _ (written.2 ∙ ap (grown_draft (drafted_bytes c.args.draft.now)) read.2) c.put_entries.ensures)

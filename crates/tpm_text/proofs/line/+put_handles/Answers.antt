@@ -1,7 +1,7 @@
 use Rattle.std.proofs.Common.{rules, arith, refl, sym, ap, ◌∙◌, ◌∷◌, ◌-◌}
 use Rattle.std.proofs.lemmas.Result.{err_from_is_err_and}
 use Rattle.tpm_types_command.specs.Command.{handle_text, handles_text}
-use Rattle.tpm_text.specs.Draft.{drafted}
+use Rattle.tpm_text.specs.Draft.{drafted_bytes}
 use Rattle.tpm_text.specs.Fault.{at_column}
 use Rattle.tpm_text.specs.Pieces.{token_of}
 use Rattle.tpm_text.specs.Tokens.{tokens_left}
@@ -26,4 +26,4 @@ pub returns : goal.returns
 returns t c =
     let read = ap (at_column c.in_ok-token.token.column) (gives_is _ c.handle_in.result c.handle_in.ensures) ∙ sym c.told.ensures ∙ c.in_ok-handle.was in
     rw (handle_first c.args.count (c.args.count - 1) (tokens_left c.args.tokens.now) (tokens_left c.wanted.new.self) (token_of c.in_ok-token.token) c.in_ok-handle.handle (omega (arith, c.if-count-eq0.false)) c.in_ok-token.ensures read)
-    (laid_behind handles_text (handle_text c.in_ok-handle.handle) (λ handles. c.in_ok-handle.handle ∷ handles) (handle_before c.in_ok-handle.handle) _ (drafted c.args.draft.now) (drafted c.put.new.self) _ _ _ (search rules) c.put_handles.ensures)
+    (laid_behind handles_text (handle_text c.in_ok-handle.handle) (λ handles. c.in_ok-handle.handle ∷ handles) (handle_before c.in_ok-handle.handle) _ (drafted_bytes c.args.draft.now) (drafted_bytes c.put.new.self) _ _ _ (search rules) c.put_handles.ensures)

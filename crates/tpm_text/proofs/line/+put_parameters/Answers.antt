@@ -1,6 +1,6 @@
 use Rattle.std.proofs.Common.{rules, refl, sym, ◌∙◌, ◌++◌}
 use Rattle.std.proofs.lemmas.Result.{err_from_is_err_and}
-use Rattle.tpm_text.specs.Draft.{drafted}
+use Rattle.tpm_text.specs.Draft.{drafted_bytes}
 use Rattle.tpm_text.specs.Pieces.{token_of}
 use Rattle.tpm_text.specs.Tokens.{tokens_left}
 use Rattle.tpm_text.proofs.Growing.{drafts_err, drafts_ok}
@@ -25,4 +25,4 @@ pub returns : goal.returns
 returns t c =
     let written = drafts_ok _ _ _ _ (column_ok c.in_ok-token.token.column c.put_parameter.result _ (sym c.told.ensures ∙ c.in_ok-told.was)) c.put_parameter.ensures in
     rw (parameter_first c.args.kinds.now c.in-Some.others.now c.in-Some.kind.now (tokens_left c.args.tokens.now) (tokens_left c.wanted.new.self) (token_of c.in_ok-token.token) written.0 (search rules) c.in_ok-token.ensures written.1)
-    (laid_behind (λ text. text) written.0 (λ text. written.0 ++ text) (λ text. refl) _ (drafted c.args.draft.now) (drafted c.put_parameter.new.draft) _ _ _ written.2 c.put_parameters.ensures)
+    (laid_behind (λ text. text) written.0 (λ text. written.0 ++ text) (λ text. refl) _ (drafted_bytes c.args.draft.now) (drafted_bytes c.put_parameter.new.draft) _ _ _ written.2 c.put_parameters.ensures)

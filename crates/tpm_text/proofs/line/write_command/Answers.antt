@@ -2,8 +2,8 @@ use Rattle.std.proofs.Common.{arith, refl, sym, ap, ◌∙◌, length, subst}
 use Rattle.std.specs.Prelude.{IfSome, ◌≤◌}
 use Rattle.std.proofs.lemmas.Result.{err_from_is_err_and}
 use Rattle.tpm_types_command.specs.Command.{handles_text, sessions_text}
-use Rattle.tpm_text.specs.Draft.{drafted, grown}
-use Rattle.tpm_text.specs.Line.{ended, handles_in, name_in, parameters_in}
+use Rattle.tpm_text.specs.Draft.{drafted_bytes, grown_draft}
+use Rattle.tpm_text.specs.Line.{end_of_line, handles_in, name_in, parameters_in}
 use Rattle.tpm_text.specs.Tokens.{tokens_left}
 use Rattle.tpm_text.proofs.Assembling.{begun, command_finished, end_fault, entries_fault, handles_fault, drafts_read_err, drafts_read_ok, reads_tokens_err, reads_tokens_ok, name_fault, parameters_fault, sessions_err, sessions_ok, still_ten}
 use Rattle.tpm_text.proofs.Laid.{gives_is}
@@ -52,12 +52,12 @@ returns-in_err-check_end c =
     let s = sessions_ok _ _ _ c.put_authorization.result c.in_ok-tag.tag _ c.in_ok-tag.was c.put_authorization.ensures in
     let kinds = ap (λ f. parameters_in f.parameters (tokens_left c.put_authorization.new.tokens)) c.shape-shape.ensures.value in
     let q = drafts_read_ok (λ text. text) _ _ _ c.put_parameters.result _ c.in_ok-put_parameters.was c.put_parameters.ensures in
-    let e = gives_is (ended (tokens_left c.put_parameters.new.tokens)) c.check_end.result c.check_end.ensures ∙ c.in_err-check_end.was in
+    let e = gives_is (end_of_line (tokens_left c.put_parameters.new.tokens)) c.check_end.result c.check_end.ensures ∙ c.in_err-check_end.was in
     rw (p.1, p.2, end_fault c.args.line.now c.in_ok-code.code (tokens_left c.read_name.new.tokens) n h.0 (tokens_left c.put_handles.new.tokens) (ap (λ k. handles_in k (tokens_left c.read_name.new.tokens)) (sym count) ∙ h.1) s.0 (tokens_left c.put_authorization.new.tokens) s.1 q.0 (tokens_left c.put_parameters.new.tokens) (sym kinds ∙ q.1) c.in_err-check_end.field-0.0 e) refl
 
 pub finish-requires : goal.finish-requires
 finish-requires c =
-    let ten = begun (drafted c.begin.new.self) c.begin.ensures.some c.begin.ensures.ten in
+    let ten = begun (drafted_bytes c.begin.new.self) c.begin.ensures.some c.begin.ensures.ten in
     let h = drafts_read_ok handles_text _ _ _ c.put_handles.result _ c.in_ok-put_handles.was c.put_handles.ensures in
     let s = sessions_ok _ _ _ c.put_authorization.result c.in_ok-tag.tag _ c.in_ok-tag.was c.put_authorization.ensures in
     let q = drafts_read_ok (λ text. text) _ _ _ c.put_parameters.result _ c.in_ok-put_parameters.was c.put_parameters.ensures in
@@ -66,12 +66,12 @@ finish-requires c =
 
 pub returns : goal.returns
 returns c =
-    let ten = begun (drafted c.begin.new.self) c.begin.ensures.some c.begin.ensures.ten in
+    let ten = begun (drafted_bytes c.begin.new.self) c.begin.ensures.some c.begin.ensures.ten in
     let n = ap name_in (sym c.of-tokens.ensures) ∙ reads_tokens_ok (name_in (tokens_left c.of-tokens.result)) c.read_name.result c.in_ok-code.code (tokens_left c.read_name.new.tokens) c.in_ok-code.was c.read_name.ensures in
     let count = ap (λ f. length f.handles) c.shape-shape.ensures.value in
     let h = drafts_read_ok handles_text _ _ _ c.put_handles.result _ c.in_ok-put_handles.was c.put_handles.ensures in
     let s = sessions_ok _ _ _ c.put_authorization.result c.in_ok-tag.tag _ c.in_ok-tag.was c.put_authorization.ensures in
     let kinds = ap (λ f. parameters_in f.parameters (tokens_left c.put_authorization.new.tokens)) c.shape-shape.ensures.value in
     let q = drafts_read_ok (λ text. text) _ _ _ c.put_parameters.result _ c.in_ok-put_parameters.was c.put_parameters.ensures in
-    let e = gives_is (ended (tokens_left c.put_parameters.new.tokens)) c.check_end.result c.check_end.ensures ∙ c.in_ok-check_end.was in
-    command_finished c.args.line.now c.in_ok-code.code (tokens_left c.read_name.new.tokens) n h.0 (tokens_left c.put_handles.new.tokens) (ap (λ k. handles_in k (tokens_left c.read_name.new.tokens)) (sym count) ∙ h.1) s.0 (tokens_left c.put_authorization.new.tokens) s.1 q.0 (tokens_left c.put_parameters.new.tokens) (sym kinds ∙ q.1) e c.in_ok-tag.tag s.2 ten.0 ten.2 (drafted c.put_handles.new.draft) (drafted c.put_authorization.new.draft) (drafted c.put_parameters.new.draft) (drafted c.finish.new.self) c.finish.result (h.2 ∙ ap (λ d. grown d (handles_text h.0)) ten.1) s.3 q.2 c.finish.ensures
+    let e = gives_is (end_of_line (tokens_left c.put_parameters.new.tokens)) c.check_end.result c.check_end.ensures ∙ c.in_ok-check_end.was in
+    command_finished c.args.line.now c.in_ok-code.code (tokens_left c.read_name.new.tokens) n h.0 (tokens_left c.put_handles.new.tokens) (ap (λ k. handles_in k (tokens_left c.read_name.new.tokens)) (sym count) ∙ h.1) s.0 (tokens_left c.put_authorization.new.tokens) s.1 q.0 (tokens_left c.put_parameters.new.tokens) (sym kinds ∙ q.1) e c.in_ok-tag.tag s.2 ten.0 ten.2 (drafted_bytes c.put_handles.new.draft) (drafted_bytes c.put_authorization.new.draft) (drafted_bytes c.put_parameters.new.draft) (drafted_bytes c.finish.new.self) c.finish.result (h.2 ∙ ap (λ d. grown_draft d (handles_text h.0)) ten.1) s.3 q.2 c.finish.ensures

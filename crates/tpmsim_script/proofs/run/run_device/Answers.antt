@@ -4,7 +4,7 @@ use Rattle.tpm_bytes.specs.Tap.{device_of, marks_of}
 use Rattle.tpm_machine.specs.State.{state_of}
 use Rattle.tpm_record.specs.Record.{Record}
 use Rattle.tpmsim_script.specs.Answers.{CutOff, backlog, printout}
-use Rattle.tpmsim_script.specs.Keeping.{kept}
+use Rattle.tpmsim_script.specs.Keeping.{kept_playing}
 use Rattle.tpmsim_script.specs.Lines.{rest_of, text_left}
 use Rattle.tpmsim_script.specs.Player.{playing_of}
 use Rattle.tpmsim_script.specs.Script.{Playing, at_first}
@@ -60,11 +60,11 @@ returns-in_default-clause-kept g c = λ cannot.
     let mid = printout (contents (device_of last.writer)) last.self.player.answers in
     let new = contents (device_of flushed.writer) in
     let first = at_first c.args.trace (state_of record_of c.args.machine) in
-    let at = kept (playing_of record_of last.self.player) last.saver in
+    let at = kept_playing (playing_of record_of last.self.player) last.saver in
     let played = begun_at saves saves_change (text_left text run.lines) text left (printout old run.player.answers) old mid (marks_of last.writer) (playing_of record_of run.player) first c.args.saver.now c.lines-outcome.result (λ end. end ≡ at)
     (nothing_before text (rest_of run.lines) c.in_ok-run.ensures.lines) (nothing_behind old (backlog run.player.answers) c.in_ok-run.ensures.answers) c.in_ok-run.ensures.playing (c.lines-outcome.ensures.kept cannot) in
     let written : printout new flushed.self.answers ≡ new = nothing_behind new (backlog flushed.self.answers) c.flush-flushed.ensures.empty in
-    ran_unsaved saves saves_change text left old mid new (marks_of last.reader) (marks_of last.writer) (marks_of flushed.writer) (g.S.Saver.has_failed last.saver) (kept first c.args.saver.now) at c.lines-outcome.result c.flush-flushed.result
+    ran_unsaved saves saves_change text left old mid new (marks_of last.reader) (marks_of last.writer) (marks_of flushed.writer) (g.S.Saver.has_failed last.saver) (kept_playing first c.args.saver.now) at c.lines-outcome.result c.flush-flushed.result
     (λ end. saves end.saver end.playing.device c.save.new.self) played c.lines-outcome.ensures.failed c.lines-outcome.ensures.memory
     (subst (λ x. OnOk c.flush-flushed.result (Keeps mid x)) written c.flush-flushed.ensures.printed) c.flush-flushed.ensures.unmarked c.flush-flushed.ensures.failed
 
@@ -84,11 +84,11 @@ returns-then-is_unsaved-clause-kept g c = λ cannot.
     let mid = printout (contents (device_of last.writer)) last.self.player.answers in
     let new = contents (device_of flushed.writer) in
     let first = at_first c.args.trace (state_of record_of c.args.machine) in
-    let at = kept (playing_of record_of last.self.player) last.saver in
+    let at = kept_playing (playing_of record_of last.self.player) last.saver in
     let played = begun_at saves saves_change (text_left text run.lines) text left (printout old run.player.answers) old mid (marks_of last.writer) (playing_of record_of run.player) first c.args.saver.now c.lines-outcome.result (λ end. end ≡ at)
     (nothing_before text (rest_of run.lines) c.in_ok-run.ensures.lines) (nothing_behind old (backlog run.player.answers) c.in_ok-run.ensures.answers) c.in_ok-run.ensures.playing (c.lines-outcome.ensures.kept cannot) in
     let written : printout new flushed.self.answers ≡ new = nothing_behind new (backlog flushed.self.answers) c.flush-flushed.ensures.empty in
-    ran_unsaved saves saves_change text left old mid new (marks_of last.reader) (marks_of last.writer) (marks_of flushed.writer) (g.S.Saver.has_failed last.saver) (kept first c.args.saver.now) at c.lines-outcome.result c.flush-flushed.result
+    ran_unsaved saves saves_change text left old mid new (marks_of last.reader) (marks_of last.writer) (marks_of flushed.writer) (g.S.Saver.has_failed last.saver) (kept_playing first c.args.saver.now) at c.lines-outcome.result c.flush-flushed.result
     (λ end. saves end.saver end.playing.device c.save.new.self) played c.lines-outcome.ensures.failed c.lines-outcome.ensures.memory
     (subst (λ x. OnOk c.flush-flushed.result (Keeps mid x)) written c.flush-flushed.ensures.printed) c.flush-flushed.ensures.unmarked c.flush-flushed.ensures.failed
 
@@ -108,13 +108,13 @@ returns-in_err-flushed-clause-kept g c = λ cannot.
     let mid = printout (contents (device_of last.writer)) last.self.player.answers in
     let new = contents (device_of flushed.writer) in
     let first = at_first c.args.trace (state_of record_of c.args.machine) in
-    let at = kept (playing_of record_of last.self.player) last.saver in
+    let at = kept_playing (playing_of record_of last.self.player) last.saver in
     let played = begun_at saves saves_change (text_left text run.lines) text left (printout old run.player.answers) old mid (marks_of last.writer) (playing_of record_of run.player) first c.args.saver.now c.lines-outcome.result (λ end. end ≡ at)
     (nothing_before text (rest_of run.lines) c.in_ok-run.ensures.lines) (nothing_behind old (backlog run.player.answers) c.in_ok-run.ensures.answers) c.in_ok-run.ensures.playing (c.lines-outcome.ensures.kept cannot) in
     let written : printout new flushed.self.answers ≡ new = nothing_behind new (backlog flushed.self.answers) c.flush-flushed.ensures.empty in
     let device = ap (state_of record_of) c.machine.ensures ∙ ap (λ (p : Playing). p.device) c.flush-flushed.ensures.playing in
     let told = subst (λ (d : Record). saves last.saver d c.save.new.self) device c.in-Ok.ensures.told in
-    ran_unwritten saves saves_change text left old mid new (marks_of last.writer) (marks_of flushed.writer) (kept first c.args.saver.now) at c.lines-outcome.result c.from_residual-in_err-flushed.result
+    ran_unwritten saves saves_change text left old mid new (marks_of last.writer) (marks_of flushed.writer) (kept_playing first c.args.saver.now) at c.lines-outcome.result c.from_residual-in_err-flushed.result
     (λ end. saves end.saver end.playing.device c.save.new.self) (search rules) played (sym c.is_unsaved.ensures ∙ c.if-is_unsaved.false) c.lines-outcome.ensures.memory (subst (CutOff mid) written c.in_err-flushed.ensures.cut_off) told
 
 pub returns-clause-kept : goal.returns-clause-kept
@@ -133,11 +133,11 @@ returns-clause-kept g c = λ cannot.
     let mid = printout (contents (device_of last.writer)) last.self.player.answers in
     let new = contents (device_of flushed.writer) in
     let first = at_first c.args.trace (state_of record_of c.args.machine) in
-    let at = kept (playing_of record_of last.self.player) last.saver in
+    let at = kept_playing (playing_of record_of last.self.player) last.saver in
     let played = begun_at saves saves_change (text_left text run.lines) text left (printout old run.player.answers) old mid (marks_of last.writer) (playing_of record_of run.player) first c.args.saver.now c.lines-outcome.result (λ end. end ≡ at)
     (nothing_before text (rest_of run.lines) c.in_ok-run.ensures.lines) (nothing_behind old (backlog run.player.answers) c.in_ok-run.ensures.answers) c.in_ok-run.ensures.playing (c.lines-outcome.ensures.kept cannot) in
     let written : printout new flushed.self.answers ≡ new = nothing_behind new (backlog flushed.self.answers) c.flush-flushed.ensures.empty in
     let device = ap (state_of record_of) c.machine.ensures ∙ ap (λ (p : Playing). p.device) c.flush-flushed.ensures.playing in
     let told = subst (λ (d : Record). saves last.saver d c.save.new.self) device c.in-Ok.ensures.told in
-    ran_well saves saves_change text left old mid new (marks_of last.writer) (marks_of flushed.writer) (kept first c.args.saver.now) at c.lines-outcome.result
+    ran_well saves saves_change text left old mid new (marks_of last.writer) (marks_of flushed.writer) (kept_playing first c.args.saver.now) at c.lines-outcome.result
     (λ end. saves end.saver end.playing.device c.save.new.self) played (subst (Keeps mid) written c.in_ok-flushed.ensures.printed) c.in_ok-flushed.ensures.unmarked told

@@ -1,7 +1,7 @@
 use Rattle.std.proofs.Common.{◌≡◌, ◌∙◌, rules, ap, subst, map, List, [], ok_or}
 use Rattle.clap.specs.Words.{App, HasKind, Text, app_of, fault_of, is_simple, is_simple_and_free, kind_of, subcommand_of, subcommand_rows_of}
 use Rattle.tpm_bytes.specs.Reading.{Gives}
-use Rattle.tpmsim_arguments.specs.Invocation.{asked, asked_in}
+use Rattle.tpmsim_arguments.specs.Invocation.{asked_in, invocation_of}
 use Rattle.tpmsim_arguments.specs.CommandLine.{program}
 use Rattle.tpmsim_arguments.specs.declared.fault.ArgumentFault.TheVariants.{Usage}
 use Rattle.tpmsim_arguments.proofs.Answering.{program_is_free, program_is_simple, refused, taken, told}
@@ -16,7 +16,7 @@ returns-in-Ok g c =
     let entered = (c.in-Ok.ensures.matches (ap is_simple app_is ∙ program_is_simple)).1 in
     let found : subcommand_rows_of c.in-Ok.matches ≡ subcommand_of program words = entered ∙ ap (λ (app : App). subcommand_of app words) app_is in
     taken words c.of_matches.result right
-    (subst (λ found. Gives asked (ok_or (asked_in found) Usage) c.of_matches.result) found c.of_matches.ensures)
+    (subst (λ found. Gives invocation_of (ok_or (asked_in found) Usage) c.of_matches.result) found c.of_matches.ensures)
 
 pub returns-in-Err : goal.returns-in-Err
 returns-in-Err g c =

@@ -2,7 +2,7 @@ use Rattle.std.proofs.Common.{rules, ap, sym, subst, ◌∙◌}
 use Rattle.tpm_record.specs.Record.{Record}
 use Rattle.tpm_machine.specs.State.{state_of}
 use Rattle.tpm_step.specs.step.Step.{outcome_step}
-use Rattle.tpmsim_script.specs.Script.{Playing, playing}
+use Rattle.tpmsim_script.specs.Script.{Playing, script_playing}
 use Rattle.tpmsim_script.specs.Player.{playing_of}
 use Rattle.tpmsim_script.proofs.Doing.{executed, told_then, told_unwritten, untraced}
 use Rattle.tpmsim_script.proofs.player.Player.execute.Goals as goal
@@ -18,7 +18,7 @@ returns-clause-did g c = λ cannot.
     let is = rw c.command-event.ensures.event at (c.execute_into.ensures.executes.exactly cannot) in
     let traced = rw c.command-event.ensures.event at c.in_ok-trace.ensures.printed in
     executed (playing_of record_of before) c.args.buffer.now (outcome_step device c.execute_into.new.outcome) _ _ _ _ _ is traced (search rules) (search rules)
-    (ap (playing_of record_of) c.trace.ensures.kept ∙ ap (λ script. playing before.traced script device) c.command-event.ensures.time) (search rules)
+    (ap (playing_of record_of) c.trace.ensures.kept ∙ ap (λ script. script_playing before.traced script device) c.command-event.ensures.time) (search rules)
 
 pub returns-in_err-trace-clause-did : goal.returns-in_err-trace-clause-did
 returns-in_err-trace-clause-did g c = λ cannot.
@@ -27,7 +27,7 @@ returns-in_err-trace-clause-did g c = λ cannot.
     let device = state_of record_of c.execute_into.new.self in
     let is = rw c.command-event.ensures.event at (c.execute_into.ensures.executes.exactly cannot) in
     untraced (playing_of record_of before) c.args.buffer.now (outcome_step device c.execute_into.new.outcome) _ _ _ _ is (search rules)
-    (ap (playing_of record_of) c.trace.ensures.kept ∙ ap (λ script. playing before.traced script device) c.command-event.ensures.time) (search rules)
+    (ap (playing_of record_of) c.trace.ensures.kept ∙ ap (λ script. script_playing before.traced script device) c.command-event.ensures.time) (search rules)
 
 pub returns-in_err-trace-clause-told : goal.returns-in_err-trace-clause-told
 returns-in_err-trace-clause-told g c =

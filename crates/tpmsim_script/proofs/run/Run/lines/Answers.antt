@@ -3,7 +3,7 @@ use Rattle.std.specs.Prelude.{◌≡◌, Ok, Err, false}
 use Rattle.tpm_bytes.specs.Tap.{device_of, marks_of}
 use Rattle.tpmsim_script.specs.Answers.{printout}
 use Rattle.tpmsim_script.specs.Lines.{line_of, text_left}
-use Rattle.tpmsim_script.specs.Keeping.{kept}
+use Rattle.tpmsim_script.specs.Keeping.{kept_playing}
 use Rattle.tpmsim_script.specs.Player.{playing_of}
 use Rattle.tpmsim_script.proofs.Keeping.{ended, ended_at_limit, failed, stopped, told_there, went_on}
 use Rattle.tpmsim_script.proofs.Plays.{did_and_went_on, did_there, ended_many, ended_played, ended_read, ended_with_memory, failed_few, failed_read, failed_with_memory, ran_to_fault, ran_to_line, reached_on, stopped_few, stopped_read, stopped_with_memory}
@@ -119,7 +119,7 @@ loop-number-preserved g c =
           (rw c.in-Ok-true.field-0-test at c.in-Ok-true.ensures.found) c.in-Ok-true.ensures.printed (did cannot) rest);
       keeps = λ cannot. went_on g.S.Saver.saves g.S.Saver.saves_change _ (text_left (remaining (device_of loop.reader)) loop.self.lines) (text_left (remaining (device_of after.reader)) after.self.lines) _
           (printout (contents (device_of loop.writer)) loop.self.player.answers) (printout (contents (device_of after.writer)) after.self.player.answers) (printout (contents (device_of last.writer)) last.self.answers)
-          loop.number _ (kept (playing_of record_of loop.self.player) loop.saver) (playing_of record_of last.self) last.saver (line_of after.self.lines) _
+          loop.number _ (kept_playing (playing_of record_of loop.self.player) loop.saver) (playing_of record_of last.self) last.saver (line_of after.self.lines) _
           (loop.invariant.keeps cannot) (rw c.in-Ok-true.field-0-test at c.in-Ok-true.ensures.found) c.in-Ok-true.ensures.printed (did cannot)
           (told_there g.S.Saver.saves g.S.Saver.saves_change (line_of after.self.lines) c.line.result.now (playing_of record_of last.self).device loop.saver (Ok tt) last.saver c.line.ensures.line c.in_default.ensures.told);
       agrees = c.in-Ok-true.ensures.agrees;
@@ -133,7 +133,7 @@ returns-in-Err-clause-kept g c = λ cannot.
     let loop = c.loop-number in
     let after = c.next_line.new in
     failed g.S.Saver.saves g.S.Saver.saves_change _ (remaining (device_of after.reader)) (text_left (remaining (device_of loop.reader)) loop.self.lines) (text_left (remaining (device_of after.reader)) after.self.lines) _
-    (printout (contents (device_of loop.writer)) loop.self.player.answers) (printout (contents (device_of after.writer)) after.self.player.answers) (marks_of after.writer) loop.number _ (kept (playing_of record_of loop.self.player) loop.saver)
+    (printout (contents (device_of loop.writer)) loop.self.player.answers) (printout (contents (device_of after.writer)) after.self.player.answers) (marks_of after.writer) loop.number _ (kept_playing (playing_of record_of loop.self.player) loop.saver)
     (playing_of record_of after.self.player) c.in-Err.fault (line_of after.self.lines) (loop.invariant.keeps cannot) c.in-Err.ensures.found c.in-Err.ensures.printed c.in-Err.ensures.read c.in-Err.ensures.cut_off c.in-Err.ensures.played
 
 pub returns-clause-kept : goal.returns-clause-kept
@@ -144,7 +144,7 @@ returns-clause-kept g c = λ cannot.
     let loop = c.loop-number in
     let after = c.next_line-next.new in
     rw c.end_at_limit.ensures (ended_at_limit g.S.Saver.saves g.S.Saver.saves_change _ (remaining (device_of after.reader)) (text_left (remaining (device_of loop.reader)) loop.self.lines) (text_left (remaining (device_of after.reader)) after.self.lines) _
-    (printout (contents (device_of loop.writer)) loop.self.player.answers) (printout (contents (device_of after.writer)) after.self.player.answers) (marks_of after.writer) loop.number _ _ (kept (playing_of record_of loop.self.player) loop.saver)
+    (printout (contents (device_of loop.writer)) loop.self.player.answers) (printout (contents (device_of after.writer)) after.self.player.answers) (marks_of after.writer) loop.number _ _ (kept_playing (playing_of record_of loop.self.player) loop.saver)
     (playing_of record_of after.self.player) c.next_line-next.result (line_of after.self.lines) (omega arith) (loop.invariant.keeps cannot) c.next_line-next.ensures.found c.next_line-next.ensures.printed c.next_line-next.ensures.read c.next_line-next.ensures.cut_off c.next_line-next.ensures.played)
 
 pub returns-in-Err-line-clause-kept : goal.returns-in-Err-line-clause-kept
@@ -159,7 +159,7 @@ returns-in-Err-line-clause-kept g c = λ cannot.
     (Err c.in-Err-line.fault) (printout (contents (device_of last.writer)) last.self.answers) (playing_of record_of last.self) c.in-Ok-true.ensures.played c.line.ensures.line (c.in-Err-line.ensures.did cannot) in
     rw c.at.ensures (stopped g.S.Saver.saves g.S.Saver.saves_change _ _ (text_left (remaining (device_of loop.reader)) loop.self.lines) (text_left (remaining (device_of after.reader)) after.self.lines) _
     (printout (contents (device_of loop.writer)) loop.self.player.answers) (printout (contents (device_of after.writer)) after.self.player.answers) (printout (contents (device_of last.writer)) last.self.answers) (marks_of last.writer) loop.number _
-    (kept (playing_of record_of loop.self.player) loop.saver) (playing_of record_of last.self) last.saver (line_of after.self.lines) c.in-Err-line.fault (loop.invariant.keeps cannot)
+    (kept_playing (playing_of record_of loop.self.player) loop.saver) (playing_of record_of last.self) last.saver (line_of after.self.lines) c.in-Err-line.fault (loop.invariant.keeps cannot)
     (rw c.in-Ok-true.field-0-test at c.in-Ok-true.ensures.found) c.in-Ok-true.ensures.printed did
     (told_there g.S.Saver.saves g.S.Saver.saves_change (line_of after.self.lines) c.line.result.now (playing_of record_of last.self).device loop.saver (Err c.in-Err-line.fault) last.saver c.line.ensures.line c.in-Err-line.ensures.told))
 
@@ -171,5 +171,5 @@ returns-in-Ok-false-clause-kept g c = λ cannot.
     let loop = c.loop-number in
     let after = c.next_line.new in
     ended g.S.Saver.saves g.S.Saver.saves_change _ (remaining (device_of after.reader)) (text_left (remaining (device_of loop.reader)) loop.self.lines) _
-    (printout (contents (device_of loop.writer)) loop.self.player.answers) (printout (contents (device_of after.writer)) after.self.player.answers) loop.number _ (kept (playing_of record_of loop.self.player) loop.saver)
+    (printout (contents (device_of loop.writer)) loop.self.player.answers) (printout (contents (device_of after.writer)) after.self.player.answers) loop.number _ (kept_playing (playing_of record_of loop.self.player) loop.saver)
     (playing_of record_of after.self.player) (loop.invariant.keeps cannot) (rw c.in-Ok-false.field-0-test at c.in-Ok-false.ensures.found) c.in-Ok-false.ensures.printed c.in-Ok-false.ensures.played

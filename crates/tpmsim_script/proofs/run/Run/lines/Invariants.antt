@@ -5,7 +5,7 @@ use Rattle.tpmsim_script.specs.Lines.{Agrees, text_left}
 use Rattle.tpmsim_script.specs.Player.{playing_of}
 use Rattle.tpmsim_script.specs.Script.{Plays}
 use Rattle.tpmsim_script.proofs.Plays.{Leads}
-use Rattle.tpmsim_script.specs.Keeping.{kept}
+use Rattle.tpmsim_script.specs.Keeping.{kept_playing}
 use Rattle.tpmsim_script.proofs.Keeping.{SoFar}
 use Rattle.tpmsim_script.proofs.run.Run.lines.Given as goal
 
@@ -26,6 +26,6 @@ invariant-loop-number g l =
       keeps : g.K.Keep.can_refuse ≡ false
           → SoFar g.S.Saver.saves g.S.Saver.saves_change (text_left (remaining (device_of l.fn.reader)) l.fn.self.lines) (text_left (remaining (device_of l.reader)) l.self.lines)
           (printout (contents (device_of l.fn.writer)) l.fn.self.player.answers) (printout (contents (device_of l.writer)) l.self.player.answers) l.number
-          (kept (playing_of record_of l.fn.self.player) l.fn.saver) (kept (playing_of record_of l.self.player) l.saver);
+          (kept_playing (playing_of record_of l.fn.self.player) l.fn.saver) (kept_playing (playing_of record_of l.self.player) l.saver);
       agrees : Agrees (remaining (device_of l.reader)) l.self.lines;
     }
