@@ -3,16 +3,17 @@ read the state of the device, which must not have changed.
 """
 
 import copy
-from collections.abc import Callable, Iterable, Iterator, Sequence
+from collections.abc import Callable, Iterable, Iterator
 
 from tpmsim.model import capability
 from tpmsim.model.machine import Model
 from tpmsim.model.nv_commands import Index
-from tpmsim.standard import CC, command, frames, handle_kinds, HMAC_SESSION, number, NV, on_handles
-from tpmsim.standard import PERSISTENT, RH_OWNER, SHA1, SHA256, TRANSIENT
+from tpmsim.standard import CC, command, frames, handle_kinds, HandleKind, HMAC_SESSION, number, NV
+from tpmsim.standard import on_handles, PERSISTENT, RH_OWNER, SHA1, SHA256, TRANSIENT
 from tpmsim.standard.nv import Attribute
-from tests.common.examples import CHAPTERS, Example
+from tests.common.examples import Example, examples, ScriptScene
 from tests.common.script import Script, SUCCESS, told_head
+from tests.common.script_caller import ScriptCaller
 
 # A description, an outcome, and the buffers that must have this outcome.
 Row = tuple[str, str, list[bytes]]
@@ -22,13 +23,8 @@ AS_BYTES = (
     "that look are in words."
 )
 
-# For each first byte of handles that can be listed, the name of this type of handle.
-LISTED = {
-    NV: "NV indices",
-    HMAC_SESSION: "sessions",
-    TRANSIENT: "transient objects",
-    PERSISTENT: "persistent objects",
-}
+# The first bytes of the handles that can be listed.
+LISTED = NV, HMAC_SESSION, TRANSIENT, PERSISTENT
 
 # The PCRs that the commands change.
 PCRS = (10, 16)
@@ -45,13 +41,22 @@ def at_pcrs() -> bytes:
     return command(CC.PCR_Read, frames.selection((SHA1, PCRS), (SHA256, PCRS)))
 
 
+def kind_changed(code: CC) -> int:
+    """Returns the first byte of the handles that a command may add or remove."""
+    if code.name.startswith("NV_"):
+        return NV
+    if code in (CC.EvictControl, CC.Clear):
+        return PERSISTENT
+    is_on_object = any(it.kind == HandleKind.OBJECT for it in code.handles + code.answered_handles)
+    return TRANSIENT if is_on_object else HMAC_SESSION
+
+
 def at_handles(kind: int) -> bytes:
     return capabilities(capability.HANDLES, kind << 24)
 
 
 def at_index(index: Index, owner_auth: bytes) -> Iterator[bytes]:
-    """Yields commands that read an index's public area, and also its data if the owner can read it.
-    """
+    """Yields commands that read an index's public area, and also its data if the owner can read it."""
     public = index.public
     yield command(CC.NV_ReadPublic, number(public.index, 4))
     is_open = public.has(Attribute.WRITTEN) and not public.has(Attribute.READLOCKED)
@@ -90,13 +95,14 @@ class LookingScript(Script):
             name.replace(".", "/") + ".tpm",
             f"{told_head(told)} After each refusal, or a row of equal ones, TPM2_PCR_Read of PCRs "
             "10 and 16, which answers the update counter too, and TPM2_GetCapability of the "
-            "chapter's handles show that nothing changed. After the last one of a command all "
+            "handles of one kind show that nothing changed. After the last one of a command all "
             "that look do so: at the handles of each kind, at the failed tries, at the clock, at "
             "the digest of a policy session, and at the NV indices.",
             is_made=True,
         )
         self.write_comment(AS_BYTES)
-        self.kind, self.seen, self.probe = HMAC_SESSION, dict[bytes, bytes](), self.device
+        self.scene = ScriptScene(ScriptCaller(self), object_auth=b"abc")
+        self.seen, self.probe = dict[bytes, bytes](), self.device
 
     def look(self, what: str, looks: Iterable[bytes]) -> None:
         """Sends commands that read the state. Their responses must be the same as after the last
@@ -122,30 +128,31 @@ class LookingScript(Script):
             self.probe = copy.deepcopy(self.device)
         return refused or SUCCESS
 
-    def refuses_each(self, refused_of: Callable[[Example], Iterable[Row]]) -> None:
-        """Plays the examples of all chapters. Before each example, sends the rows of buffers that
-        `refused_of` makes from this example. All these buffers must be refused.
+    def refuses_each(self, refused_of: Callable[[str, bytes], Iterable[Row]]) -> None:
+        """Sends each example after a power cycle. Before each example, sends the rows of buffers
+        that `refused_of` makes from its outcome and its buffer. All these buffers must be refused.
         """
-        for at, chapter in enumerate(CHAPTERS):
-            self.kind = chapter.kind
-            self.chapter(f"{chapter.name}: TPM2_GetCapability lists {LISTED[chapter.kind]}.")
-            if at:
-                self.power()
-            for example in chapter.examples:
-                self.seen, self.probe = {}, copy.deepcopy(self.device)
-                self.refuses(example, list(refused_of(example)))
+        self.startup()
+        self.scene.define_indices()
+        for example in examples():
+            self.power()
+            self.startup()
+            self.refuses(example, refused_of)
 
-    def refuses(self, example: Example, rows: Sequence[Row]) -> None:
-        """Sends rows of buffers that must be refused, and then the unaltered command."""
-        if not rows:
-            self.command(f"{example.name}: {example.outcome}", example.whole, as_bytes=True)
-            return
+    def refuses(self, example: Example, refused_of: Callable[[str, bytes], Iterable[Row]]) -> None:
+        """Sends the rows of buffers that must be refused, and then the unaltered command."""
+        prepared = example.make(self.scene)
+        whole, kind = prepared.buffer(), kind_changed(prepared.code)
+        self.seen, self.probe = {}, copy.deepcopy(self.device)
         self.lines.append("")
-        self.look_at_all(f"{example.name}. What is seen before it")
-        for what, outcome, buffers in rows:
+        what = f"TPM2_{prepared.code.name}. {example.name}. What is seen before it"
+        self.look_at_all(what)
+        for what, outcome, buffers in refused_of(example.outcome, whole):
             self.command(f"{what}: {outcome}", *buffers, as_bytes=True)
-            self.look("As before", [at_pcrs(), at_handles(self.kind)])
+            self.look("As before", [at_pcrs(), at_handles(kind)])
         self.look_at_all("All as before")
-        self.command(f"Whole: {example.outcome}", example.whole, as_bytes=True)
-        if example.outcome != SUCCESS:
+        response = self.command(f"Whole: {example.outcome}", whole, as_bytes=True)
+        if example.outcome == SUCCESS:
+            self.scene.tpm.received(prepared, response)
+        else:
             self.look_at_all("All as before")
