@@ -4,45 +4,26 @@ fault.
 """
 
 from tpmsim.standard import handle_kinds
-from tests.common.order import ABSENT_SESSION, OrderTeller
-from tests.common.vocabulary import area, bits, BY_OWNER, BY_POLICY, BY_VALUE, CC, command, counter
+from tests.common.order import OrderTeller
+from tests.common.vocabulary import area, bits, BY_OWNER, BY_POLICY, BY_VALUE, CC, counter
 from tests.common.vocabulary import DECRYPT, extended, frames, LOCKS, number, NvAttribute, others_in
-from tests.common.vocabulary import policy, RH_LOCKOUT, RH_OWNER, RH_PLATFORM, SHA1, sized, Use
+from tests.common.vocabulary import policy, RH_OWNER, RH_PLATFORM, SHA1, sized, Use
 
 ORDINARY, COUNTER, BITS, EXTENDED = range(0x0100_0001, 0x0100_0005)
 LOCKED_ORDINARY, LOCKED_COUNTER, READ_LOCKED, UNWRITTEN = range(0x0100_0011, 0x0100_0015)
 BY_OTHERS, PLATFORMS, CHANGED, NEW = range(0x0100_0021, 0x0100_0025)
-UNREAD, ABSENT = 0x0100_0031, 0x0100_0099
+UNREAD = 0x0100_0031
 VALUE = b"a"
 
 tpm = OrderTeller(__name__, __doc__, tries=True)
 
 
-def handles_in_order(code, handles):
-    """Sends commands with a handle that is truncated, is of the wrong kind, or names a missing
-    entity. Each command ends after that handle.
-    """
-    for place, handle in enumerate(handles, 1):
-        before = b"".join(number(it, 4) for it in handles[: place - 1])
-        is_of_kind = handle_kinds.IS_OF_KIND[code.handles[place - 1].kind]
-        for what, outcome, text in (
-            ("Half of it", f"INSUFFICIENT/h{place}", b"\1\0"),
-            ("Of another kind", f"VALUE/h{place}", number(RH_LOCKOUT, 4)),
-            ("One that is not there", f"HANDLE/h{place}", number(ABSENT, 4)),
-            ("One that is not there", "REFERENCE_H2", number(0x0300_000F, 4)),
-        ):
-            if what != "One that is not there" or is_of_kind(int.from_bytes(text, "big")):
-                words = f"Handle {place}. {what}, and no sessions: {outcome}"
-                tpm.raw(words, command(code, before + text))
-
-
 def general_refusals(code, handles, cut, uses):
     """Causes all refusals that precede those of the parameters. The parameters are always `cut`."""
-    handles_in_order(code, handles)
     is_first = handle_kinds.IS_OF_KIND[code.handles[0].kind]
     closed = BY_OTHERS if code.authorized and is_first(BY_OTHERS) else None
     both = "AUTH_FAIL/s1" if handle_kinds.is_index(handles[0]) else "BAD_AUTH/s1"
-    tpm.refuses_entries(code, handles, cut, uses, closed, both)
+    tpm.refuses_before_parameters(code, handles, cut, uses, closed, both)
 
 
 def changes(code, what, index, locked, parameters, faults=(), ranges=()):
@@ -111,8 +92,9 @@ def change_auth():
     tpm.chapter("TPM2_NV_ChangeAuth, with newAuth encrypted by another session.")
     told = tpm.policy("A policy session of SHA-1", algorithm=SHA1)
     hides, cut = Use(session, 1 | DECRYPT), sized(b"a" * 21)[:-1]
-    handles_in_order(CC.NV_ChangeAuth, [CHANGED])
-    tpm.refused("No sessions: AUTH_MISSING", tpm.prepare(CC.NV_ChangeAuth, [CHANGED], cut))
+    uses = Use(told, shows_empty_key=True), hides
+    tpm.refuses_handles(CC.NV_ChangeAuth, [CHANGED])
+    tpm.refuses_entries(CC.NV_ChangeAuth, [CHANGED], cut, uses)
 
     def prepared(parameters=cut, first=None, index=CHANGED):
         uses = first or Use(told, shows_empty_key=True), hides
@@ -121,9 +103,6 @@ def change_auth():
     def both_wrong(words, **choices):
         tpm.refused(words, others_in(prepared(**choices), 1, 2))
 
-    both = prepared()
-    absent = both.but(entries=[others_in(both, 1).entries[0], ABSENT_SESSION])
-    tpm.refused("The last session does not exist: REFERENCE_S1", absent)
     trial = Use(tpm.trial("A trial session"), shows_empty_key=True)
     case = "A trial session, on an index without a policy: ATTRIBUTES/s1"
     both_wrong(case, first=trial, index=ORDINARY)

@@ -7,8 +7,8 @@ from functools import partial
 
 from tests.common.order import OrderTeller
 from tests.common.steps import GENERATED, RESTRICTED_KEY
-from tests.common.vocabulary import ALG_NULL, CC, command, DECRYPT, frames, HERE, hmac_key, number
-from tests.common.vocabulary import ObjectAttribute, OPEN, RH_LOCKOUT, RH_OWNER, sealed, SHA1
+from tests.common.vocabulary import ALG_NULL, CC, DECRYPT, frames, HERE, hmac_key, number
+from tests.common.vocabulary import ObjectAttribute, OPEN, RH_OWNER, sealed, SHA1
 from tests.common.vocabulary import SHA256, sized, storage_key, Use
 
 tpm = OrderTeller(__name__, __doc__)
@@ -16,18 +16,7 @@ SECRET = b"secret"
 
 
 def general_refusals(code, handle, cut, uses):
-    """Causes all refusals that come before those of the parameters: refusals of the handle, the
-    authorization area, the entries and the HMACs.
-    """
-    other = RH_LOCKOUT if code == CC.CreatePrimary else RH_OWNER
-    for words, text in (
-        ("Half a handle, and no sessions (tag 8001): INSUFFICIENT/h1", b"\x80\0"),
-        ("A handle of another kind, and no sessions: VALUE/h1", number(other, 4)),
-        ("An object that does not exist, and no sessions: REFERENCE_H0", number(0x8000_0007, 4)),
-    ):
-        if code != CC.CreatePrimary or not words.startswith("An object"):
-            tpm.raw(words, command(code, text))
-    tpm.refuses_entries(code, [handle], cut, uses)
+    tpm.refuses_before_parameters(code, [handle], cut, uses)
 
 
 def in_order(code, handle, uses, *cases):
