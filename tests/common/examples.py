@@ -8,6 +8,7 @@ from functools import partial
 
 from tpmsim.caller import area, hmac_key, Prepared, Response, sealed, Session, Use
 from tpmsim.caller.examples import BITS, COUNTER, EXAMPLES, INDEX, LOCKABLE, Scene
+from tpmsim.device import ModelDevice
 from tpmsim.standard import CC, RH_OWNER, SE_TRIAL, SHA1, SHA256, start_auth_session
 from tpmsim.standard.objects import Public
 from tests.common.script import SUCCESS
@@ -34,6 +35,12 @@ class ScriptScene(Scene):
 
     def ciphering(self, **cipher: bool) -> Session:
         return self.tpm.start("A session with a cipher", **cipher)
+
+
+def parameters_of(code: CC) -> bytes:
+    """Returns the parameters of the example of a command."""
+    with ModelDevice() as device:
+        return EXAMPLES[code](Scene.on(device)).parameters
 
 
 @dataclass(frozen=True)
