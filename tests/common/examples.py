@@ -45,7 +45,7 @@ def parameters_of(code: CC) -> bytes:
 
 @dataclass(frozen=True)
 class Example:
-    """A command, its outcome, and a function that sends the commands that must precede it."""
+    """A command and its outcome. `make` first sends the commands that must precede it."""
 
     name: str
     make: Callable[[ScriptScene], Prepared]
@@ -77,16 +77,19 @@ def creating(code: CC, handle: int, public: Public, scene: ScriptScene) -> Prepa
     return scene.tpm.creation(code, handle, public, **more)
 
 
-def beside_storage(code: CC, scene: ScriptScene) -> Prepared:
+def next_to_storage(code: CC, scene: ScriptScene) -> Prepared:
     """The example of a command, on a device that has a storage key."""
     scene.storage()
     return EXAMPLES[code](scene)
 
 
 TWO_BANKS, A_BANK = [(SHA1, [0]), (SHA256, [1])], [(SHA256, range(24))]
+
+# Examples whose parameters or entries differ from those of the table. The script writes each name
+# after the name of the command.
 MORE = (
     Example("With a password", lambda it: it.tpm.random(4, b""), "HANDLE/s1"),
-    Example("By a wrong one", lambda it: it.tpm.secret(it.trial(), b"wrong"), "BAD_AUTH/s1"),
+    Example("By a wrong password", lambda it: it.tpm.secret(it.trial(), b"wrong"), "BAD_AUTH/s1"),
     Example('ownerAuth becomes "abc"', lambda it: it.tpm.change_auth(RH_OWNER, b"abc", b"")),
     Example("Of a bank", lambda it: it.tpm.command("PCR_Read", pcrSelectionIn=A_BANK)),
     Example("By two digests", extending),
@@ -102,8 +105,8 @@ MORE = (
     Example("Of TPM_RH_ENDORSEMENT", asserting_secret),
     Example("Of an HMAC key", partial(creating, CC.CreatePrimary, RH_OWNER, hmac_key())),
     Example("Of sealed data", lambda it: creating(CC.Create, it.storage(), sealed(), it)),
-    Example("Beside a storage key", partial(beside_storage, CC.Unseal)),
-    Example("Beside a storage key", partial(beside_storage, CC.HMAC)),
+    Example("Next to a storage key", partial(next_to_storage, CC.Unseal)),
+    Example("Next to a storage key", partial(next_to_storage, CC.HMAC)),
     Example("Before the first index", lambda it: it.tpm.defining(area(INDEX - 1), auth=b"a")),
     Example("With an offset", lambda it: it.tpm.writing(INDEX, b"ata", offset=1, by=RH_OWNER)),
     Example(
@@ -117,7 +120,7 @@ MORE = (
 
 
 def examples() -> Iterator[Example]:
-    """Yields all examples, in an order in which one device can execute them."""
+    """Yields these examples and those of the table. One device can execute them in this order."""
     yield from MORE
     for code, make in EXAMPLES.items():
         yield Example("The example", make)

@@ -12,8 +12,8 @@ script = LookingScript(__name__, __doc__)
 
 def rows(outcome, buffer):
     for what, refused, cut in cuts(buffer):
-        is_behind_area = outcome != SUCCESS and refused.startswith("INSUFFICIENT/p")
-        yield what, outcome if is_behind_area else refused, cut
+        is_after_area = outcome != SUCCESS and refused.startswith("INSUFFICIENT/p")
+        yield what, outcome if is_after_area else refused, cut
 
 
 script.refuses_each(rows)
