@@ -32,7 +32,7 @@ def kind_changed(code: CC) -> int:
     """Returns the first byte of the handles that a command may add or remove."""
     if code.name.startswith("NV_"):
         return NV
-    if code in (CC.EvictControl, CC.Clear):
+    if code in (CC.EvictControl, CC.Clear, CC.Startup):
         return PERSISTENT
     is_on_object = any(it.kind == HandleKind.OBJECT for it in code.handles + code.answered_handles)
     return TRANSIENT if is_on_object else HMAC_SESSION
@@ -65,15 +65,17 @@ class LookingScript(Script):
         for kind in kinds:
             yield self.tpm.capability(HANDLES, kind << 24, 64)
 
-    def at_all(self) -> Iterator[Prepared]:
-        """Yields all commands that read the state of the device."""
+    def at_all(self, kind: int) -> Iterator[Prepared]:
+        """Yields all commands that read the state of the device. They read the NV indices only if a
+        command that changes handles of this kind may change them.
+        """
         yield from self.at_some(NV, HMAC_SESSION, TRANSIENT, PERSISTENT)
         # The properties are the number of failed tries, maxTries, recoveryTime and lockoutRecovery.
         yield self.tpm.capability(PROPERTIES, LOCKOUT_COUNTER, 4)
         yield self.tpm.clock()
         for handle in filter(handle_kinds.is_policy, self.device.sessions):
             yield self.tpm.command("PolicyGetDigest", handle)
-        for index, held in self.device.indices.items():
+        for index, held in self.device.indices.items() if kind in (NV, PERSISTENT) else ():
             yield self.tpm.index_public(index)
             is_open = held.public.has(Attribute.WRITTEN) and held.public.has(Attribute.OWNERREAD)
             if is_open and not held.public.has(Attribute.READLOCKED):
@@ -115,16 +117,17 @@ class LookingScript(Script):
     def refuses(self, example: Example, rows: Rows) -> None:
         """Sends rows of buffers that must be refused, and then the unaltered command."""
         prepared = example.make(self.scene)
-        code, whole = prepared.code, prepared.buffer()
+        whole, kind = prepared.buffer(), kind_changed(prepared.code)
         self.seen, self.probe = {}, copy.deepcopy(self.device)
         self.lines.append("")
-        self.look(f"TPM2_{code.name}. {example.name}. What is seen before it", self.at_all())
+        name = f"TPM2_{prepared.code.name}. {example.name}"
+        self.look(f"{name}. What is seen before it", self.at_all(kind))
         for what, outcome, buffers in rows(example.outcome, whole):
             self.command(f"{what}: {outcome}", *buffers, as_bytes=True)
-            self.look("As before", self.at_some(kind_changed(code)))
-        self.look("All as before", self.at_all())
+            self.look("As before", self.at_some(kind))
+        self.look("All as before", self.at_all(kind))
         response = self.command(f"Whole: {example.outcome}", whole, as_bytes=True)
         if example.outcome == SUCCESS:
             self.tpm.received(prepared, response)
         else:
-            self.look("All as before", self.at_all())
+            self.look("All as before", self.at_all(kind))
