@@ -10,14 +10,15 @@ the changed description with the program finds it.
 
 import concurrent.futures
 import functools
-import pathlib
 import sys
 from collections.abc import Callable, Iterable, Iterator
 from dataclasses import dataclass, replace
 from unittest import mock
 
-from tpmsim.caller import HERE, sealed
-from tpmsim.model.capability import COMMANDS, HANDLES, PCRS, TOTAL_COMMANDS, command_attributes
+from tpmsim.caller import HERE, sealed, STATE
+from tpmsim.caller.examples import EXAMPLES, Scene
+from tpmsim.device import ChildDevice
+from tpmsim.model.capability import COMMANDS, TOTAL_COMMANDS, command_attributes
 from tpmsim.standard import CC, Fact, Fields, Handle, HandleKind, Kind, NUMBERED
 from tpmsim.standard import RH_LOCKOUT, RH_NULL, RH_OWNER, RH_PLATFORM, RS_PW, SHA256, frames
 from tpmsim.standard import handle_kinds, lines, number, Short
@@ -27,7 +28,6 @@ from tpmsim.standard.values import read_all
 from tests.common.expected import assembled, line_told
 from tests.common.shims import Ending, fail, ran
 
-TESTS = pathlib.Path(__file__).resolve().parent.parent
 AT_ONCE = 4
 
 # The entities of the tested device. The first index and the object have the policy digest of a
@@ -330,85 +330,55 @@ def nv_attributes(program: Program, codes: list[CC]) -> Iterator[Asked]:
             yield Asked(f"{code.name} is authorized by {it:08x}", wanted, is_able)
 
 
-# The events of tests/general/saved_state.tpm. In that script each command succeeds between
-# TPM2_Shutdown and TPM2_Startup.
-
-
-def saved_state(program: Program) -> list[tuple[CC, str, str]]:
-    """Returns the events of saved_state.tpm. Each has a command (None for a power cycle), the check
-    that refused it, and the response.
+@functools.cache
+def after_shutdown(program: Program, code: CC) -> tuple[bytes, bool]:
+    """Executes the example of a command after TPM2_Shutdown(STATE). Returns the response, and
+    whether TPM2_Startup(STATE) succeeds after the next power cycle.
     """
-    script = (TESTS / "general/saved_state.tpm").read_text("ascii").splitlines()
-    printed = iter(program.run(script, "--trace"))
-    events = []
-    for line in printed:
-        if line == "power":
-            events.append((None, "", ""))
-        else:
-            name, _, _, check, _ = line.split(" ")
-            code = CC[name] if name in CC.__members__ else None
-            events.append((code, check, next(printed)))
-    return events
+    with ChildDevice(program=program.path) as device:
+        scene, is_start = Scene.on(device), code == CC.Startup
+        start = scene.tpm.starting(STATE)
+        prepared = start if is_start else EXAMPLES[code](scene)
+        scene.tpm.send(scene.tpm.shutting_down(STATE))
+        if is_start:
+            device.power_cycle()
+        response = device.execute(prepared.buffer()).response
+        device.power_cycle()
+        return response, device.execute(start.buffer()).response == frames.success(b"")
 
 
 def keeping(program: Program, codes: list[CC]) -> Iterator[Asked]:
     """Checks that the description is right about which commands leave a saved state valid, so that
     the next TPM2_Startup can resume it.
     """
-    events = saved_state(program)
-    kept = {CC.Startup: is_kept_by(program, ["power", "do Startup 1"])}
-    kept[CC.Shutdown] = is_kept_by(program, ["do Shutdown 1"])
-    for first, then, power, start in zip(events, events[1:], events[2:], events[3:]):
-        is_one = first[0] == CC.Shutdown and power[0] is None and start[0] == CC.Startup
-        if is_one and then[0] is not None and then[0] not in kept:
-            kept[then[0]] = start[1] == "ok"
     for code in codes:
-        yield Asked(f"{code.name} keeps the state", code.has(Fact.KEEPS_SAVED), kept.get(code))
-
-
-def is_kept_by(program: Program, between: list[str]) -> bool:
-    printed = program.run(["do Startup 0", "do Shutdown 1", *between, "power", "do Startup 1"])
-    return printed[-1][12:20] == "00000000"
+        _, is_kept = after_shutdown(program, code)
+        yield Asked(f"{code.name} keeps the state", code.has(Fact.KEEPS_SAVED), is_kept)
 
 
 def answers(program: Program, codes: list[CC]) -> Iterator[Asked]:
     """Compares each response with its described fields, which must cover all its bytes."""
-    responses = {
-        code: bytes.fromhex(answer)
-        for code, check, answer in saved_state(program)
-        if code is not None and check == "ok"
-    }
     for code in codes:
-        yield Asked(f"{code.name}: its answer", "read", read_answer(code, responses.get(code)))
+        response, _ = after_shutdown(program, code)
+        yield Asked(f"{code.name}: its answer", "read", read_answer(code, response))
 
 
-def read_answer(code: CC, response: bytes | None) -> str:
-    if response is None:
-        return "not there"
+def read_answer(code: CC, response: bytes) -> str:
     fields = Fields(response)
-    tag, _, _ = fields.number(2), fields.number(4), fields.number(4)
+    tag, _, refusal = fields.number(2), fields.number(4), fields.number(4)
+    if refusal:
+        return f"{refusal:03X}"
     try:
         handles = [fields.number(4) for _ in code.answered_handles]
         text = fields.take(fields.number(4)) if tag == frames.SESSIONS else fields.data
-        read_all(code.answered_parameters, text)
-        if any(it.kind == Kind.CAPABILITY for it in code.answered_parameters):
-            read_capability(Fields(text))
+        values = read_all(code.answered_parameters, text)
+        if code == CC.GetCapability:
+            assert values["capabilityData"].properties
     except Short:
         return "cut"
     except ValueError:
         return "more"
     return "read" if all(map(takes, code.answered_handles, handles)) else "another handle"
-
-
-def read_capability(fields: Fields) -> None:
-    """Reads moreData, a capability and its list. Raises ValueError if bytes are left over."""
-    _, kind = fields.take(1), fields.number(4)
-    if kind == PCRS:
-        lines.WORDS[Kind.SELECTION].word(fields)
-    else:
-        fields.take(fields.number(4) * (4 if kind in (HANDLES, COMMANDS) else 8))
-    if fields.data:
-        raise ValueError
 
 
 CHECKS = {

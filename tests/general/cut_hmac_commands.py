@@ -13,12 +13,11 @@ from tests.common.steps import AFTER_AUTH_VALUE, PROTECTED, with_value
 from tests.common.vocabulary import area, bits, BY_POLICY, BY_VALUE, CC, extended, FIRST, FOURTH
 from tests.common.vocabulary import frames, hmac_key, NvAttribute, RH_LOCKOUT, RH_OWNER, SECOND
 from tests.common.vocabulary import SHA1, SHA256, sized, THIRD
-from tests.general.cuts import HEADER_BYTES, with_size
+from tests.general.changes import cuts, with_size
 from tests.sessions.grounds_caller import GroundsCaller
 
 PIN, DATA, LOCKOUT = b"pin", b"abc", b"lockout"
 DEMANDING = AFTER_AUTH_VALUE[SHA256]
-HANDLES_BYTES = 8
 NO_TRY, TRY = 0, 1
 
 tpm = GroundsCaller(__name__, __doc__)
@@ -120,16 +119,9 @@ tpm.chapter(
     "TPM2_NV_Write, cut before its parameters, with commandSize corrected, and anywhere, with "
     "commandSize as it was. No hmac is compared, so that is no try."
 )
-whole = prepared.buffer()
-handles, area_end = HEADER_BYTES + HANDLES_BYTES, len(whole) - len(prepared.parameters)
-for words, start, end, outcome in (
-    ("Within authHandle", HEADER_BYTES, HEADER_BYTES + 4, "INSUFFICIENT/h1"),
-    ("Within nvIndex", HEADER_BYTES + 4, handles, "INSUFFICIENT/h2"),
-    ("Within the authorization area", handles, area_end, "AUTHSIZE"),
-):
-    refused(words, outcome, NO_TRY, *(with_size(whole[:length]) for length in range(start, end)))
-as_it_was = (whole[:length] for length in range(len(whole)))
-refused("With the old commandSize", "COMMAND_SIZE", NO_TRY, *as_it_was)
+cut_to_old_size, *corrected = cuts(prepared.buffer())
+for what, outcome, buffers in (*corrected[:3], cut_to_old_size):
+    refused(what, outcome, NO_TRY, *buffers)
 comes_whole(prepared)
 
 # The entry is right for the truncated parameters. Therefore the command is refused only because

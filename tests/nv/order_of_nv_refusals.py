@@ -4,60 +4,43 @@ fault.
 """
 
 from tpmsim.standard import handle_kinds
-from tests.common.order import ABSENT_SESSION, OrderTeller
-from tests.common.vocabulary import area, bits, BY_OWNER, BY_POLICY, BY_VALUE, CC, command, counter
+from tests.common.order import OrderTeller
+from tests.common.vocabulary import area, bits, BY_OWNER, BY_POLICY, BY_VALUE, CC, counter
 from tests.common.vocabulary import DECRYPT, extended, frames, LOCKS, number, NvAttribute, others_in
-from tests.common.vocabulary import policy, RH_LOCKOUT, RH_OWNER, RH_PLATFORM, SHA1, sized, Use
+from tests.common.vocabulary import policy, RH_OWNER, RH_PLATFORM, SHA1, sized, Use
 
 ORDINARY, COUNTER, BITS, EXTENDED = range(0x0100_0001, 0x0100_0005)
 LOCKED_ORDINARY, LOCKED_COUNTER, READ_LOCKED, UNWRITTEN = range(0x0100_0011, 0x0100_0015)
 BY_OTHERS, PLATFORMS, CHANGED, NEW = range(0x0100_0021, 0x0100_0025)
-UNREAD, ABSENT = 0x0100_0031, 0x0100_0099
+UNREAD = 0x0100_0031
 VALUE = b"a"
 
 tpm = OrderTeller(__name__, __doc__, tries=True)
 
 
-def handles_in_order(code, handles):
-    """Sends commands with a handle that is truncated, is of the wrong kind, or names a missing
-    entity. Each command ends after that handle.
+def in_order(what, code, handles, cut, uses, *cases):
+    """Writes a chapter about a command: first the refusals that precede those of the parameters,
+    with the truncated parameters `cut`; then the cases, each with fewer faults.
     """
-    for place, handle in enumerate(handles, 1):
-        before = b"".join(number(it, 4) for it in handles[: place - 1])
-        is_of_kind = handle_kinds.IS_OF_KIND[code.handles[place - 1].kind]
-        for what, outcome, text in (
-            ("Half of it", f"INSUFFICIENT/h{place}", b"\1\0"),
-            ("Of another kind", f"VALUE/h{place}", number(RH_LOCKOUT, 4)),
-            ("One that is not there", f"HANDLE/h{place}", number(ABSENT, 4)),
-            ("One that is not there", "REFERENCE_H2", number(0x0300_000F, 4)),
-        ):
-            if what != "One that is not there" or is_of_kind(int.from_bytes(text, "big")):
-                words = f"Handle {place}. {what}, and no sessions: {outcome}"
-                tpm.raw(words, command(code, before + text))
-
-
-def general_refusals(code, handles, cut, uses):
-    """Causes all refusals that precede those of the parameters. The parameters are always `cut`."""
-    handles_in_order(code, handles)
+    tpm.chapter(f"TPM2_{code.name}{what}.")
     is_first = handle_kinds.IS_OF_KIND[code.handles[0].kind]
     closed = BY_OTHERS if code.authorized and is_first(BY_OTHERS) else None
     both = "AUTH_FAIL/s1" if handle_kinds.is_index(handles[0]) else "BAD_AUTH/s1"
-    tpm.refuses_entries(code, handles, cut, uses, closed, both)
+    tpm.refuses_before_parameters(code, handles, cut, uses, closed, both)
+    tpm.in_order(code, uses, *cases)
 
 
 def changes(code, what, index, locked, parameters, faults=(), ranges=()):
     """Tests one of the four commands that change an index. The index `locked` is locked, and is of
     a type that the command cannot change.
     """
-    tpm.chapter(f"TPM2_{code.name}{what}.")
-    uses = [VALUE, Use(session, 1 | DECRYPT) if code.takes_sized else Use(session)]
-    general_refusals(code, [index, index], parameters[:-1] or b"\0", uses)
     open_one = ORDINARY if index != ORDINARY else COUNTER
     out = ranges[-1][1] if ranges else parameters
     by_owner = [RH_OWNER, locked]
-    tpm.in_order(
-        code,
-        uses,
+    in_order(
+        what,
+        *(code, [index, index], parameters[:-1] or b"\0"),
+        [VALUE, Use(session, 1 | DECRYPT) if code.takes_sized else Use(session)],
         *((what, outcome, by_owner, text) for what, outcome, text in faults),
         ("A byte after the rest", "SIZE", by_owner, out + b"\0"),
         ("By the owner, who may not, of a locked index", "NV_AUTHORIZATION", by_owner, out),
@@ -70,9 +53,6 @@ def changes(code, what, index, locked, parameters, faults=(), ranges=()):
 
 
 def define_space():
-    tpm.chapter("TPM2_NV_DefineSpace, with auth encrypted.")
-    code, uses = CC.NV_DefineSpace, [b"", Use(session, 1 | DECRYPT)]
-    general_refusals(code, [RH_OWNER], sized(b"a")[:-1], uses)
     long_auth, none = sized(b"a" * 21), sized(b"")
     everything = area(ORDINARY, 0, 0xFFFF, algorithm=SHA1, auth_policy=b"p").text
 
@@ -82,9 +62,9 @@ def define_space():
     def defined(index=ORDINARY, attributes=BY_VALUE, size=2048):
         return sized(area(index, attributes, size, algorithm=SHA1).text)
 
-    tpm.in_order(
-        code,
-        uses,
+    in_order(
+        ", with auth encrypted",
+        *(CC.NV_DefineSpace, [RH_OWNER], sized(b"a")[:-1], [b"", Use(session, 1 | DECRYPT)]),
         case("auth is cut", "INSUFFICIENT/p1", b"", b"\0\1"),
         case("It has 33 bytes", "SIZE/p1", b"\0", sized(bytes(33))),
         case("publicInfo is cut", "INSUFFICIENT/p2", sized(everything)[:-1]),
@@ -111,8 +91,9 @@ def change_auth():
     tpm.chapter("TPM2_NV_ChangeAuth, with newAuth encrypted by another session.")
     told = tpm.policy("A policy session of SHA-1", algorithm=SHA1)
     hides, cut = Use(session, 1 | DECRYPT), sized(b"a" * 21)[:-1]
-    handles_in_order(CC.NV_ChangeAuth, [CHANGED])
-    tpm.refused("No sessions: AUTH_MISSING", tpm.prepare(CC.NV_ChangeAuth, [CHANGED], cut))
+    uses = Use(told, shows_empty_key=True), hides
+    tpm.refuses_handles(CC.NV_ChangeAuth, [CHANGED])
+    tpm.refuses_entries(CC.NV_ChangeAuth, [CHANGED], cut, uses)
 
     def prepared(parameters=cut, first=None, index=CHANGED):
         uses = first or Use(told, shows_empty_key=True), hides
@@ -121,9 +102,6 @@ def change_auth():
     def both_wrong(words, **choices):
         tpm.refused(words, others_in(prepared(**choices), 1, 2))
 
-    both = prepared()
-    absent = both.but(entries=[others_in(both, 1).entries[0], ABSENT_SESSION])
-    tpm.refused("The last session does not exist: REFERENCE_S1", absent)
     trial = Use(tpm.trial("A trial session"), shows_empty_key=True)
     case = "A trial session, on an index without a policy: ATTRIBUTES/s1"
     both_wrong(case, first=trial, index=ORDINARY)
@@ -173,19 +151,17 @@ def policy_in_order(told, both_wrong):
 
 
 def policy_nv():
-    tpm.chapter("TPM2_PolicyNV, with operandB encrypted.")
-    code, uses = CC.PolicyNV, [VALUE, Use(session, 1 | DECRYPT)]
     told = tpm.policy("A policy session")
     operand = sized(b"x")
-    general_refusals(code, [ORDINARY, ORDINARY, told.handle], operand[:-1], uses)
     far = frames.policy_nv(b"x", 9)
 
     def case(what, outcome, parameters, index=READ_LOCKED, by=RH_OWNER):
         return what, outcome, [by, index, told.handle], parameters
 
-    tpm.in_order(
-        code,
-        uses,
+    in_order(
+        ", with operandB encrypted",
+        *(CC.PolicyNV, [ORDINARY, ORDINARY, told.handle], operand[:-1]),
+        [VALUE, Use(session, 1 | DECRYPT)],
         case("operandB is cut", "INSUFFICIENT/p1", operand[:-1]),
         case("It has 33 bytes", "SIZE/p1", sized(bytes(33)) + b"\0"),
         case("offset is cut", "INSUFFICIENT/p2", operand + b"\0"),
@@ -231,19 +207,17 @@ session = tpm.start("A session with AES, that is bound to TPM_RH_OWNER", bind=RH
 
 define_space()
 
-tpm.chapter("TPM2_NV_UndefineSpace.")
-code, uses = CC.NV_UndefineSpace, [b"", Use(session)]
-general_refusals(code, [RH_OWNER, PLATFORMS], b"\0", uses)
-tpm.in_order(
-    code,
-    uses,
+in_order(
+    *("", CC.NV_UndefineSpace, [RH_OWNER, PLATFORMS], b"\0", [b"", Use(session)]),
     ("A byte after the area", "SIZE", [RH_OWNER, PLATFORMS], b"\0"),
     ("An index of the platform's", "NV_AUTHORIZATION", [RH_OWNER, PLATFORMS], b""),
     ("With nothing wrong", "SUCCESS", [RH_PLATFORM, PLATFORMS], b""),
 )
 
-tpm.chapter("TPM2_NV_ReadPublic, with a session that authorizes nothing.")
-general_refusals(CC.NV_ReadPublic, [ORDINARY], b"\0", [Use(session)])
+in_order(
+    ", with a session that authorizes nothing",
+    *(CC.NV_ReadPublic, [ORDINARY], b"\0", [Use(session)]),
+)
 wrong_size = tpm.index_public(ORDINARY, session).handles
 tpm("A byte after the handle: SIZE").prepare(CC.NV_ReadPublic, wrong_size, b"\0", session)
 tpm.is_now("With nothing wrong", ORDINARY, session)
@@ -262,13 +236,9 @@ changes(CC.NV_SetBits, "", BITS, LOCKED_ORDINARY, number(5, 8), faults)
 faults = [("data are cut", "INSUFFICIENT/p1", b"\0\3ab"), ("1,025 bytes", "SIZE/p1", LONG + b"\0")]
 changes(CC.NV_Extend, what, EXTENDED, LOCKED_COUNTER, sized(b"abc"), faults)
 
-tpm.chapter("TPM2_NV_Read.")
-code, uses = CC.NV_Read, [VALUE, Use(session)]
-general_refusals(code, [ORDINARY, ORDINARY], b"\0", uses)
 far = frames.nv_read(1025, 9)
-tpm.in_order(
-    code,
-    uses,
+in_order(
+    *("", CC.NV_Read, [ORDINARY, ORDINARY], b"\0", [VALUE, Use(session)]),
     ("size is cut", "INSUFFICIENT/p1", [RH_OWNER, READ_LOCKED], far[:1]),
     ("offset is cut", "INSUFFICIENT/p2", [RH_OWNER, READ_LOCKED], far[:3]),
     ("A byte after it", "SIZE", [RH_OWNER, READ_LOCKED], far + b"\0"),
@@ -282,12 +252,8 @@ tpm.in_order(
 )
 
 for code in (CC.NV_WriteLock, CC.NV_ReadLock):
-    tpm.chapter(f"TPM2_{code.name}.")
-    uses = [VALUE, Use(session)]
-    general_refusals(code, [ORDINARY, ORDINARY], b"\0", uses)
-    tpm.in_order(
-        code,
-        uses,
+    in_order(
+        *("", code, [ORDINARY, ORDINARY], b"\0", [VALUE, Use(session)]),
         ("A byte after the area", "SIZE", [RH_OWNER, ORDINARY], b"\0"),
         ("By the owner, who may not", "NV_AUTHORIZATION", [RH_OWNER, ORDINARY], b""),
         ("By another index", "NV_AUTHORIZATION", [COUNTER, ORDINARY], b""),

@@ -7,27 +7,12 @@ from functools import partial
 
 from tests.common.order import OrderTeller
 from tests.common.steps import GENERATED, RESTRICTED_KEY
-from tests.common.vocabulary import ALG_NULL, CC, command, DECRYPT, frames, HERE, hmac_key, number
-from tests.common.vocabulary import ObjectAttribute, OPEN, RH_LOCKOUT, RH_OWNER, sealed, SHA1
+from tests.common.vocabulary import ALG_NULL, CC, DECRYPT, frames, HERE, hmac_key, number
+from tests.common.vocabulary import ObjectAttribute, OPEN, RH_OWNER, sealed, SHA1
 from tests.common.vocabulary import SHA256, sized, storage_key, Use
 
 tpm = OrderTeller(__name__, __doc__)
 SECRET = b"secret"
-
-
-def general_refusals(code, handle, cut, uses):
-    """Causes all refusals that come before those of the parameters: refusals of the handle, the
-    authorization area, the entries and the HMACs.
-    """
-    other = RH_LOCKOUT if code == CC.CreatePrimary else RH_OWNER
-    for words, text in (
-        ("Half a handle, and no sessions (tag 8001): INSUFFICIENT/h1", b"\x80\0"),
-        ("A handle of another kind, and no sessions: VALUE/h1", number(other, 4)),
-        ("An object that does not exist, and no sessions: REFERENCE_H0", number(0x8000_0007, 4)),
-    ):
-        if code != CC.CreatePrimary or not words.startswith("An object"):
-            tpm.raw(words, command(code, text))
-    tpm.refuses_entries(code, [handle], cut, uses)
 
 
 def in_order(code, handle, uses, *cases):
@@ -66,7 +51,7 @@ def with_public(public, first=LONG):
 for code, on in ((CC.CreatePrimary, RH_OWNER), (CC.Create, parent)):
     tpm.chapter(f"TPM2_{code.name}, with inSensitive encrypted.")
     uses = [tpm.auth_value(on), DECRYPTS]
-    general_refusals(code, on, GOOD[:-1], uses)
+    tpm.refuses_before_parameters(code, [on], GOOD[:-1], uses)
     faults = sized(bytes(35)) + BANK
     of_creation = partial(in_order, code, on, uses)
     of_creation(
@@ -99,7 +84,7 @@ tpm("The object of the first is flushed").flush(0x8000_0004)
 tpm.chapter("TPM2_Load, with inPrivate encrypted.")
 uses = [b"parent", DECRYPTS]
 private, public = sized(made.private), sized(made.public.text)
-general_refusals(CC.Load, parent, private[:-1], uses)
+tpm.refuses_before_parameters(CC.Load, [parent], private[:-1], uses)
 of_loading = partial(in_order, CC.Load, parent, uses)
 of_loading(
     ("inPrivate is cut", "INSUFFICIENT/p1", private[:-1]),
@@ -121,12 +106,12 @@ again = tpm.load("With nothing wrong", parent, made, *uses)
 tpm.flush_objects("The object is flushed", again)
 
 tpm.chapter("TPM2_ReadPublic, with a session that authorizes nothing.")
-general_refusals(CC.ReadPublic, key, b"\0", [Use(session)])
+tpm.refuses_before_parameters(CC.ReadPublic, [key], b"\0", [Use(session)])
 tpm("A byte after the handle: SIZE").prepare(CC.ReadPublic, [key], b"\0", session)
 tpm.read_public("With nothing wrong", key, session)
 
 tpm.chapter("TPM2_Unseal.")
-general_refusals(CC.Unseal, key, b"\0", [b"k", Use(session)])
+tpm.refuses_before_parameters(CC.Unseal, [key], b"\0", [b"k", Use(session)])
 tpm("A byte after the area, of a key: SIZE").prepare(CC.Unseal, [key], b"\0", b"k", session)
 tpm("A storage key: TYPE/h1").prepare(CC.Unseal, [parent], b"", b"parent", session)
 tpm("An HMAC key: ATTRIBUTES/h1").prepare(CC.Unseal, [key], b"", b"k", session)
@@ -136,7 +121,7 @@ tpm.chapter("TPM2_HMAC, with the buffer encrypted.")
 uses = [b"k", DECRYPTS]
 data = sized(b"text")
 by_sha1 = data + number(SHA1, 2)
-general_refusals(CC.HMAC, key, data[:-1], uses)
+tpm.refuses_before_parameters(CC.HMAC, [key], data[:-1], uses)
 tpm.in_order(
     CC.HMAC,
     uses,

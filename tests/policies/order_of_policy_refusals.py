@@ -3,14 +3,12 @@ repaired one after the other. The response always reports the first remaining fa
 docs/table/order_of_refusals.md.
 """
 
-from tests.common.vocabulary import CC, CONTINUE_SESSION, DECRYPTS, ENCRYPTS, Entry, frames, number
-from tests.common.vocabulary import RH_LOCKOUT, RH_NULL, RH_OWNER, selection, SHA256, sized, Teller
+from tests.common.order import OrderTeller
+from tests.common.vocabulary import CC, CONTINUE_SESSION, DECRYPTS, ENCRYPTS, frames, number
+from tests.common.vocabulary import RH_LOCKOUT, RH_NULL, RH_OWNER, selection, SHA256, sized
 from tests.common.vocabulary import Use, wrong_in
 
-ABSENT_POLICY = 0x0300_000F
-ABSENT = Entry(0x0200_0009, b"", 0xFF, b"")
-
-tpm = Teller(__name__, __doc__, tries=True)
+tpm = OrderTeller(__name__, __doc__, tries=True)
 
 
 def refused(words, prepared, *wrong):
@@ -22,25 +20,7 @@ def up_to_hmacs(text):
     """Causes all refusals that precede those of the parameters, in a command with one handle.
     `text` contains the command's parameters.
     """
-
-    def using(*uses, handle=policy.handle):
-        return tpm.prepare(code, [handle], text, *uses)
-
-    case = "A handle of another kind, and an entry that is not there: VALUE/h1"
-    refused(case, wrong_in(using(hmac, handle=hmac.handle), 1).but(entries=[ABSENT]))
-    case = "A session that does not exist: REFERENCE_H0"
-    refused(case, using(hmac, handle=ABSENT_POLICY).but(entries=[ABSENT]))
-    case = "A fourth entry, and one that is not there: AUTHSIZE"
-    refused(case, using(hmac).but(entries=4 * [ABSENT]))
-    case = "A nonce of 33 bytes in the first entry, and the second is not there: SIZE/s1"
-    refused(case, using(hmac).but(entries=[Entry(hmac.handle, bytes(33), 0xFF, b""), ABSENT]))
-    refused("An entry that does not exist: REFERENCE_S0", using().but(entries=[ABSENT]))
-    refused("A password after a session with a wrong hmac: HANDLE/s2", using(hmac, b""), 1)
-    case = "Reserved attributes after it: RESERVED_BITS/s2"
-    refused(case, using(hmac, plain).but_entry(2, attributes=0x98), 1)
-    refused("audit after it: ATTRIBUTES/s2", using(hmac, plain).but_entry(2, attributes=0x81), 1)
-    refused("Both hmacs are wrong: BAD_AUTH/s1", using(hmac, policy), 1, 2)
-    refused("The second hmac is wrong: BAD_AUTH/s2", using(hmac, policy), 2)
+    tpm.refuses_before_parameters(code, [policy.handle], text, [hmac, policy])
 
 
 def symmetric(use):
@@ -160,18 +140,10 @@ def secret(text, *uses, of=RH_LOCKOUT, session=policy.handle):
 
 
 CUT = b"\0\x20"
-case = "TPM_RH_NULL, and a policy session that does not exist: VALUE/h1"
-refused(case, secret(CUT, of=RH_NULL, session=RH_NULL))
-case = "An object that does not exist, and that: REFERENCE_H0"
-refused(case, secret(CUT, of=0x8000_0000, session=RH_NULL))
-case = "An NV index that is not there, and that: HANDLE/h1"
-refused(case, secret(CUT, of=0x0100_0000, session=ABSENT_POLICY))
-refused("No policy session, no sessions: VALUE/h2", secret(CUT, session=hmac.handle))
-refused("One that is not there, and no sessions: REFERENCE_H1", secret(CUT, session=ABSENT_POLICY))
-refused("No sessions (tag 8001): AUTH_MISSING", secret(CUT))
-refused("An entry that does not exist: REFERENCE_S0", secret(CUT).but(entries=[ABSENT]))
-case = "After a policy session: REFERENCE_S1"
-refused(case, secret(CUT, policy).but(entries=[*secret(CUT, policy).entries, ABSENT]))
+both = [RH_LOCKOUT, policy.handle]
+tpm.refuses_handles(CC.PolicySecret, both)
+refused("TPM_RH_NULL: VALUE/h1", secret(CUT, of=RH_NULL))
+tpm.refuses_entries(CC.PolicySecret, both, CUT, [b"lockout", policy])
 refused("A second password after a wrong one: HANDLE/s2", secret(CUT, b"wrong", b"lockout"))
 case = "decrypt in a session that cannot, after a wrong password: SYMMETRIC/s2"
 refused(case, secret(CUT, b"wrong", plain.decrypting))

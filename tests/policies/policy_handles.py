@@ -2,26 +2,17 @@
 needs no authorization. In TPM2_PolicySecret it is the second handle.
 """
 
-from tpmsim.standard import area
+from tpmsim.standard import area, HandleKind
+from tests.common.examples import parameters_of
 from tests.common.vocabulary import CC, entry, frames, number, RH_ENDORSEMENT, RH_NULL, RH_OWNER
-from tests.common.vocabulary import RS_PW, SHA1, SHA256, Teller, wrong_in
+from tests.common.vocabulary import RS_PW, SHA1, Teller, wrong_in
 
 tpm = Teller(__name__, __doc__, starts=False)
 refused = tpm.raw
 
-COMMANDS = (
-    (CC.PolicyRestart, b""),
-    (CC.PolicyPCR, frames.sized(b"") + frames.selection((SHA256, [0]))),
-    (CC.PolicyOR, frames.sized_list(bytes(20), bytes(32))),
-    (CC.PolicyAuthValue, b""),
-    (CC.PolicyPassword, b""),
-    (CC.PolicyCommandCode, number(CC.Unseal, 4)),
-    (CC.PolicyLocality, b"\1"),
-    (CC.PolicyGetDigest, b""),
-)
-
-# Two more commands, which are tested last.
-LATER = ((CC.PolicyCpHash, frames.sized(bytes(32))), (CC.PolicyNvWritten, b"\1"))
+COMMANDS = [
+    (it, parameters_of(it)) for it in CC if [of.kind for of in it.handles] == [HandleKind.POLICY]
+]
 
 # PCR 0, an NV index, HMAC sessions, permanent entities, objects, and handles with undefined types.
 OTHERS = (
@@ -44,7 +35,7 @@ def by_password(handle, session=ABSENT[0]):
 
 
 NOTHING = frames.policy_secret()
-OF_NONE = [plain(code, ABSENT[0], text=text) for code, text in (*COMMANDS, *LATER)]
+OF_NONE = [plain(code, ABSENT[0], text=text) for code, text in COMMANDS]
 refused("Before TPM2_Startup: INITIALIZE", *OF_NONE, by_password(RH_ENDORSEMENT))
 tpm.startup()
 refused("While there is no session at all: REFERENCE_H0", *OF_NONE)
@@ -115,6 +106,3 @@ tpm("The session is flushed").flush(other)
 other = tpm.policy("A policy session takes its place", algorithm=SHA1)
 assert other.handle == 0x0300_0003
 tpm("The digest of the session").get_digest(other)
-
-for command in LATER:
-    handles_of(*command)

@@ -5,12 +5,13 @@ order of docs/table/order_of_refusals.md.
 
 from functools import partial
 
-from tests.common.vocabulary import CC, DECRYPTS, ENCRYPT, Entry, frames, number, RH_NULL, RH_OWNER
-from tests.common.vocabulary import sized, Teller, Use, wrong_in
+from tests.common.order import OrderTeller
+from tests.common.vocabulary import CC, DECRYPTS, ENCRYPT, frames, number, RH_NULL, RH_OWNER
+from tests.common.vocabulary import sized, Use, wrong_in
 
 NULLS = [RH_NULL, RH_NULL]
 
-tpm = Teller(__name__, __doc__)
+tpm = OrderTeller(__name__, __doc__)
 start = partial(tpm.prepare, CC.StartAuthSession)
 event = partial(tpm.prepare, CC.PCR_Event, [17])
 change = partial(tpm.prepare, CC.HierarchyChangeAuth, [RH_OWNER])
@@ -29,20 +30,8 @@ tpm.chapter(
     "and the hmacs of both are wrong."
 )
 uses = first.decrypting, second.encrypting
-cut, absent = sized(bytes(16))[:-1], Entry(0x0200_0005, b"", 0xFF, b"")
-for words, *handles in (
-    ("tpmKey is not TPM_RH_NULL, and bind is not there: VALUE/h1", RH_OWNER, 0x8000_0000),
-    ("An object that does not exist, as bind: REFERENCE_H1", RH_NULL, 0x8000_0000),
-    ("An NV index that is not there: HANDLE/h2", RH_NULL, 0x0100_0000),
-    ("A bind that is no entity: VALUE/h2", RH_NULL, 0x0200_0000),
-    ("A session that does not exist, as the first entry: REFERENCE_S0", *NULLS),
-):
-    tpm.refused(words, start(handles, cut, *uses).but(entries=[absent]))
-wrong = wrong_in(start(NULLS, cut, uses[0]), 1)
-said = tpm("As the second, whose fault comes before the first one's wrong hmac: REFERENCE_S1")
-said.refused(wrong.but(entries=[*wrong.entries, absent]))
-tpm.refused("Both hmacs are wrong: BAD_AUTH/s1", wrong_in(start(NULLS, cut, *uses), 1, 2))
-tpm.refused("The second hmac is wrong: BAD_AUTH/s2", wrong_in(start(NULLS, cut, *uses), 2))
+cut = sized(bytes(16))[:-1]
+tpm.refuses_before_parameters(CC.StartAuthSession, NULLS, cut, uses)
 no_type = sized(bytes(15)) + sized(b"\1") + b"\2" + frames.symmetric(False) + number(4, 2) + b"\0"
 hmac = sized(bytes(15)) + sized(b"\1") + b"\0" + frames.symmetric(False) + number(4, 2)
 for words, text in (
@@ -57,14 +46,11 @@ tpm.accepted("No fault is left", start(NULLS, frames.start_auth_session(bytes(16
 
 tpm.chapter("TPM2_PCR_Event into PCR 17 from locality 0, with two sessions and a cut parameter.")
 tpm.refused("PCR 24, and no sessions (tag 8001): VALUE/h1", tpm.prepare(CC.PCR_Event, [24], b""))
-tpm.refused("No sessions (tag 8001): AUTH_MISSING", event(b""))
+tpm.refuses_before_parameters(CC.PCR_Event, [17], b"\0", [first, second.decrypting])
 case = "encrypt, as the first answer is no sized buffer, in the second entry: ATTRIBUTES/s2"
 tpm.refused(case, wrong_in(event(b"\0", first, second.encrypting), 1, 2))
-case = "The first hmac of two that are wrong: BAD_AUTH/s1"
-tpm.refused(case, wrong_in(event(b"\0", first, second.decrypting), 1, 2))
 tpm.refused("A wrong password: BAD_AUTH/s1", wrong_in(event(b"\0", b"x", second.decrypting), 2))
-second_wrong = (wrong_in(event(b"\0", it, second.decrypting), 2) for it in (first, b""))
-tpm.refused("The second hmac: BAD_AUTH/s2", *second_wrong)
+tpm.refused("The second hmac: BAD_AUTH/s2", wrong_in(event(b"\0", b"", second.decrypting), 2))
 tpm.refused("The third hmac: BAD_AUTH/s3", wrong_in(event(b"\0", b"", first, second.decrypting), 3))
 for words, *texts in (
     ("The parameter that is cut: INSUFFICIENT/p1", b"\0", b"\xff\xff"),
