@@ -21,7 +21,7 @@ from tpmsim.model.sequences import EventSequence, HashSequence, HmacSequence, Se
 from tpmsim.standard import aes, frames, number, RH_LOCKOUT, RH_NULL, RH_OWNER, RH_PLATFORM, SHA1
 from tpmsim.standard import SHA256, sized
 from tests.common.layer import Client
-from tests.common.layer_commands import load, save, SECOND, start
+from tests.common.layer_commands import load, save, SECOND, start, THIRD
 
 # A device whose proofs consist of the byte PROOF_BYTE.
 PROOF_BYTE, START, RESETS, RESTARTS = 7, 0x1122334455667788, 3, 5
@@ -402,8 +402,9 @@ class OfLayer(unittest.TestCase):
     def test_reasons(self):
         """The layer says why it refuses to save or to load a sequence."""
         context = self.of_sequence()
-        self.client.code(save(SECOND))
-        self.assertEqual(self.client.device.did, f"object {SECOND:08x} is not there")
+        for it in (SECOND, THIRD, THIRD + 1, 0x8000_0000, 0x80FF_FFFF):
+            self.assertEqual(self.client.code(save(it)), REFERENCE_H0)
+            self.assertEqual(self.client.device.did, f"object {it:08x} is not there")
         for _ in range(3):
             self.client.code(load(context))
         self.assertEqual(self.client.device.did, "all 3 sequences are taken")

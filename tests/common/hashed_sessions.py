@@ -23,6 +23,18 @@ def name_of(public: bytes) -> bytes:
     return number(SHA256, 2) + hashlib.sha256(public).digest()
 
 
+def kdfa(name: str, key: bytes, label: bytes, newer: bytes, older: bytes, size: int) -> bytes:
+    """Computes KDFa for `size` bytes, with HMAC in the counter mode of SP 800-108. Each block is
+    the HMAC of its number, the label, 0, both nonces, and the number of bits.
+    """
+    made, block = b"", 0
+    while len(made) < size:
+        block += 1
+        text = number(block, 4) + label + b"\0" + newer + older + number(8 * size, 4)
+        made += hmac.digest(key, text, name)
+    return made[:size]
+
+
 class HashedSession:
     """An HMAC session. `send` sends a command, and returns the response. The session is bound to
     the entity `bind`, which has the authorization value `value`.
@@ -46,8 +58,7 @@ class HashedSession:
         self.handle, self.nonce_tpm = int.from_bytes(response[HEAD:14], "big"), response[16:]
         self.key = b""
         if bind != RH_NULL:
-            text = number(1, 4) + b"ATH\0" + self.nonce_tpm + newer + number(8 * self.size, 4)
-            self.key = hmac.digest(value, text, self.hash)
+            self.key = kdfa(self.hash, value, b"ATH", self.nonce_tpm, newer, self.size)
 
     def next_nonce(self) -> bytes:
         self.count += 1

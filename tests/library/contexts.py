@@ -201,6 +201,8 @@ def sessions(client: Client) -> None:
     client.flush(FIRST_SESSION)
     assert client.tpm.session().handle == FIRST_SESSION
     assert client.load_code(again) == "1cb"
+    for handle in range(FIRST_SESSION, FIRST_SESSION + SESSIONS):
+        assert client.loaded(client.saved(handle)) == handle
 
 
 def listed(client: Client) -> None:

@@ -219,6 +219,7 @@ def managed(client: Client) -> None:
         client.flush(handle)
     for turn, at in itertools.product(range(TURNS), range(MANAGED)):
         handle, part = client.loaded(kept[at]), LONG[turn + at :]
+        assert handle == FIRST, "one slot is enough"
         client.done(update(handle, part))
         data[at], kept[at] = data[at] + part, client.saved(handle)
         client.flush(handle)

@@ -10,6 +10,7 @@ device. The HMACs of all sessions are computed with hashlib and hmac alone.
 import copy
 import functools
 import hmac
+import itertools
 from typing import Any
 
 from tpmsim.caller import HERE, hmac_key, OPEN
@@ -66,8 +67,7 @@ class Sessions(Client):
 
     def protect(self, tries: int) -> None:
         """Sets maxTries."""
-        given = {"newMaxTries": tries, "newRecoveryTime": 1000, "lockoutRecovery": 1000}
-        self.tpm.call("DictionaryAttackParameters", RH_LOCKOUT, uses=[b""], **given)
+        self.tpm.send(self.tpm.attack_parameters(tries, 1000, 1000, b""))
 
 
 def hmac_of(data: bytes) -> bytes:
@@ -232,30 +232,22 @@ def wrong_hmacs(client: Sessions) -> None:
         ("a key with noDA, bound to the protected one", free, guarded, SECRET),
     ):
         session = client.session(bind=bind, value=value)
-        for how, given in (
-            ("another value", {"value": b"wrong"}),
-            ("no HMAC", {"own": b""}),
-            ("zeros", WRONG),
-            ("one byte", {"own": b"\0"}),
+        for how, buffer in (
+            ("another value", client.hmac_start(session, key, value=b"wrong")),
+            ("no HMAC", client.hmac_start(session, key, own=b"")),
+            ("zeros", client.hmac_start(session, key, **WRONG)),
+            ("one byte", client.hmac_start(session, key, own=b"\0")),
         ):
-            told = client.unchanged(client.hmac_start(session, key, **given))
-            print(f"{words}, {how}: {told}")
+            print(f"{words}, {how}: {client.unchanged(buffer)}")
         client.flush(session.handle)
     sequence = client.hash(client.session(), auth=PIN)
-    for command_of, words in (
-        (Guarded.update, "SequenceUpdate"),
-        (Guarded.complete, "SequenceComplete"),
-    ):
-        for bound, kind in (
-            (RH_NULL, "unbound"),
-            (free, "bound, noDA"),
-            (guarded, "bound, protected"),
-        ):
-            sequence.session = client.session(bind=bound, value=SECRET)
-            print(
-                f"{words}, {kind}: {client.unchanged(command_of(sequence, b'data', value=b'wrong'))}"
-            )
-            client.flush(sequence.session.handle)
+    kinds = (RH_NULL, "unbound"), (free, "bound, noDA"), (guarded, "bound, protected")
+    commands = (Guarded.update, "SequenceUpdate"), (Guarded.complete, "SequenceComplete")
+    for (command_of, words), (bound, kind) in itertools.product(commands, kinds):
+        sequence.session = client.session(bind=bound, value=SECRET)
+        told = client.unchanged(command_of(sequence, b"data", value=b"wrong"))
+        print(f"{words}, {kind}: {told}")
+        client.flush(sequence.session.handle)
     print("failed tries:", client.tries())
     sequence.session = client.session()
     found = sequence.completed(b"data")
