@@ -10,9 +10,8 @@ from tpmsim.caller import NONCE_BYTES, Prepared, Session
 from tpmsim.standard import AES, ALG_NULL, CONTINUE_SESSION, digest_bytes, RH_ENDORSEMENT
 from tpmsim.standard import RH_NULL, RH_OWNER, SE_HMAC, SHA1, SHA256, sized, XOR
 from tests.common.policy_teller import ENTITIES
-from tests.common.teller import flipped, Teller
-
-HASH_NAMES = {SHA1: "SHA-1", SHA256: "SHA-256"}
+from tests.common.teller import Teller
+from tests.common.vocabulary import flipped, NAMES
 
 
 @dataclass(frozen=True)
@@ -27,7 +26,7 @@ class SessionCase:
 
     @property
     def hash_name(self) -> str:
-        return HASH_NAMES[self.algorithm]
+        return NAMES[self.algorithm]
 
     @property
     def bound_to(self) -> str:
