@@ -43,33 +43,28 @@ class SessionCase:
         )
 
 
-def matrix(case: SessionCase = SessionCase(), **fields: Iterable[int]) -> Iterator[SessionCase]:
-    """Yields sessions like `case` with each combination of these values. The last field changes
-    fastest.
-    """
+def matrix(**fields: Iterable[int]) -> Iterator[SessionCase]:
+    """Yields sessions with each combination of these values. The last field changes fastest."""
     for values in itertools.product(*fields.values()):
-        yield replace(case, **dict(zip(fields, values)))
-
-
-def by_nonces(case: SessionCase = SessionCase()) -> Iterator[SessionCase]:
-    """Yields sessions like `case`, for each hash algorithm and its shortest and longest nonces."""
-    for algorithm in (SHA1, SHA256):
-        yield from matrix(case, algorithm=[algorithm], size=[NONCE_BYTES, digest_bytes(algorithm)])
+        yield SessionCase(**dict(zip(fields, values)))
 
 
 def bound_and_unbound(
     tpm: Teller, cipher: int, unbound: str = "Bound to nothing"
 ) -> Iterator[tuple[Session, Session]]:
     """Yields a session that is bound to TPM_RH_OWNER, and an unbound one, for each hash algorithm
-    and size of nonces. Each pair has its own chapter, at whose end both sessions are flushed.
+    with its shortest and longest nonces. Each pair has its own chapter, at whose end both sessions
+    are flushed.
     """
-    for case in by_nonces(SessionCase(cipher=cipher)):
-        tpm.chapter(f"Sessions of {case.hash_name}, with nonces of {case.size} bytes.")
-        to_owner = replace(case, bind=RH_OWNER)
-        pair = to_owner.start(tpm, "Bound to TPM_RH_OWNER"), case.start(tpm, unbound)
-        yield pair
-        for session in pair:
-            tpm.accepted("The session is flushed", tpm.flush(session))
+    for algorithm in (SHA1, SHA256):
+        for size in (NONCE_BYTES, digest_bytes(algorithm)):
+            case = SessionCase(algorithm, size, cipher)
+            tpm.chapter(f"Sessions of {case.hash_name}, with nonces of {size} bytes.")
+            to_owner = replace(case, bind=RH_OWNER)
+            pair = to_owner.start(tpm, "Bound to TPM_RH_OWNER"), case.start(tpm, unbound)
+            yield pair
+            for session in pair:
+                tpm.accepted("The session is flushed", tpm.flush(session))
 
 
 def refuse_changes(tpm: Teller, right: Prepared, plain: bytes, encrypted: str) -> None:

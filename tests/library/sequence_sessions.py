@@ -287,14 +287,12 @@ def other_texts(client: Sessions) -> None:
     ):
         buffer = on_handle(HMAC_START, key, parameters, [session.entry(code, names, parameters)])
         print(f"{words}: {client.unchanged(buffer)}")
-    pcr, event = number(PCR, 4), client.started(start(ALG_NULL))
-    for words, covered in (
-        ("EventSequenceComplete, both Names", [pcr, number(event, 4)]),
-        ("EventSequenceComplete, no Names", []),
-    ):
+    event = client.started(start(ALG_NULL))
+    both = [number(PCR, 4), number(event, 4)]
+    for words, covered in (("both Names", both), ("no Names", both[:0])):
         entries = [session.entry(EVENT_COMPLETE, covered, data), entry()]
         buffer = on_handles(EVENT_COMPLETE, [PCR, event], data, entries)
-        print(f"{words}: {client.unchanged(buffer)}")
+        print(f"EventSequenceComplete, {words}: {client.unchanged(buffer)}")
 
 
 def with_attributes(session: HashedSession, handle: int, data: bytes) -> bytes:
