@@ -4,8 +4,8 @@ from dataclasses import dataclass
 
 from tpmsim.model.sequence_commands import AUTHORIZED, EVENT_SEQUENCE_COMPLETE
 from tpmsim.model.sequence_commands import HASH_SEQUENCE_START, HMAC_START, SEQUENCE_UPDATE
-from tpmsim.standard import ALG_NULL, CC, command, digest_bytes, Fields, frames, number, RH_NULL
-from tpmsim.standard import RH_OWNER, sessions, SHA1, SHA256, Short, sized, trimmed
+from tpmsim.standard import CC, digest_bytes, Fields, frames, number, RH_NULL, RH_OWNER, sessions
+from tpmsim.standard import SHA1, SHA256, Short, trimmed
 from tpmsim.standard.objects import Public
 
 CONTEXT_SAVE, CONTEXT_LOAD = 0x162, 0x161
@@ -116,9 +116,9 @@ def started(chance, known):
     if chance.random() < 0.4:
         bind = chance.choice([RH_OWNER, *known.entities])
     size = chance.choice((16, digest_bytes(algorithm)))
-    head = number(RH_NULL, 4) + number(bind, 4) + sized(chance.randbytes(size)) + sized(b"")
-    symmetric = number(ALG_NULL, 2) + number(algorithm, 2)
-    return command(CC.StartAuthSession, head + number(kind, 1) + symmetric)
+    nonce = chance.randbytes(size)
+    handles, parameters = frames.start_auth_session(nonce, bind, algorithm, kind=kind)
+    return frames.buffer_of(CC.StartAuthSession, handles, [], parameters)
 
 
 def entry(chance, known, code, handles, parameters):

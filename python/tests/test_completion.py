@@ -10,19 +10,20 @@ import unittest
 
 import completed_scripts
 from completed_model import RecordedModel
+from recorded_case import RecordedCase
 from tpmsim.audit import start
 from tpmsim.audit.auditor import Auditor, report
 from tpmsim.audit.log import Log, NoLog
-from tpmsim.caller import Caller, HERE, hmac_key, OPEN
+from tpmsim.caller import HERE, hmac_key, OPEN
 from tpmsim.device import KeptDevice, library
 from tpmsim.explain import page, text
 from tpmsim.explain.play import Play
 from tpmsim.model import contexts
-from tpmsim.model.completion import Completion, CONTEXT_LOAD, CONTEXT_SAVE
+from tpmsim.model.completion import Completion
 from tpmsim.model.sequences import KINDS
 from tpmsim.model.state import CLEAR, STATE
 from tpmsim.records import COMPLETED
-from tpmsim.standard import command, lines, number, RH_PLATFORM
+from tpmsim.standard import lines, RH_PLATFORM
 from tpmsim.standard.objects import Attribute
 
 SEEDS, COMMANDS, START = 12, 500, 7
@@ -164,56 +165,42 @@ class InPython(unittest.TestCase):
             self.assertIn(words, "\n".join(report(auditor)))
 
 
-class OldContexts(unittest.TestCase):
+class OldContexts(RecordedCase):
     """Tests the explanations of why a context that was saved in the log can no longer be loaded."""
 
-    def setUp(self):
-        self.device = self.enterContext(RecordedModel())
-        self.tpm = Caller(self.device)
-        self.tpm.start_up()
-        self.text = b""
-
     def saved(self, attributes=HERE | OPEN):
-        handle = self.tpm.create_primary(hmac_key(attributes=attributes), data=b"key")
-        return self.device.execute(command(CONTEXT_SAVE, number(handle, 4))).response[10:]
+        return self.client.saved(self.client.key(template=hmac_key(attributes=attributes)))
 
-    def restart(self, shutdown, startup):
-        self.tpm.call("Shutdown", shutdownType=shutdown)
-        self.text += self.device.journal.text
-        self.device.power_cycle()
-        self.tpm.start_up(startup)
-
-    def told(self, context):
+    def why(self, context):
         """Returns the explanation of why a context was refused."""
-        response = self.device.execute(command(CONTEXT_LOAD, context)).response
-        self.assertEqual(response[6:10].hex(), "000001df")
-        return list(Play().events(self.text + self.device.journal.text))[-1].reason.words
+        self.assertEqual(self.client.load_code(context), "1df")
+        return self.events()[-1].reason.words
 
     def test_bytes(self):
         context = self.saved()
-        told = self.told(context[:-1] + bytes([context[-1] ^ 1]))
+        told = self.why(context[:-1] + bytes([context[-1] ^ 1]))
         self.assertTrue(told.endswith(" It differs from the context that line 17 saved."), told)
-        told = self.told(bytes(8) + context[8:])
+        told = self.why(bytes(8) + context[8:])
         self.assertTrue(told.endswith(", or may no longer load it."), told)
 
     def test_clear(self):
         context = self.saved()
         self.tpm.call("Clear", RH_PLATFORM, uses=[b""])
         wanted = "Line 17 saved it; since then TPM2_Clear changed the proof of its hierarchy."
-        self.assertIn(wanted, self.told(context))
+        self.assertIn(wanted, self.why(context))
 
     def test_power_cycles(self):
         context, st_clear = self.saved(), self.saved(HERE | OPEN | Attribute.ST_CLEAR)
         self.restart(STATE, STATE)
         wanted = "the device had a TPM Restart or a TPM Resume, and the object has stClear."
-        self.assertIn(f"Line 27 saved it; since then {wanted}", self.told(st_clear))
+        self.assertIn(f"Line 27 saved it; since then {wanted}", self.why(st_clear))
         self.restart(CLEAR, CLEAR)
         wanted = "Line 17 saved it; since then a TPM Reset or TPM2_Clear changed resetCount."
-        self.assertIn(wanted, self.told(context))
+        self.assertIn(wanted, self.why(context))
         self.device.completion = Completion(START)
+        self.earlier += self.device.journal.text
         self.device.journal.go_on(self.device.completion.numbers)
-        self.text += self.device.journal.text
-        self.assertIn("the completing layer has started again", self.told(context))
+        self.assertIn("the completing layer has started again", self.why(context))
 
 
 @unittest.skipUnless(library.is_there(), "there is no library")

@@ -9,81 +9,55 @@ import shutil
 import unittest
 
 from completed_model import CompletedModel, RecordedModel
-from hashed_sessions import HashedSession, name_of
-from tpmsim.audit import start
-from tpmsim.audit.auditor import Auditor, report
-from tpmsim.audit.log import NoLog
-from tpmsim.caller import Caller, HERE, hmac_key
+from recorded_case import RecordedCase
+from tpmsim.audit.auditor import report
 from tpmsim.compare.play import Comparison
 from tpmsim.device import StartedSwtpm
-from tpmsim.explain import text
 from tpmsim.explain.play import Play
 from tpmsim.model.completion import Completion
 from tpmsim.model.machine import Model
-from tpmsim.model.sequence_commands import EVENT_SEQUENCE_COMPLETE, HANDLES, HASH_SEQUENCE_START
-from tpmsim.model.sequence_commands import HMAC_START, SEQUENCE_COMPLETE, SEQUENCE_UPDATE
-from tpmsim.standard import ALG_NULL, CC, command, entry, Fields, number, on_handle, RH_LOCKOUT
+from tpmsim.standard import ALG_NULL, CC, entry, number, on_handle, on_handles, RH_LOCKOUT
 from tpmsim.standard import RH_NULL, SHA1, SHA256, sized
-from tpmsim.standard.objects import Attribute
+from tests.common.hashed_sessions import Guarded
+from tests.common.layer_commands import EVENT_COMPLETE, FIRST, HMAC_START, PCR, SECOND, start
+from tests.common.layer_commands import UPDATE
+from tests.library.sequence_sessions import hmac_of, KEY, PIN, SECRET, Sessions
+from tests.library.sequences import digest_of, GUARDED
 
-FIRST, PCR, SECRET, PIN = HANDLES[0], 16, b"secret", b"pin"
-GUARDED = hmac_key(attributes=HERE | Attribute.USER_WITH_AUTH)
 # The offset of the HMAC in a command with one handle and with a nonce of 32 bytes.
 HMAC_AT = 10 + 4 + 4 + 4 + 2 + 32 + 1 + 2
-NO_DATA, NO_HASH, NO_HIERARCHY = sized(b""), number(ALG_NULL, 2), number(RH_NULL, 4)
+NO_DATA, NO_HASH, WRONG = sized(b""), number(ALG_NULL, 2), {"own": bytes(32)}
 
 
-def hashed(data, name="sha256"):
-    return hashlib.new(name, data).digest()
-
-
-class Case(unittest.TestCase):
+class Case(RecordedCase):
     """Tests a started device with a protected key."""
 
-    made = RecordedModel
+    client_of = Sessions
 
     def setUp(self):
-        self.device = self.enterContext(self.made())
-        self.begin()
+        super().setUp()
+        self.session = self.client.session
+        self.make_key()
 
-    def begin(self):
-        self.tpm = Caller(self.device)
-        self.tpm.start_up()
-        self.key = self.tpm.create_primary(GUARDED, data=b"key", user_auth=SECRET)
-        public = Fields(self.send(command(CC.ReadPublic, number(self.key, 4)))[10:]).sized()
-        self.name = name_of(public)
-
-    def send(self, buffer):
-        return self.device.execute(buffer).response
-
-    def code(self, buffer):
-        return self.send(buffer)[6:10].hex()
-
-    def session(self, *those):
-        return HashedSession(self.send, *those)
+    def make_key(self):
+        self.key = self.client.key(KEY, SECRET, GUARDED)
+        self.name = self.client.name(self.key)
 
     def start(self, algorithm=SHA256, auth=PIN):
         """Starts a hash or event sequence."""
-        response = self.send(command(HASH_SEQUENCE_START, sized(auth) + number(algorithm, 2)))
-        return int.from_bytes(response[10:14], "big")
+        return self.client.started(start(algorithm, auth))
 
-    def hmac_start(self, session, value=SECRET, **given):
-        parameters = sized(PIN) + NO_HASH
-        names = [given.pop("name", self.name)]
-        return session.command(HMAC_START, [self.key], names, parameters, value=value, **given)
+    def hmac_start(self, session, value=SECRET, name=b"", **given):
+        return session.hmac_start(self.key, name or self.name, PIN, value=value, **given)
 
-    def update(self, session, handle=FIRST, value=PIN, data=b"data", **given):
-        names = [given.pop("name", b"")]
-        return session.command(SEQUENCE_UPDATE, [handle], names, sized(data), value=value, **given)
+    def update(self, session, handle=FIRST, value=PIN, **given):
+        return Guarded(session, handle, value).update(b"data", **given)
 
-    def complete(self, session, handle=FIRST, value=PIN, **given):
-        parameters = NO_DATA + NO_HIERARCHY
-        return session.command(SEQUENCE_COMPLETE, [handle], [b""], parameters, value=value, **given)
+    def complete(self, session, handle=FIRST, **given):
+        return Guarded(session, handle, PIN).complete(**given)
 
     def event_complete(self, session, handle=FIRST, pcr=PCR, **given):
-        handles, names = [pcr, handle], [number(pcr, 4), b""]
-        other = entry(hmac=PIN)
-        return session.command(EVENT_SEQUENCE_COMPLETE, handles, names, NO_DATA, other, **given)
+        return session.event_complete(pcr, handle, b"", PIN, **given)
 
 
 class Watched(CompletedModel):
@@ -145,15 +119,16 @@ class Sent(Case):
                     sent = self.sent(act(session, attributes=attributes))
                     self.assertEqual(sent, self.expected(session, *wanted))
                     bound = self.session(algorithm, self.key, SECRET)
-                    sent = self.sent(act(bound, FIRST + 1, attributes=attributes))
+                    sent = self.sent(act(bound, SECOND, attributes=attributes))
                     self.assertEqual(sent, self.expected(bound, *wanted))
                     self.assertFalse(any(self.device.events[-1].response[6:10]))
                 self.device.power_cycle()
-                self.begin()
+                self.client.begin()
+                self.make_key()
 
     def test_an_event(self):
-        digests = hashed(b"", "sha1"), hashed(b"")
-        text = number(2, 4) + number(SHA1, 2) + digests[0] + number(SHA256, 2) + digests[1]
+        text = number(2, 4) + number(SHA1, 2) + hashlib.sha1().digest()
+        text += number(SHA256, 2) + hashlib.sha256().digest()
         for pcr in (PCR, RH_NULL):
             self.start(ALG_NULL)
             session = self.session()
@@ -176,7 +151,7 @@ class Sent(Case):
             self.assertEqual(sent, self.expected(session, *wanted, own=own), given)
             if own == b"":
                 answered = self.device.events[-1].response
-                self.assertEqual(session.answer(SEQUENCE_UPDATE, answered), (b"", b""))
+                self.assertEqual(session.answer(UPDATE, answered), (b"", b""))
         sent = self.sent(self.hmac_start(session, value=b"", own=b""))
         wanted = CC.HMAC, [self.key], [self.name], NO_DATA + NO_HASH, b""
         self.assertEqual(sent, self.expected(session, *wanted, own=b"\0"))
@@ -194,65 +169,46 @@ class Sent(Case):
         given = self.key, NO_DATA + NO_HASH, [entry(hmac=SECRET)]
         self.assertEqual(self.sent(on_handle(HMAC_START, *given)), on_handle(CC.HMAC, *given))
         self.device.executed.clear()
-        self.send(on_handle(SEQUENCE_UPDATE, FIRST, NO_DATA))
+        self.client.send(on_handle(UPDATE, FIRST, NO_DATA))
         self.assertEqual(len(self.device.executed), 1)
 
 
 class Explained(Case):
-    def last(self, **given):
-        """Returns the explanation of the last command."""
-        events = list(Play(**given).events(self.device.journal.text))
-        self.assertFalse(any(it.differences for it in events))
-        event = events[-1]
-        self.assertEqual(bool(event.refused), event.reason is not None)
-        words = text.told(event) if event.refused else text.whole(event)
-        return " ".join(" ".join(words).split())
-
-    def told(self, buffer, code, *wanted):
-        """Checks the response code of a command, and what its explanation contains."""
-        self.assertEqual(self.code(buffer), code)
-        told = self.last()
-        for it in wanted:
-            self.assertIn(it, told)
-
-    def slip(self, buffer, words, code="000009a2"):
+    def slip(self, buffer, words, code="9a2"):
         self.told(buffer, code, words, "The HMAC of entry 1 is not the one that session 0200000")
 
-    def audited(self):
-        """Returns the report of the audit. The history of the device must be right."""
-        auditor = Auditor(start.of_log(self.device.journal.text, None), NoLog())
-        auditor.read(self.device.journal.text)
-        self.assertEqual(list(auditor.history.differences(auditor.device)), [])
-        return " ".join(" ".join(report(auditor)).split())
+    def report(self):
+        """Returns the report of the audit."""
+        return " ".join(" ".join(report(self.audited())).split())
 
     def test_accepted(self):
         """The explanation names the command that the layer sent."""
         session = self.session()
         by = "by session 02000000"
-        self.told(self.hmac_start(session), "00000000", "HMAC_Start is accepted, by the completing")
+        self.told(self.hmac_start(session), "000", "HMAC_Start is accepted, by the completing")
         session.answer(HMAC_START, self.device.events[-1].response, SECRET, handles=1)
         sent = f"the device accepts the layer's TPM2_HMAC {by}"
         self.assertIn(f"the HMAC sequence 80000008 starts, and {sent}", self.last())
         self.told(
             self.update(session),
-            "00000000",
+            "000",
             "4 bytes are added to the HMAC sequence 80000008, and the device accepts the layer's "
             f"TPM2_GetRandom {by}. The device itself refuses it: COMMAND_CODE (143), by check G4.",
         )
-        session.answer(SEQUENCE_UPDATE, self.device.events[-1].response, PIN)
-        self.told(self.complete(session), "00000000", "the HMAC sequence 80000008 ends, and the")
+        session.answer(UPDATE, self.device.events[-1].response, PIN)
+        self.told(self.complete(session), "000", "the HMAC sequence 80000008 ends, and the")
         self.start(ALG_NULL)
         session = self.session()
         sent = f"the device accepts the layer's TPM2_PCR_Extend {by[:-1]}1"
-        self.told(self.event_complete(session), "00000000", f"80000008 ends, and {sent}")
+        self.told(self.event_complete(session), "000", f"80000008 ends, and {sent}")
         self.audited()
 
     def test_ingredients(self):
         """The ingredients of the HMAC are those of the client's command."""
         handle, session = self.start(), self.session(SHA1)
         buffer = self.update(session, handle, attributes=0)
-        self.send(buffer)
-        digest = hashed(number(SEQUENCE_UPDATE, 4) + sized(b"data"), "sha1")
+        self.client.send(buffer)
+        digest = digest_of("sha1", [number(UPDATE, 4), sized(b"data")])
         message = digest + session.newer + session.nonce_tpm + b"\0"
         told = self.last(is_whole=True)
         for it in (
@@ -269,7 +225,7 @@ class Explained(Case):
         for bound, words in (((), in_key), ((SHA256, self.key, SECRET), not_in_key)):
             session = self.session(*bound)
             value = b"" if bound else SECRET
-            self.send(self.hmac_start(session, value=value, attributes=0))
+            self.client.send(self.hmac_start(session, value=value, attributes=0))
             told, names = self.last(is_whole=True), f"Name of 80000000 {self.name.hex()}"
             self.assertIn(words, told)
             self.assertIn(f"commandCode 0000015b {names} parameters as sent 0003", told)
@@ -280,7 +236,7 @@ class Explained(Case):
         """The mistakes that make a wrong HMAC are those of the client's command."""
         handle, session = self.start(), self.session()
         zeros = "SequenceUpdate is refused: BAD_AUTH/s1 (9a2), by the completing layer"
-        self.slip(self.update(session, own=bytes(32)), zeros)
+        self.slip(self.update(session, **WRONG), zeros)
         for words in (
             "The completing layer: the device refuses the layer's TPM2_GetRandom.",
             "It was no attempt on a protected value",
@@ -296,9 +252,9 @@ class Explained(Case):
         wrong = "cpHash has the command code of GetRandom, and this is SequenceUpdate"
         parameters = sized(b"data")
         own = session.entry(CC.GetRandom, [b""], parameters, PIN)
-        self.slip(on_handle(SEQUENCE_UPDATE, handle, parameters, [own]), wrong)
+        self.slip(on_handle(UPDATE, handle, parameters, [own]), wrong)
         buffer = self.update(session)
-        session.answer(SEQUENCE_UPDATE, self.send(buffer), PIN)
+        session.answer(UPDATE, self.client.send(buffer), PIN)
         self.slip(buffer, "the same command was accepted in line")
         self.audited()
 
@@ -306,26 +262,26 @@ class Explained(Case):
         """A wrong HMAC for a protected key counts as a failed try."""
         session = self.session()
         left_out = "the authValue of 80000000 was left out of the key, where it belongs"
-        self.slip(self.hmac_start(session, value=b""), left_out, "0000098e")
+        self.slip(self.hmac_start(session, value=b""), left_out, "98e")
         counted = "HMAC_Start is refused: AUTH_FAIL/s1 (98e), by the completing layer"
-        self.told(self.hmac_start(session, own=bytes(32)), "0000098e", counted)
+        self.told(self.hmac_start(session, **WRONG), "98e", counted)
         told = self.last()
         self.assertIn("The completing layer: the device refuses the layer's TPM2_HMAC.", told)
         self.assertIn("It counted as failed try 2 of 3; 1 more locks it out.", told)
         handles = "cpHash has the handle 80000000 instead of its Name"
-        self.slip(self.hmac_start(session, name=number(self.key, 4)), handles, "0000098e")
+        self.slip(self.hmac_start(session, name=number(self.key, 4)), handles, "98e")
         locked = "Protected entities are locked out: 3 failed tries >= maxTries 3."
-        self.told(self.hmac_start(session), "00000921", "LOCKOUT (921)", locked, "itself right")
-        self.told(self.hmac_start(session, value=b""), "00000921", "the entry itself wrong")
-        told = self.audited()
+        self.told(self.hmac_start(session), "921", "LOCKOUT (921)", locked, "itself right")
+        self.told(self.hmac_start(session, value=b""), "921", "the entry itself wrong")
+        told = self.report()
         self.assertIn("HMAC by HMAC session 02000000", told)
         self.assertIn("is refused by AUTH_FAIL/s1", told)
         self.tpm.call("DictionaryAttackLockReset", RH_LOCKOUT, uses=[b""])
         bound = self.session(SHA256, self.key, SECRET)
         put_in = "the authValue of 80000000 was put into the key, where it does not belong"
-        self.slip(self.hmac_start(bound), put_in, "0000098e")
+        self.slip(self.hmac_start(bound), put_in, "98e")
         self.start()
-        self.told(self.update(bound, own=bytes(32)), "0000098e", "TPM2_GetRandom", "failed try 2")
+        self.told(self.update(bound, **WRONG), "98e", "TPM2_GetRandom", "failed try 2")
         self.audited()
 
     def test_slips_of_an_event(self):
@@ -334,13 +290,11 @@ class Explained(Case):
         put_in = "EventSequenceComplete is refused: BAD_AUTH/s1"
         self.slip(self.event_complete(session, value=PIN), put_in)
         refused = "the device refuses the layer's TPM2_PCR_Extend", "LOCALITY (907)"
-        self.told(self.event_complete(session, pcr=17), "00000907", *refused)
-        both = session.entry(
-            EVENT_SEQUENCE_COMPLETE, [number(PCR, 4), number(FIRST, 4)], NO_DATA
-        ) + entry(hmac=PIN)
-        area = number(PCR, 4) + number(FIRST, 4) + number(len(both), 4) + both
+        self.told(self.event_complete(session, pcr=17), "907", *refused)
+        names = [number(PCR, 4), number(FIRST, 4)]
+        both = [session.entry(EVENT_COMPLETE, names, NO_DATA), entry(hmac=PIN)]
         wrong = "cpHash has the handle of the sequence 80000008"
-        self.slip(command(EVENT_SEQUENCE_COMPLETE, area + NO_DATA, 0x8002), wrong)
+        self.slip(on_handles(EVENT_COMPLETE, [PCR, FIRST], NO_DATA, both), wrong)
         self.audited()
 
     def test_refusals(self):
@@ -348,42 +302,37 @@ class Explained(Case):
         self.start()
         session = self.session()
         other = "entry 1 is not a password or an HMAC session"
-        policy = on_handle(SEQUENCE_UPDATE, FIRST, NO_DATA, [entry(0x03000000, bytes(16))])
-        self.told(policy, "0000098b", "HANDLE/s1 (98b)", other)
+        policy = on_handle(UPDATE, FIRST, NO_DATA, [entry(0x03000000, bytes(16))])
+        self.told(policy, "98b", "HANDLE/s1 (98b)", other)
         attribute = "entry 1 has an attribute other than continueSession"
-        self.told(self.update(session, attributes=0x21), "00000982", attribute)
+        self.told(self.update(session, attributes=0x21), "982", attribute)
         session.handle = 0x02000003
         refused = "REFERENCE_S0 (918)", "the device refuses the layer's TPM2_GetRandom"
-        self.told(self.update(session), "00000918", *refused)
+        self.told(self.update(session), "918", *refused)
         refused = "REFERENCE_S0 (918)", "the device refuses the layer's TPM2_HMAC"
-        self.told(self.hmac_start(session), "00000918", *refused)
+        self.told(self.hmac_start(session), "918", *refused)
 
 
 def by_sessions(device):
     """Computes a digest, an HMAC and an event by sessions; also sends wrong HMACs, and ends a
     session. Returns the response codes.
     """
-    case = Case()
-    case.device = device
-    case.begin()
+    client = Sessions(device)
+    key = client.key(KEY, SECRET, GUARDED)
     begun = len(device.events)
-    bound = case.session(SHA1, case.key, SECRET)
-    for session, value in ((case.session(), SECRET), (bound, b"")):
-        response = case.send(case.hmac_start(session, value=value))
-        session.answer(HMAC_START, response, value, handles=1)
-        handle = int.from_bytes(response[10:14], "big")
-        case.send(case.update(session, handle, own=bytes(session.size)))
-        session.answer(SEQUENCE_UPDATE, case.send(case.update(session, handle)), PIN)
-        response = case.send(case.complete(session, handle))
-        parameters, _ = session.answer(SEQUENCE_COMPLETE, response, PIN)
-        case.assertEqual(Fields(parameters).sized(), hmac.digest(b"key", b"data", "sha256"))
-        handle = case.start(ALG_NULL)
-        case.send(case.event_complete(session, handle, value=PIN))
-        buffer = case.event_complete(session, handle, attributes=0)
-        session.answer(EVENT_SEQUENCE_COMPLETE, case.send(buffer))
-    session = case.session()
-    case.send(case.hmac_start(session, value=b"wrong"))
-    case.send(case.update(session, handle))
+    bound = client.session(SHA1, key, SECRET)
+    for session, value in ((client.session(), SECRET), (bound, b"")):
+        sequence = client.hmac(session, key, value, PIN)
+        client.send(sequence.update(b"data", own=bytes(session.size)))
+        sequence.updated(b"data")
+        assert sequence.completed(b"") == hmac_of(b"data")
+        event = client.hash(session, ALG_NULL, PIN)
+        wrong, right = {"value": PIN}, {"attributes": 0}
+        client.send(session.event_complete(PCR, event.handle, b"", PIN, **wrong))
+        session.accepted(session.event_complete(PCR, event.handle, b"", PIN, **right))
+    session = client.session()
+    client.send(client.hmac_start(session, key, PIN, value=b"wrong"))
+    client.send(Guarded(session, event.handle, PIN).update(b"data"))
     return [it.response[6:10].hex() for it in device.events[begun:]]
 
 
@@ -406,7 +355,7 @@ class Logs(unittest.TestCase):
             report = Comparison(other).play(device.journal.text)
         self.assertEqual((report.differences, report.not_comparable), ([], []))
         there = [it.response[6:10].hex() for it in other.events]
-        self.assertEqual(there[3 : 3 + len(codes)], codes)
+        self.assertEqual(there[2 : 2 + len(codes)], codes)
 
     @unittest.skipUnless(shutil.which("swtpm"), "there is no swtpm")
     def test_swtpm(self):

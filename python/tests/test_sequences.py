@@ -7,29 +7,23 @@ import hmac
 import random
 import unittest
 
-from completed_model import CompletedModel, RecordedModel
-from tpmsim.audit import start
-from tpmsim.audit.auditor import Auditor, report
-from tpmsim.audit.log import NoLog
-from tpmsim.caller import Caller, HERE, hmac_key
+from completed_model import CompletedModel
+from recorded_case import RecordedCase
+from tpmsim.audit.auditor import report
 from tpmsim.device import ModelDevice
-from tpmsim.explain import text
-from tpmsim.explain.play import Play
 from tpmsim.model import image, sequence_text, state_text
 from tpmsim.model.hash_states import BLOCK, HashState, HmacState
 from tpmsim.model.machine import Model
-from tpmsim.model.sequence_commands import EVENT_SEQUENCE_COMPLETE, HASH_SEQUENCE_START, HMAC_START
-from tpmsim.model.sequence_commands import SEQUENCE_UPDATE
 from tpmsim.model.sequences import EventSequence, GENERATED_VALUE, HashSequence, HmacSequence
 from tpmsim.model.sequences import SequenceObject
 from tpmsim.model.state_text import Layer
-from tpmsim.standard import ALG_NULL, CC, command, entry, number, on_handle, on_handles, SHA1
-from tpmsim.standard import SHA256, sized
-from tpmsim.standard.objects import Attribute
+from tpmsim.standard import ALG_NULL, CC, command, number, SHA1, SHA256
+from tests.common.hashed_sessions import HASHES
+from tests.common.layer import Client
+from tests.common.layer_commands import event_complete, FIRST, hmac_start, start, update
+from tests.library.sequences import GUARDED
 
-NAMES = {SHA1: "sha1", SHA256: "sha256"}
 SIZES = 0, 1, 3, 55, 56, 63, 64, 65, 119, 120, 127, 128, 129
-FIRST = 0x8000_0008
 
 # FIPS 180-4: "abc" with its padding is one block, and the hash state after this block is the digest
 # of "abc".
@@ -48,7 +42,7 @@ class States(unittest.TestCase):
     def test_cuts(self):
         """A digest or an HMAC equals that of hashlib, however the data are divided."""
         chance = random.Random(1)
-        for algorithm, name in NAMES.items():
+        for algorithm, name in HASHES.items():
             for size in SIZES:
                 data, key = chance.randbytes(size), chance.randbytes(size)
                 wanted = hashlib.new(name, data).digest(), hmac.digest(key, data, name)
@@ -150,78 +144,66 @@ class Texts(unittest.TestCase):
             self.assertEqual(state_text.fault_of(state_text.framed(bent)), "Body", words)
 
 
-class Explained(unittest.TestCase):
+class Explained(RecordedCase):
     """Tests the explanations of commands on sequences, and the audit."""
-
-    def setUp(self):
-        self.device = self.enterContext(RecordedModel())
-        self.tpm = Caller(self.device)
-        self.tpm.start_up()
-
-    def last(self):
-        """Returns the explanation of the last command."""
-        events = list(Play().events(self.device.journal.text))
-        self.assertFalse(any(it.differences for it in events))
-        event = events[-1]
-        words = text.told(event) if event.refused else text.whole(event)
-        return " ".join(" ".join(words).split())
 
     def test_a_key(self):
         """If the device refuses the command that the layer sends, the explanation states the
         device's reason.
         """
-        template = hmac_key(attributes=HERE | Attribute.USER_WITH_AUTH)
-        key = self.tpm.create_primary(template, data=b"key", user_auth=b"pin")
-        parameters = sized(b"") + number(ALG_NULL, 2)
-        self.device.execute(on_handle(HMAC_START, key, parameters, [entry(hmac=b"wrong")]))
-        told = self.last()
-        self.assertIn("HMAC_Start is refused: AUTH_FAIL/s1 (98e), by the completing layer", told)
-        self.assertIn("The completing layer: the device refuses the layer's TPM2_HMAC.", told)
-        self.assertIn("The password of the entry is not the authValue of 80000000", told)
-        self.device.execute(on_handle(HMAC_START, key, parameters, [entry(hmac=b"pin")]))
-        self.assertIn("HMAC_Start is accepted, by the completing layer", self.last())
-        auditor = Auditor(start.of_log(self.device.journal.text, None), NoLog())
-        auditor.read(self.device.journal.text)
+        key = self.client.key(b"key", b"pin", GUARDED)
+        self.told(
+            hmac_start(key, password=b"wrong"),
+            "98e",
+            "HMAC_Start is refused: AUTH_FAIL/s1 (98e), by the completing layer",
+            "The completing layer: the device refuses the layer's TPM2_HMAC.",
+            "The password of the entry is not the authValue of 80000000",
+        )
+        accepted = "HMAC_Start is accepted, by the completing layer"
+        self.told(hmac_start(key, password=b"pin"), "000", accepted)
+        auditor = self.audited()
         self.assertEqual((auditor.counts.accepted, auditor.counts.layer), (3, 1))
         told = " ".join(report(auditor))
         self.assertIn("HMAC by password is refused by AUTH_FAIL/s1", told)
 
     def test_a_pcr(self):
         """The audit knows the PCR that an event sequence extended."""
-        self.device.execute(command(HASH_SEQUENCE_START, sized(b"pin") + number(ALG_NULL, 2)))
-        self.device.execute(on_handle(SEQUENCE_UPDATE, FIRST, sized(b"data")))
-        told = self.last()
-        self.assertIn("SequenceUpdate is refused: BAD_AUTH/s1 (9a2), by the completing layer", told)
-        self.assertIn("the password is not that of the event sequence 80000008", told)
-        entries = [entry(), entry(hmac=b"pin")]
-        for pcr in (17, 16):
-            buffer = on_handles(EVENT_SEQUENCE_COMPLETE, [pcr, FIRST], sized(b"data"), entries)
-            self.device.execute(buffer)
-            if pcr == 17:
-                self.assertIn("refused: LOCALITY (907)", self.last())
+        handle = self.client.started(start(ALG_NULL, b"pin"))
+        self.told(
+            update(handle, b"data"),
+            "9a2",
+            "SequenceUpdate is refused: BAD_AUTH/s1 (9a2), by the completing layer",
+            "the password is not that of the event sequence 80000008",
+        )
+        late, right = (event_complete(it, handle, b"data", (b"", b"pin")) for it in (17, 16))
+        self.told(late, "907", "refused: LOCALITY (907)")
+        self.client.done(right)
         wanted = hashlib.sha1(bytes(20) + hashlib.sha1(b"data").digest()).digest()
         self.assertEqual(self.device.model.banks[SHA1][16], wanted)
-        auditor = Auditor(start.of_log(self.device.journal.text, None), NoLog())
-        auditor.read(self.device.journal.text)
-        self.assertEqual(list(auditor.history.differences(auditor.device)), [])
+        self.audited()
 
     def test_power(self):
         """A device that continues from a state text keeps its sequences until a power cycle."""
-        self.device.execute(command(HASH_SEQUENCE_START, sized(b"") + number(SHA1, 2)))
+        handle = self.client.started(start(SHA1))
         self.device.journal.go_on(self.device.completion.numbers)
-        self.device.execute(on_handle(SEQUENCE_UPDATE, FIRST, sized(b"data")))
-        self.assertIn("4 bytes are added to the hash sequence 80000008", self.last())
+        added = "4 bytes are added to the hash sequence 80000008"
+        self.told(update(handle, b"data"), "000", added)
         self.device.power_cycle()
         self.assertEqual(self.device.completion.sequences, [None] * 3)
 
 
 class Without(unittest.TestCase):
+    """Tests sequences of a device without the layer."""
+
+    def setUp(self):
+        self.device = self.enterContext(CompletedModel())
+        self.client = Client(self.device)
+        self.client.done(start(SHA1))
+
     def test_a_restored_device(self):
         """A device without the layer keeps the sequences of a state text until a power cycle."""
-        with CompletedModel() as device, ModelDevice() as other:
-            Caller(device).start_up()
-            device.execute(command(HASH_SEQUENCE_START, sized(b"") + number(SHA1, 2)))
-            other.restore(state_text.state_text(device.model, device.completion.numbers))
+        with ModelDevice() as other:
+            other.restore(self.client.state())
             other.execute(command(CC.GetRandom, number(4, 2)))
             self.assertTrue(any(other.layer.sequences))
             other.power_cycle()
@@ -229,17 +211,11 @@ class Without(unittest.TestCase):
 
     def test_the_layer(self):
         """Without the layer, sequences are neither served nor changed."""
-        with CompletedModel() as device:
-            Caller(device).start_up()
-            device.execute(command(HASH_SEQUENCE_START, sized(b"") + number(SHA1, 2)))
-            before = list(device.completion.sequences)
-            device.completes = False
-            response = device.execute(on_handle(SEQUENCE_UPDATE, FIRST, sized(b"data"))).response
-            self.assertEqual(
-                (response[6:10].hex(), device.did),
-                ("00000143", "the hash sequence 80000008 starts"),
-            )
-            self.assertEqual(device.completion.sequences, before)
+        before = list(self.device.completion.sequences)
+        self.device.completes = False
+        self.assertEqual(self.client.code(update(FIRST, b"data")), "143")
+        self.assertEqual(self.device.did, "the hash sequence 80000008 starts")
+        self.assertEqual(self.device.completion.sequences, before)
 
 
 if __name__ == "__main__":

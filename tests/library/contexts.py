@@ -8,135 +8,68 @@ device.
 """
 
 import collections
-import os
-import sys
+import functools
+from collections.abc import Callable, Iterable
 
-if len(sys.argv) > 1:
-    os.environ["TPMSIM_LIBRARY"] = sys.argv[1]
-
-from tpmsim.caller import Caller, HERE, hmac_key, OPEN, Refused, storage_key
-from tpmsim.device import LibraryDevice, ModelDevice
-from tpmsim.device.base import Executed
-from tpmsim.model.completion import Completion, CONTEXT_LOAD, CONTEXT_SAVE
-from tpmsim.model.machine import MANUFACTURED, SESSIONS
+from tpmsim.caller import HERE, hmac_key, OPEN, Refused, storage_key
+from tpmsim.model.machine import SESSIONS
 from tpmsim.model.object_commands import OBJECTS
 from tpmsim.model.state import CLEAR, STATE
-from tpmsim.model.state_text import open_state, state_text
 from tpmsim.standard import CC, command, mac, number, RH_LOCKOUT, RH_OWNER, RH_PLATFORM, SHA256
 from tpmsim.standard.handle_kinds import PRIMARY_HIERARCHIES
 from tpmsim.standard.objects import Attribute
-from tests.common.shims import fail
+from tests.common.layer import Client, play, run
+from tests.common.layer_commands import flush, save
 
-SEED, CHILDREN = b"contexts", 12
+CHILDREN, FIRST_OBJECT, FIRST_SESSION = 12, 0x8000_0000, 0x0200_0000
+HR_TRANSIENT_AVAIL = 0x207
 SAVED_HANDLE_AT, HIERARCHY_AT = slice(8, 12), slice(12, 16)
 
 # Ways to change a byte: flip its lowest bit; flip its highest bit; add one.
-WAYS = (lambda byte: byte ^ 1, lambda byte: byte ^ 0x80, lambda byte: byte + 1 & 0xFF)
+WAYS: tuple[Callable[[int], int], ...] = (
+    lambda byte: byte ^ 1,
+    lambda byte: byte ^ 0x80,
+    lambda byte: byte + 1 & 0xFF,
+)
+
+# Ways to power-cycle, each with the types of TPM2_Shutdown and TPM2_Startup.
+RESTARTS = (
+    ("a TPM Resume", STATE, STATE),
+    ("a TPM Restart", STATE, CLEAR),
+    ("a TPM Reset", CLEAR, CLEAR),
+)
 
 
-class Completed(LibraryDevice):
-    """The library's device with the completing layer."""
-
-    completes = True
-
-    def executed(self, buffer, event):
-        calls = self.library
-        call = calls.tpmsim_complete if self.completes else calls.tpmsim_execute
-        call(self.handle, buffer, len(buffer), *event)
+def key(
+    client: Client, text: bytes = b"key", attributes: int = HERE | OPEN, hierarchy: int = RH_OWNER
+) -> int:
+    """Returns an HMAC key. Its authorization value is also the text of the key."""
+    template = hmac_key(attributes=attributes)
+    return client.tpm.create_primary(template, hierarchy=hierarchy, data=text, user_auth=text)
 
 
-class Pair(ModelDevice):
-    """The Python device with the completing layer, and the library's device, if there is a library.
-    Both execute the same commands.
-    """
-
-    def __init__(self):
-        super().__init__(seed=SEED)
-        self.other = Completed(manufactured=MANUFACTURED) if len(sys.argv) > 1 else None
-        layer = open_state(self.other.state())[1] if self.other else None
-        self.completion, self.completes = Completion.of(layer) if layer else Completion(), True
-
-    def answer(self, buffer, locality, elapsed, random):
-        told, model = (buffer, locality, random, elapsed), self.model
-        if self.completes:
-            response = self.completion.execute(model, told, model.execute, model.place)
-            response = response.outcome.response
-        else:
-            response = model.execute(*told).response
-            self.completion.forget(model)
-        if self.other:
-            self.other.completes = self.completes
-            given = self.other.answer(buffer, locality, elapsed, random).response
-            if given != response:
-                fail(f"{buffer.hex()}: {response.hex()} is wanted, {given.hex()} is given")
-        return Executed(buffer, response, locality, elapsed, random)
-
-    def cycle(self):
-        super().cycle()
-        self.completion.forget(self.model)
-        if self.other:
-            self.other.cycle()
-
-    def compare(self):
-        """Ends the program if the two devices have different states."""
-        text = state_text(self.model, self.completion.numbers)
-        if self.other and self.other.state() != text:
-            fail("the devices differ")
-
-    def close(self):
-        if self.other:
-            self.other.close()
+def hmac_is_right(client: Client, handle: int, text: bytes) -> bool:
+    found = client.tpm.call("HMAC", handle, uses=[text], buffer=b"data", hashAlg=SHA256)
+    return found.outHMAC == mac(SHA256, text, b"data")
 
 
-class Client:
-    """A started device and its caller."""
-
-    def __init__(self):
-        self.device = Pair()
-        self.tpm = Caller(self.device)
-        self.tpm.start_up()
-
-    def done(self, code, parameters):
-        """Sends a command that must succeed, and returns the response without its header."""
-        response = self.device.execute(command(code, parameters)).response
-        if any(response[6:10]):
-            fail(f"{code:03x} is refused: {response.hex()}")
-        return response[10:]
-
-    def code(self, code, parameters):
-        """Returns the response code of a command, in hex."""
-        response = self.device.execute(command(code, parameters)).response
-        return f"{int.from_bytes(response[6:10], 'big'):03x}"
-
-    def saved(self, handle):
-        return self.done(CONTEXT_SAVE, number(handle, 4))
-
-    def loaded(self, context):
-        return int.from_bytes(self.done(CONTEXT_LOAD, context), "big")
-
-    def load_code(self, context):
-        return self.code(CONTEXT_LOAD, context)
-
-    def flush(self, handle):
-        self.done(CC.FlushContext, number(handle, 4))
-
-    def key(self, text=b"key", attributes=HERE | OPEN, hierarchy=RH_OWNER):
-        template = hmac_key(attributes=attributes)
-        return self.tpm.create_primary(template, hierarchy=hierarchy, data=text, user_auth=text)
-
-    def hmac_is_right(self, handle, text):
-        asked = {"buffer": b"data", "hashAlg": SHA256}
-        found = self.tpm.call("HMAC", handle, uses=[text], **asked)["outHMAC"]
-        return found == mac(SHA256, text, b"data")
-
-    def end(self):
-        self.device.compare()
-        self.device.close()
+def numbers(contexts: Iterable[bytes]) -> list[int]:
+    """Returns the sequence numbers of contexts."""
+    return [int.from_bytes(it[:8], "big") for it in contexts]
 
 
-def children(client):
+def refused(act: Callable[[], object]) -> str:
+    """Returns the response code with which a call is refused."""
+    try:
+        act()
+    except Refused as refusal:
+        return f"{refusal.number:03x}"
+    raise AssertionError("the call is accepted")
+
+
+def children(client: Client) -> None:
     """Tests keys under one parent. Each key is loaded, saved and flushed, and later loaded again
-    for each use, as a resource manager does.
+    for each use, as a resource manager does. Never more than two objects are loaded.
     """
     parent, kept = client.tpm.create_primary(storage_key()), []
     for at in range(CHILDREN):
@@ -145,80 +78,92 @@ def children(client):
         handle = client.tpm.load(parent, made)
         kept.append((text, client.saved(handle)))
         client.flush(handle)
+    assert numbers(context for _, context in kept) == list(range(1, CHILDREN + 1))
     right = 0
     for text, context in (*kept, *reversed(kept)):
         handle = client.loaded(context)
-        right += client.hmac_is_right(handle, text)
+        assert handle == FIRST_OBJECT + 1
+        right += hmac_is_right(client, handle, text)
         client.flush(handle)
     print(f"{CHILDREN} children by their contexts, twice: {right} HMACs are right")
 
 
-def copies(client):
-    """A context can be loaded several times, until no slot is free."""
-    context, handles = client.saved(client.key()), []
+def copies(client: Client) -> None:
+    """A context can be loaded several times, until no slot is free. A full device does not change."""
+    context, handles = client.saved(key(client)), []
     while len(client.device.model.objects) < OBJECTS:
         handles.append(client.loaded(context))
     print("loaded as", ", ".join(f"{it:08x}" for it in handles))
+    before = client.state()
     print("a full device:", client.load_code(context))
-    try:
-        client.key(b"ninth")
-    except Refused as refused:
-        print(f"a ninth key: {refused.number:03x}")
+    print("a ninth key:", refused(lambda: key(client, b"ninth")))
+    assert client.state() == before
     client.flush(handles[3])
     print(f"after a flush of {handles[3]:08x}: {client.loaded(context):08x}")
+    client.flush(FIRST_OBJECT, handles[2], handles[4])
+    lowest_first = [FIRST_OBJECT, handles[2], handles[4]]
+    assert [client.loaded(context) for _ in lowest_first] == lowest_first
 
 
-def flushed(client):
-    handle = client.key()
+def flushed(client: Client) -> None:
+    handle = key(client)
     context = client.saved(handle)
     client.flush(handle)
-    for words, code in (
-        ("flushed twice", CC.FlushContext),
-        ("read after a flush", CC.ReadPublic),
-        ("saved after a flush", CONTEXT_SAVE),
+    for words, buffer in (
+        ("flushed twice", flush(handle)),
+        ("read after a flush", command(CC.ReadPublic, number(handle, 4))),
+        ("saved after a flush", save(handle)),
     ):
-        print(f"{words}: {client.code(code, number(handle, 4))}")
+        print(f"{words}: {client.code(buffer)}")
     client.device.completes = False
     print("loaded without the layer:", client.load_code(context))
+    assert client.code(save(handle)) == "143"
     client.device.completes = True
     print("loaded with it:", client.load_code(context))
 
 
-def counted(words, codes):
+def counted(words: str, codes: Iterable[str]) -> None:
     counts = collections.Counter(codes)
     print(f"{words}: {', '.join(f'{count} {code}' for code, count in sorted(counts.items()))}")
 
 
-def bent(client):
+def load_bent(client: Client, context: bytes, words: str, saved_handles: Iterable[int]) -> None:
     """Loads each proper prefix of a context, longer texts, and contexts in which a byte, the
     hierarchy or savedHandle is changed.
     """
-    handle = client.key()
-    context = client.saved(handle)
-    client.flush(handle)
-    sizes = range(len(context))
-    counted("its proper prefixes", (client.load_code(context[:it]) for it in sizes))
-    counted("with bytes behind it", (client.load_code(context + bytes(it)) for it in (1, 40, 900)))
+    code, sizes = client.load_code, range(len(context))
+    before = client.state()
+    counted("its proper prefixes", (code(context[:it]) for it in sizes))
+    counted(words, (code(context + bytes(it)) for it in (1, 40, 900)))
     turned = (
-        client.load_code(context[:at] + bytes([way(context[at])]) + context[at + 1 :])
+        code(context[:at] + bytes([way(context[at])]) + context[at + 1 :])
         for at in sizes
         for way in WAYS
     )
     counted("a byte turned, in three ways", turned)
+    assert client.state() == before
     for hierarchy in (*PRIMARY_HIERARCHIES, RH_LOCKOUT):
         other = with_field(context, HIERARCHY_AT, hierarchy)
-        print(f"of hierarchy {hierarchy:08x}: {client.load_code(other)}")
-    for saved in (*range(0x80000000, 0x80000004), 0x81000000, 0x02000000, 0x03000000):
+        print(f"of hierarchy {hierarchy:08x}: {code(other)}")
+    for saved in saved_handles:
         other = with_field(context, SAVED_HANDLE_AT, saved)
-        print(f"with savedHandle {saved:08x}: {client.load_code(other)}")
+        print(f"with savedHandle {saved:08x}: {code(other)}")
 
 
-def with_field(context, at, value):
+def bent(client: Client) -> None:
+    handle = key(client)
+    context = client.saved(handle)
+    client.flush(handle)
+    handles = *range(0x8000_0000, 0x8000_0004), 0x8100_0000, 0x0200_0000, 0x0300_0000
+    load_bent(client, context, "with bytes behind it", handles)
+
+
+def with_field(context: bytes, at: slice, value: int) -> bytes:
     return context[: at.start] + number(value, 4) + context[at.stop :]
 
 
-def cleared(client):
-    context, platform = client.saved(client.key()), client.key(hierarchy=RH_PLATFORM)
+def cleared(client: Client) -> None:
+    context, platform = client.saved(key(client)), key(client, hierarchy=RH_PLATFORM)
     print("before TPM2_Clear:", client.load_code(context))
     client.tpm.call("Clear", RH_PLATFORM, uses=[b""])
     print("after it:", client.load_code(context))
@@ -226,49 +171,61 @@ def cleared(client):
     print("one of the platform, saved after it:", client.load_code(again))
 
 
-def cycled(client):
+def cycled(client: Client) -> None:
     """Loads contexts after power cycles: of an object without stClear, of one with stClear, and of
     a session.
     """
-    kept = client.saved(client.key()), client.saved(
-        client.key(b"two", HERE | OPEN | Attribute.ST_CLEAR)
-    )
-    for words, shutdown, startup in (
-        ("a TPM Resume", STATE, STATE),
-        ("a TPM Restart", STATE, CLEAR),
-        ("a TPM Reset", CLEAR, CLEAR),
-    ):
+    st_clear = key(client, b"two", HERE | OPEN | Attribute.ST_CLEAR)
+    kept = [client.saved(it) for it in (key(client), st_clear)]
+    assert list(map(client.load_code, kept)) == ["000", "000"]
+    for words, shutdown, startup in RESTARTS:
         session = client.saved(client.tpm.session().handle)
-        client.tpm.call("Shutdown", shutdownType=shutdown)
-        client.device.power_cycle()
-        before = client.load_code(kept[0])
-        client.tpm.start_up(startup)
+        before = client.restart(shutdown, startup, lambda: client.load_code(kept[0]))
         codes = ", ".join(map(client.load_code, (*kept, session)))
         print(f"after {words}: {codes}; before TPM2_Startup {before}")
 
 
-def sessions(client):
+def sessions(client: Client) -> None:
     """Saved sessions still occupy their slots."""
     kept = [client.saved(client.tpm.session().handle) for _ in range(SESSIONS)]
-    try:
-        client.tpm.session()
-    except Refused as refused:
-        print(f"a session after {len(kept)} saved ones: {refused.number:03x}")
+    assert {len(it) for it in kept} == {38}
+    code = refused(client.tpm.session)
+    print(f"a session after {len(kept)} saved ones: {code}")
     counted("their contexts, loaded", map(client.load_code, kept))
     counted("loaded twice", map(client.load_code, kept))
-    again = client.saved(0x02000000)
+    again = client.saved(FIRST_SESSION)
     print("an earlier context of a saved session:", client.load_code(kept[0]))
     print("its latest context:", client.load_code(again))
-    context = client.saved(client.key())
+    context = client.saved(key(client))
     print("an object's context next to sixteen sessions:", client.load_code(context))
+    client.flush(FIRST_SESSION)
+    assert client.tpm.session().handle == FIRST_SESSION
+    assert client.load_code(again) == "1cb"
+    for handle in range(FIRST_SESSION, FIRST_SESSION + SESSIONS):
+        assert client.loaded(client.saved(handle)) == handle
 
 
-def main():
-    for test in (children, copies, flushed, bent, cleared, cycled, sessions):
-        client = Client()
-        test(client)
-        client.end()
+def listed(client: Client) -> None:
+    """The lists and counts of objects match the loaded objects, whether they are saved or not."""
 
+    def are_there(*handles: int) -> bool:
+        free = client.property(HR_TRANSIENT_AVAIL)
+        return (client.handles(), free) == (
+            " ".join(f"{it:08x}" for it in handles),
+            OBJECTS - len(handles),
+        )
+
+    handle = key(client)
+    assert are_there(handle)
+    client.saved(handle)
+    assert are_there(handle)
+    client.flush(handle)
+    assert are_there()
+
+
+TESTS = children, copies, flushed, bent, cleared, cycled, sessions, listed
+
+main = functools.partial(play, TESTS, titled=False)
 
 if __name__ == "__main__":
-    main()
+    run(main)

@@ -7,131 +7,66 @@ same responses, and have the same state at the end. Without LIBRARY the test use
 device. Digests and HMACs are compared with those of hashlib and hmac.
 """
 
+import functools
 import hashlib
 import hmac
+from collections.abc import Callable, Iterable, Sequence
 
-from tests.library.contexts import Pair
-from tpmsim.caller import Caller, HERE, hmac_key, OPEN, sealed, storage_key
-from tpmsim.model.completion import Completion, CONTEXT_SAVE
+from tpmsim.caller import HERE, hmac_key, OPEN, sealed, storage_key
 from tpmsim.model.state import CLEAR, STATE
-from tpmsim.model.state_text import open_state, state_text
 from tpmsim.standard import ALG_NULL, area, CC, command, entry, Fields, number, on_handle
 from tpmsim.standard import on_handles, RH_LOCKOUT, RH_NULL, RH_OWNER, SESSIONS, SHA1, SHA256, sized
 from tpmsim.standard.handle_kinds import PRIMARY_HIERARCHIES
 from tpmsim.standard.objects import Attribute
+from tests.common.hashed_sessions import HASHES
+from tests.common.layer import Client, play, run
+from tests.common.layer_commands import COMPLETE, complete, CONTEXT_SAVE, EVENT_COMPLETE
+from tests.common.layer_commands import event_complete, FIRST, flush, HMAC_START, hmac_start, PCR
+from tests.common.layer_commands import SECOND, START, start, THIRD, UPDATE, update
 
-COMPLETE, HMAC_START, UPDATE, EVENT_COMPLETE, START, HASH = 0x13E, 0x15B, 0x15C, 0x185, 0x186, 0x17D
-FIRST, GENERATED, PCR, LATE_PCR = 0x80000008, bytes.fromhex("ff544347"), 16, 17
+HASH, LATE_PCR, GENERATED = 0x17D, 17, bytes.fromhex("ff544347")
 LONG = bytes(range(256)) * 4
-HASHES = {SHA1: "sha1", SHA256: "sha256"}
+
+# An HMAC key that is protected against guessing.
+GUARDED = hmac_key(attributes=HERE | Attribute.USER_WITH_AUTH)
 
 # Data in parts, the last of which goes to the command that ends the sequence.
 DATA = (
-    *((b"",), (b"abc",), (b"abc", b""), (b"abc", b"def", b"ghi")),
-    *(
-        (LONG, LONG, LONG),
-        (LONG, LONG, b"seven b"),
-        (bytes(63), b"1"),
-        (bytes(64), b""),
-        (bytes(65),),
-    ),
+    *((b"",), (b"abc",), (b"abc", b""), (b"abc", b"def", b"ghi"), (LONG, LONG, LONG)),
+    *((LONG, LONG, b"seven b"), (bytes(63), b"1"), (bytes(64), b""), (bytes(65),)),
     tuple(bytes([it]) for it in range(130)),
 )
 
 
-class Reopened(Pair):
-    """Two devices. If `reopens` is true, each device is restored from its state text after each
-    command.
-    """
-
-    reopens = False
-
-    def answer(self, *event):
-        answered = super().answer(*event)
-        if self.reopens:
-            self.compare()
-            text = state_text(self.model, self.completion.numbers)
-            self.model, layer = open_state(text)
-            self.completion = Completion.of(layer)
-            if self.other:
-                self.other.resume(text)
-        return answered
-
-
-class Client:
-    """A started device and its caller."""
-
-    def __init__(self):
-        self.device = Reopened()
-        self.tpm = Caller(self.device)
-        self.tpm.start_up()
-
-    def code(self, buffer):
-        """Returns the response code of a command, in hex."""
-        return f"{int.from_bytes(self.device.execute(buffer).response[6:10], 'big'):03x}"
-
-    def done(self, buffer):
-        """Sends a command that must succeed, and returns the response without its header."""
-        response = self.device.execute(buffer).response
-        assert not any(response[6:10]), f"{buffer.hex()} is refused: {response.hex()}"
-        return response[10:]
-
-    def started(self, buffer):
-        return int.from_bytes(self.done(buffer)[:4], "big")
-
-    def key(self, data=b"key", value=b"", template=hmac_key()):
-        return self.tpm.create_primary(template, data=data, user_auth=value)
-
-    def handles(self, first=0x80000000, count=20):
-        """Returns the handles that are listed, from the handle `first` on, in hex."""
-        asked = {"capability": "handles", "property": first, "propertyCount": count}
-        listed = self.tpm.call("GetCapability", **asked).capabilityData.handles
-        return " ".join(f"{it:08x}" for it in listed)
-
-    def tries(self):
-        asked = {"capability": "properties", "property": 0x20E, "propertyCount": 1}
-        return self.tpm.call("GetCapability", **asked).capabilityData.properties[0x20E]
-
-    def pcr(self, bank, number):
-        return self.tpm.call("PCR_Read", pcrSelectionIn=f"{bank}:{number}").pcrValues[0]
-
-    def end(self):
-        self.device.compare()
-        self.device.close()
-
-
-def start(algorithm=SHA256, auth=b""):
-    return command(START, sized(auth) + number(algorithm, 2))
-
-
-def hmac_start(key, algorithm=ALG_NULL, auth=b"", password=b""):
-    entries = [entry(hmac=password)]
-    return on_handle(HMAC_START, key, sized(auth) + number(algorithm, 2), entries)
-
-
-def update(handle, data, password=b""):
-    return on_handle(UPDATE, handle, sized(data), [entry(hmac=password)])
-
-
-def complete(handle, data=b"", hierarchy=RH_NULL, password=b""):
-    parameters = sized(data) + number(hierarchy, 4)
-    return on_handle(COMPLETE, handle, parameters, [entry(hmac=password)])
-
-
-def event_complete(pcr, handle, data=b"", passwords=(b"", b"")):
-    entries = [entry(hmac=it) for it in passwords]
-    return on_handles(EVENT_COMPLETE, [pcr, handle], sized(data), entries)
-
-
-def all_in(client, buffer, parts):
-    """Starts a sequence with a command, and adds all parts but the last one. Returns its handle."""
-    handle = client.started(buffer)
-    for part in parts[:-1]:
-        client.done(update(handle, part))
+def same(handle: int) -> int:
     return handle
 
 
-def completed(client, buffer, parts, hierarchy=RH_NULL):
+def all_in(
+    client: Client,
+    buffer: bytes,
+    parts: Sequence[bytes],
+    password: bytes = b"",
+    moved: Callable[[int], int] = same,
+) -> int:
+    """Starts a sequence with a command, and adds all parts but the last one. `moved` may give the
+    sequence another handle after each of these commands. Returns its handle.
+    """
+    handle = moved(client.started(buffer))
+    for part in parts[:-1]:
+        client.done(update(handle, part, password))
+        handle = moved(handle)
+    return handle
+
+
+def result(client: Client, handle: int, data: bytes, password: bytes = b"") -> bytes:
+    """Ends a sequence with the last data, and returns its digest or HMAC."""
+    return Fields(client.done(complete(handle, data, password=password))[4:]).sized()
+
+
+def completed(
+    client: Client, buffer: bytes, parts: Sequence[bytes], hierarchy: int = RH_NULL
+) -> tuple[bytes, str]:
     """Returns the digest of a sequence of these parts, and its ticket in hex."""
     fields = Fields(client.done(complete(all_in(client, buffer, parts), parts[-1], hierarchy)))
     fields.number(4)
@@ -141,24 +76,50 @@ def completed(client, buffer, parts, hierarchy=RH_NULL):
     return found, ticket.hex()
 
 
-def hashes(client):
+def count(right: Iterable[bool], what: str) -> str:
+    """Says how many results equal those of hashlib and hmac."""
+    return f"{sum(right)} {what} are right"
+
+
+def digest_of(name: str, parts: Sequence[bytes]) -> bytes:
+    return hashlib.new(name, b"".join(parts)).digest()
+
+
+def pcrs(client: Client) -> dict[str, bytes]:
+    """Returns the values of the PCR that events extend, in both banks."""
+    return {it: client.pcr(it, PCR) for it in HASHES.values()}
+
+
+def is_event(
+    client: Client, pcr: int, before: dict[str, bytes], data: bytes, fields: Fields
+) -> list[bool]:
+    """Compares the digests in a response, and the PCR in both banks, with those of hashlib. Only
+    an event of this PCR extends it; `before` are its values before the event.
+    """
+    right = []
+    for algorithm, name in HASHES.items():
+        digest = digest_of(name, [data])
+        after = digest_of(name, [before[name], digest])
+        right.append((fields.number(2), fields.take(len(digest))) == (algorithm, digest))
+        right.append(client.pcr(name, PCR) == (after if pcr == PCR else before[name]))
+    return right
+
+
+def hashes(client: Client) -> None:
     """Hashes data in several parts. A slot becomes free at the end of each sequence."""
     for algorithm, name in HASHES.items():
+        wanted = [(digest_of(name, it), "8024400000070000") for it in DATA]
         found = [completed(client, start(algorithm), it) for it in DATA]
-        wanted = [hashlib.new(name, b"".join(it)).digest() for it in DATA]
-        assert {ticket for _, ticket in found} == {"8024400000070000"}
-        print(
-            f"{name}: {sum(map(bytes.__eq__, wanted, (it for it, _ in found)))} digests are right"
-        )
+        print(f"{name}:", count(map(tuple.__eq__, wanted, found), "digests"))
 
 
-def restored_hashes(client):
+def restored_hashes(client: Client) -> None:
     """Runs `hashes` on devices that are restored from their state texts after each command."""
     client.device.reopens = True
     hashes(client)
 
 
-def tickets(client):
+def tickets(client: Client) -> None:
     """The ticket is an HMAC of the digest with the hierarchy's proof, the same that TPM2_Hash
     returns.
     """
@@ -176,7 +137,7 @@ def tickets(client):
         print(f"of {hierarchy:08x}: {ticket == own.hex()}, like TPM2_Hash's {same}")
 
 
-def generated(client):
+def generated(client: Client) -> None:
     """Data that begin with TPM_GENERATED_VALUE get a NULL ticket, however they are divided."""
     for data in (
         GENERATED,
@@ -193,20 +154,15 @@ def generated(client):
         print(f"{data.hex()}: {', '.join(hierarchies)}")
 
 
-def events(client):
+def events(client: Client) -> None:
     """An event sequence hashes with both algorithms, and extends a PCR in both banks."""
+    parts = LONG, b"event"
     for pcr in (PCR, RH_NULL):
-        before = {it: client.pcr(it, PCR) for it in HASHES.values()}
-        parts = LONG, b"event"
-        handle = all_in(client, start(ALG_NULL), parts)
+        before, handle = pcrs(client), all_in(client, start(ALG_NULL), parts)
         fields = Fields(client.done(event_complete(pcr, handle, parts[-1])))
-        size, count, right = fields.number(4), fields.number(4), []
-        for algorithm, name in HASHES.items():
-            digest = hashlib.new(name, b"".join(parts)).digest()
-            after = hashlib.new(name, before[name] + digest).digest()
-            right.append((fields.number(2), fields.take(len(digest))) == (algorithm, digest))
-            right.append(client.pcr(name, PCR) == (after if pcr == PCR else before[name]))
-        print(f"{pcr:08x}: {size} bytes, {count} digests, right {right}, and {fields.data.hex()}")
+        size, digests = fields.number(4), fields.number(4)
+        right = is_event(client, pcr, before, b"".join(parts), fields)
+        print(f"{pcr:08x}: {size} bytes, {digests} digests, right {right}, and {fields.data.hex()}")
     handle = client.started(start(ALG_NULL))
     print("PCR 17 at locality 0:", client.code(event_complete(LATE_PCR, handle)))
     print("PCR 24:", client.code(event_complete(24, handle)))
@@ -221,7 +177,7 @@ def events(client):
     print("PCR 17 at locality 3:", client.code(event_complete(LATE_PCR, handle)))
 
 
-def hmacs(client):
+def hmacs(client: Client) -> None:
     """Computes HMACs with a key whose scheme has a hash, and with one whose scheme is NULL."""
     fixed, free = client.key(b"k" * 70), client.key(template=hmac_key(scheme=ALG_NULL))
     client.tpm.call("EvictControl", RH_OWNER, free, uses=[b""], persistentHandle=0x81000001)
@@ -234,19 +190,19 @@ def hmacs(client):
     ):
         wanted = [(hmac.digest(data, b"".join(it), name), "8024400000070000") for it in DATA]
         found = [completed(client, hmac_start(key, asked), it, RH_OWNER) for it in DATA]
-        print(f"{words}: {sum(map(tuple.__eq__, wanted, found))} HMACs are right")
+        print(f"{words}:", count(map(tuple.__eq__, wanted, found), "HMACs"))
     print("scheme SHA-256, asked SHA-1:", client.code(hmac_start(fixed, SHA1)))
     print("scheme NULL, asked NULL:", client.code(hmac_start(free)))
 
 
-def restored_hmacs(client):
+def restored_hmacs(client: Client) -> None:
     """The key is no longer needed when the sequence has started."""
     client.device.reopens = True
     key = client.key()
     handle = client.started(hmac_start(key))
-    client.tpm.send(client.tpm.flush(key))
+    client.flush(key)
     client.done(update(handle, LONG))
-    found = client.done(complete(handle, b"end"))[6:38]
+    found = result(client, handle, b"end")
     print("restored after each command:", found == hmac.digest(b"key", LONG + b"end", "sha256"))
     handle = client.started(start(ALG_NULL))
     client.done(update(handle, LONG))
@@ -254,11 +210,9 @@ def restored_hmacs(client):
     print("an event sequence:", found == hashlib.sha1(LONG + b"end").digest())
 
 
-def keys_that_cannot(client):
+def keys_that_cannot(client: Client) -> None:
     """The device itself decides whether a key may be used, and counts failed tries."""
-    protected = client.key(
-        value=b"pin", template=hmac_key(attributes=HERE | Attribute.USER_WITH_AUTH)
-    )
+    protected = client.key(value=b"pin", template=GUARDED)
     print("a wrong password:", client.code(hmac_start(protected, password=b"wrong")))
     print("failed tries:", client.tries())
     print("the right one:", client.code(hmac_start(protected, password=b"pin")))
@@ -277,15 +231,19 @@ def keys_that_cannot(client):
     print("an HMAC session without an HMAC:", client.code(buffer))
 
 
-def with_session(client, code, handle, parameters):
+def with_session(client: Client, code: int, handle: int, parameters: bytes) -> bytes:
     """Returns a command whose entry has an HMAC session, and an empty HMAC."""
     session = client.tpm.session().handle
     return on_handle(code, handle, parameters, [entry(session, bytes(16))])
 
 
-def passwords(client):
+def passwords(client: Client) -> None:
     """A sequence object has a password, which is not protected against guessing."""
     handle = client.started(start(ALG_NULL, b"pin"))
+
+    def with_entries(*entries: bytes) -> bytes:
+        return on_handle(UPDATE, handle, sized(b""), list(entries))
+
     for words, buffer in (
         ("no password", update(handle, b"")),
         ("a wrong password", update(handle, b"", b"wrong")),
@@ -298,13 +256,10 @@ def passwords(client):
         ("three", event_complete(PCR, handle, passwords=(b"", b"pin", b""))),
         ("no sessions", command(UPDATE, number(handle, 4) + sized(b""))),
         ("an HMAC session without an HMAC", with_session(client, UPDATE, handle, sized(b""))),
-        ("a second entry", on_handle(UPDATE, handle, sized(b""), [entry(hmac=b"pin"), entry()])),
-        (
-            "a reserved bit",
-            on_handle(UPDATE, handle, sized(b""), [entry(attributes=9, hmac=b"pin")]),
-        ),
-        ("audit", on_handle(UPDATE, handle, sized(b""), [entry(attributes=0x81, hmac=b"pin")])),
-        ("decrypt", on_handle(UPDATE, handle, sized(b""), [entry(attributes=0x21, hmac=b"pin")])),
+        ("a second entry", with_entries(entry(hmac=b"pin"), entry())),
+        ("a reserved bit", with_entries(entry(attributes=9, hmac=b"pin"))),
+        ("audit", with_entries(entry(attributes=0x81, hmac=b"pin"))),
+        ("decrypt", with_entries(entry(attributes=0x21, hmac=b"pin"))),
         ("an empty area", command(UPDATE, number(handle, 4) + area() + sized(b""), SESSIONS)),
         ("HashSequenceStart with a password", command(START, area(entry()) + bytes(3), SESSIONS)),
     ):
@@ -312,56 +267,49 @@ def passwords(client):
     print("failed tries:", client.tries())
 
 
-def slots(client):
+def slots(client: Client) -> None:
     """There are at most three sequences. Their handles follow those of the device's objects."""
     key = client.key()
     print(
         "handles:",
         *(f"{client.started(it):08x}" for it in (start(), start(ALG_NULL), hmac_start(key))),
     )
-    print("a fourth:", client.code(start()), client.code(hmac_start(key)))
+    print("a fourth:", client.codes(start(), hmac_start(key)))
     print("with a wrong password:", client.code(hmac_start(key, password=b"x")))
     print("listed:", client.handles())
-    print("listed from the second on:", client.handles(FIRST + 1, 1))
-    flush = [command(CC.FlushContext, number(FIRST + it, 4)) for it in range(4)]
-    print("flushed:", *map(client.code, (flush[1], flush[1], flush[3])))
+    print("listed from the second on:", client.handles(SECOND, 1))
+    print("flushed:", client.codes(flush(SECOND), flush(SECOND), flush(THIRD + 1)))
     print("listed:", client.handles())
-    print("used after it:", client.code(update(FIRST + 1, b"")))
+    print("used after it:", client.code(update(SECOND, b"")))
     print("the free slot:", f"{client.started(start()):08x}")
     for words, code in (("ContextSave", CONTEXT_SAVE), ("ReadPublic", CC.ReadPublic)):
         print(f"{words} of a sequence:", client.code(command(code, number(FIRST, 4))))
     client.device.completes = False
-    print("without the layer:", client.code(update(FIRST, b"")), client.code(flush[0]))
+    print("without the layer:", client.codes(update(FIRST, b""), flush(FIRST)))
     client.device.completes = True
-    print("with it:", client.code(update(FIRST, b"")), client.code(flush[0]))
+    print("with it:", client.codes(update(FIRST, b""), flush(FIRST)))
 
 
-def commands(client):
-    asked = {"capability": "commands", "property": 0x13E, "propertyCount": 200}
-    found = client.tpm.call("GetCapability", **asked).capabilityData.commands
+def commands(client: Client) -> None:
+    asked = client.tpm.call("GetCapability", capability=2, property=0x13E, propertyCount=200)
+    found = asked.capabilityData.commands
     own = (COMPLETE, HMAC_START, UPDATE, EVENT_COMPLETE, START)
     print("attributes:", *(f"{it:08x}" for it in found if it & 0xFFFF in own))
-    asked = {"capability": "properties", "property": 0x129, "propertyCount": 2}
-    print("commands:", client.tpm.call("GetCapability", **asked).capabilityData.properties)
+    print("commands:", {it: client.property(it) for it in (0x129, 0x12A)})
 
 
-def powered(client):
+def powered(client: Client) -> None:
     """Sequences end at a power cycle, even if the device resumes."""
     for words, kind in (("a TPM Reset", CLEAR), ("a TPM Resume", STATE)):
-        handle = client.started(start())
-        client.tpm.call("Shutdown", shutdownType=kind)
-        client.device.power_cycle()
-        before = client.code(update(handle, b""))
-        client.tpm.start_up(kind)
-        print(f"{words}: before TPM2_Startup {before}, after it {client.code(update(handle, b''))}")
-        handle = client.started(start())
-        client.tpm.call("Shutdown", shutdownType=kind)
-        client.device.power_cycle()
-        client.tpm.start_up(kind)
-        print(f"{words}, only TPM2_Startup: {client.code(update(handle, b''))}")
+        gone = update(client.started(start()), b"")
+        before = client.restart(kind, kind, lambda: client.code(gone))
+        print(f"{words}: before TPM2_Startup {before}, after it {client.code(gone)}")
+        gone = update(client.started(start()), b"")
+        client.restart(kind, kind)
+        print(f"{words}, only TPM2_Startup: {client.code(gone)}")
 
 
-def malformed(client):
+def malformed(client: Client) -> None:
     handle = client.started(start(ALG_NULL))
     password, data = area(entry()), sized(b"data")
     for words, buffer in (
@@ -383,27 +331,23 @@ def malformed(client):
         ),
         ("half a handle", command(UPDATE, b"\x80\0", SESSIONS)),
         ("the owner's handle", command(UPDATE, number(RH_OWNER, 4) + password + data, SESSIONS)),
-        ("no sequence", update(FIRST + 1, b"")),
+        ("no sequence", update(SECOND, b"")),
         ("an object's handle", update(0x80000000, b"")),
         ("the owner's as second", event_complete(PCR, RH_OWNER)),
-        ("no sequence as second", event_complete(PCR, FIRST + 2)),
+        ("no sequence as second", event_complete(PCR, THIRD)),
         ("one handle", command(EVENT_COMPLETE, number(PCR, 4), SESSIONS)),
         ("none of this changed it", event_complete(PCR, handle)),
     ):
         print(f"{words}: {client.code(buffer)}")
 
 
-TESTS = hashes, restored_hashes, tickets, generated, events, hmacs, restored_hmacs
-TESTS += keys_that_cannot, passwords, slots, commands, powered, malformed
+TESTS = (
+    *(hashes, restored_hashes, tickets, generated, events, hmacs, restored_hmacs, keys_that_cannot),
+    *(passwords, slots, commands, powered, malformed),
+)
 
 
-def main():
-    for test in TESTS:
-        print(f"{test.__name__.replace('_', ' ')}:")
-        client = Client()
-        test(client)
-        client.end()
-
+main = functools.partial(play, TESTS)
 
 if __name__ == "__main__":
-    main()
+    run(main)

@@ -4,59 +4,54 @@ Each `entropy` line sets new random bytes, so that each command has its own nonc
 """
 
 from tests.common.policy_teller import PolicyTeller
-from tests.common.vocabulary import CC, ENDS, flipped, frames, NAMES, RH_ENDORSEMENT, RH_OWNER, SHA1
-from tests.common.vocabulary import SHA256, sized, Use, wrong_in
+from tests.common.session_matrix import matrix, set_owner_and_endorsement
+from tests.common.vocabulary import CC, ENDS, flipped, frames, RH_ENDORSEMENT, RH_NULL, RH_OWNER
+from tests.common.vocabulary import SHA1, SHA256, sized, Use, wrong_in
 
 AUTH = b"owner"
 
 tpm = PolicyTeller(__name__, __doc__)
 
 
-def other_entry(words, name, *values):
-    """Sends copies of the right command, each with another value in one part of its entry. They
-    must be refused.
-    """
-    tpm.refused(words, *(right.but_entry(1, **{name: it}) for it in values))
+def refuse_changes(right, algorithm):
+    """Sends copies of a right command, each with another value in one part of it."""
+
+    def other_entry(words, name, *values):
+        tpm.refused(words, *(right.but_entry(1, **{name: it}) for it in values))
+
+    (entry,) = right.entries
+    hmac, nonce = entry.hmac, entry.nonce
+    too_long = "BAD_AUTH/s1" if algorithm == SHA1 else "SIZE/s1"
+    case = "A wrong hmac: in its last byte, in its first, of half the length, and of no bytes"
+    hmacs = flipped(hmac), flipped(hmac, 0), hmac[: len(hmac) // 2], b""
+    other_entry(f"{case}: BAD_AUTH/s1", "hmac", *hmacs)
+    other_entry(f"And a byte too long: {too_long}", "hmac", hmac + b"\0")
+    case = "Another nonce than the one that the hmac is of, and none: BAD_AUTH/s1"
+    other_entry(case, "nonce", flipped(nonce), b"")
+    other_entry("Other attributes, without continueSession: BAD_AUTH/s1", "attributes", ENDS)
+    texts = flipped(right.parameters), sized(AUTH[:-1])
+    said = tpm("Other parameters, one bit of them or one byte less: BAD_AUTH/s1")
+    said.refused(*(right.but(parameters=it) for it in texts))
+    said = tpm("Another command, TPM2_PCR_Event, with the handle PCR 16: BAD_AUTH/s1")
+    said.refused(right.but(code=CC.PCR_Event, handles=[16]))
+    said = tpm("Another handle, TPM_RH_ENDORSEMENT: BAD_AUTH/s1")
+    said.refused(right.but(handles=[RH_ENDORSEMENT]))
 
 
-tpm.accepted('ownerAuth is "owner" from here on', tpm.change_auth(RH_OWNER, AUTH, b""))
-said = tpm('endorsementAuth is "endorsement"')
-said.accepted(tpm.change_auth(RH_ENDORSEMENT, b"endorsement", b""))
-for bind, words in (
-    (frames.RH_NULL, "to nothing"),
-    (RH_OWNER, "to TPM_RH_OWNER"),
-    (RH_ENDORSEMENT, "to TPM_RH_ENDORSEMENT"),
-):
-    for algorithm in (SHA1, SHA256):
-        tpm.chapter(
-            f"A session of {NAMES[algorithm]}, bound {words}, on TPM2_HierarchyChangeAuth of "
-            'TPM_RH_OWNER, which sets "owner" again.'
-        )
-        session = tpm.start("TPM2_StartAuthSession", bind, algorithm)
-        right = tpm.change_auth(RH_OWNER, AUTH, session)
-        # Changes each part of the entry of an authorized TPM2_HierarchyChangeAuth.
-        entry = right.entries[0]
-        hmac, nonce = entry.hmac, entry.nonce
-        case = "A wrong hmac: in its last byte, in its first, of half the length, and of no bytes"
-        hmacs = flipped(hmac), flipped(hmac, 0), hmac[: len(hmac) // 2], b""
-        other_entry(f"{case}: BAD_AUTH/s1", "hmac", *hmacs)
-        refusal = "BAD_AUTH/s1" if algorithm == SHA1 else "SIZE/s1"
-        other_entry(f"And a byte too long: {refusal}", "hmac", hmac + b"\0")
-        case = "Another nonce than the one that the hmac is of, and none: BAD_AUTH/s1"
-        other_entry(case, "nonce", flipped(nonce), b"")
-        other_entry("Other attributes, without continueSession: BAD_AUTH/s1", "attributes", ENDS)
-        texts = flipped(right.parameters), sized(AUTH[:-1])
-        said = tpm("Other parameters, one bit of them or one byte less: BAD_AUTH/s1")
-        said.refused(*(right.but(parameters=it) for it in texts))
-        said = tpm("Another command, TPM2_PCR_Event, with the handle PCR 16: BAD_AUTH/s1")
-        said.refused(right.but(code=CC.PCR_Event, handles=[16]))
-        said = tpm("Another handle, TPM_RH_ENDORSEMENT: BAD_AUTH/s1")
-        said.refused(right.but(handles=[RH_ENDORSEMENT]))
-        tpm.accepted("As it was computed|and the nonces are new, which no refusal did", right)
-        tpm.refused("The same buffer again, with an outdated nonce: BAD_AUTH/s1", right)
-        said = tpm("With the new nonce|and the session ends")
-        said.change_auth(RH_OWNER, AUTH, Use(session, ENDS))
-        tpm("The session no longer exists: REFERENCE_S0").change_auth(RH_OWNER, AUTH, session)
+set_owner_and_endorsement(tpm, 'ownerAuth is "owner" from here on')
+for case in matrix(bind=(RH_NULL, RH_OWNER, RH_ENDORSEMENT), algorithm=(SHA1, SHA256)):
+    tpm.chapter(
+        f"A session of {case.hash_name}, bound to {case.bound_to}, on TPM2_HierarchyChangeAuth of "
+        'TPM_RH_OWNER, which sets "owner" again.'
+    )
+    session = case.start(tpm, "TPM2_StartAuthSession")
+    right = tpm.change_auth(RH_OWNER, AUTH, session)
+    refuse_changes(right, case.algorithm)
+    tpm.accepted("As it was computed|and the nonces are new, which no refusal did", right)
+    tpm.refused("The same buffer again, with an outdated nonce: BAD_AUTH/s1", right)
+    said = tpm("With the new nonce|and the session ends")
+    said.change_auth(RH_OWNER, AUTH, Use(session, ENDS))
+    tpm("The session no longer exists: REFERENCE_S0").change_auth(RH_OWNER, AUTH, session)
 
 tpm.chapter("The key of an hmac.")
 changing = tpm.change_auth, RH_OWNER, AUTH

@@ -5,23 +5,17 @@ parameter of the response.
 
 from functools import partial
 
+from tpmsim.standard import AES
 from tests.common.policy_teller import PolicyTeller
-from tests.common.vocabulary import CC, CONTINUE_SESSION, DECRYPT, DECRYPTS, ENCRYPT, flipped
-from tests.common.vocabulary import frames, NAMES, RH_ENDORSEMENT, RH_OWNER, SHA1, SHA256, sized
-from tests.common.vocabulary import Use
+from tests.common.session_matrix import bound_and_unbound, refuse_changes, set_owner_and_endorsement
+from tests.common.vocabulary import CC, DECRYPT, DECRYPTS, ENCRYPT, frames, RH_ENDORSEMENT, RH_OWNER
+from tests.common.vocabulary import sized, Use
 
 tpm = PolicyTeller(__name__, __doc__)
 set_by = partial(tpm.prepare, CC.HierarchyChangeAuth, [RH_OWNER])
 
-tpm.accepted('ownerAuth is "owner"', tpm.change_auth(RH_OWNER, b"owner", b""))
-said = tpm('endorsementAuth is "endorsement"')
-said.accepted(tpm.change_auth(RH_ENDORSEMENT, b"endorsement", b""))
-
-for algorithm, size in ((SHA1, 16), (SHA1, 20), (SHA256, 16), (SHA256, 32)):
-    tpm.chapter(f"Sessions of {NAMES[algorithm]}, with nonces of {size} bytes.")
-    choices = dict(algorithm=algorithm, size=size, aes=True)
-    bound = tpm.start("Bound to TPM_RH_OWNER", RH_OWNER, **choices)
-    unbound = tpm.start("Bound to nothing", **choices)
+set_owner_and_endorsement(tpm, 'ownerAuth is "owner"')
+for bound, unbound in bound_and_unbound(tpm, AES):
     tpm(
         "The bound one authorizes TPM2_HierarchyChangeAuth of TPM_RH_OWNER and decrypts: the key "
         "of encryption has ownerAuth, which the hmac's key has not"
@@ -37,8 +31,6 @@ for algorithm, size in ((SHA1, 16), (SHA1, 20), (SHA256, 16), (SHA256, 32)):
     said.event(b"event data", bound.decrypting)
     tpm("TPM2_GetRandom of 20 bytes").random(20, bound.encrypting)
     tpm("The same with the unbound session").random(20, unbound.encrypting)
-    for session in (bound, unbound):
-        tpm.accepted("The session is flushed", tpm.flush(session))
 
 tpm.chapter("Sizes. Blocks have 16 bytes, and the last may be cut.")
 session = tpm.start("A session, bound to TPM_RH_OWNER", RH_OWNER, aes=True)
@@ -128,11 +120,7 @@ said = tpm("TPM2_StartAuthSession with 33 bytes: SIZE/p1")
 said.prepare(CC.StartAuthSession, *frames.start_auth_session(bytes(33)), session.decrypting)
 said = tpm("A byte after the first parameter, which is not encrypted: SIZE")
 said.refused(set_by(sized(b"owner") + b"\0", session.decrypting))
-wrong = tpm.change_auth(RH_OWNER, b"owner", session.decrypting)
-said = tpm("One bit of the encrypted bytes, which the hmac is of: BAD_AUTH/s1")
-said.refused(wrong.but(parameters=flipped(wrong.parameters)))
-tpm.refused("The same bytes in plain: BAD_AUTH/s1", wrong.but(parameters=sized(b"owner")))
-said = tpm("The attribute decrypt taken away: BAD_AUTH/s1")
-said.refused(wrong.but_entry(1, attributes=CONTINUE_SESSION))
-tpm.accepted("The right one, with the nonce that no refusal changed", wrong)
+right = tpm.change_auth(RH_OWNER, b"owner", session.decrypting)
+refuse_changes(tpm, right, b"owner", "encrypted")
+tpm.accepted("The right one, with the nonce that no refusal changed", right)
 tpm.accepted('ownerAuth is still "owner"', tpm.change_auth(RH_OWNER, b"owner", b"owner"))

@@ -3,8 +3,12 @@ a trial session. Its handles are tpmKey and bind; its parameters are nonceCaller
 sessionType, symmetric and authHash.
 """
 
+from dataclasses import replace
+
 from tpmsim.standard import area
 from tests.common.policy_teller import ENTITIES
+from tests.common.script_caller import KINDS
+from tests.common.session_matrix import matrix, SessionCase
 from tests.common.vocabulary import ALG_NULL, CC, command, ENDS, entry, frames, number, RH_LOCKOUT
 from tests.common.vocabulary import RH_NULL, RH_OWNER, RS_PW, SHA1, SHA256, sized, Teller, Use
 
@@ -60,10 +64,15 @@ def numbers(*values):
     return b"".join(number(it, 2) for it in values)
 
 
-def starts(what, **choices):
-    session = tpm.start(what, **choices)
-    assert session.handle == 0x0200_0000
-    tpm("").reset(session)
+def starts(what, case):
+    """Starts a session, uses it once, and flushes it."""
+    session = case.start(tpm, what)
+    if case.kind == frames.SE_HMAC:
+        assert session.handle == 0x0200_0000
+        tpm("").reset(session)
+    else:
+        assert session.handle == 0x0300_0000
+        tpm("").random(4, session)
     tpm.accepted("", tpm.flush(session))
 
 
@@ -146,33 +155,28 @@ refused("A nonce of 15 bytes, and a salt: SIZE/p1", both)
 each("A salt of 1 byte and of 32: VALUE/p2", "salt", b"\x01", bytes(32))
 
 tpm.chapter("None of these refusals started a session. What starts one, and it is ended again:")
-starts("SHA-256 and a nonce of 16 bytes, then TPM2_PCR_Reset by it, and TPM2_FlushContext")
-starts("SHA-256 and a nonce of 20 bytes", size=20)
-starts("SHA-256 and a nonce of 32 bytes", size=32)
-starts("SHA-1 and a nonce of 16 bytes", algorithm=SHA1)
-starts("SHA-1 and a nonce of 20 bytes", algorithm=SHA1, size=20)
-starts("AES", aes=True)
-starts("AES with SHA-1 and a nonce of 17 bytes", aes=True, algorithm=SHA1, size=17)
-for bind, name in ENTITIES.items():
-    case = f"Bound to {name}, whose authorization value is empty; TPM2_PCR_Reset by an hmac"
-    starts(case, bind=bind)
+SHORT, *OTHER_NONCES = (*matrix(size=(16, 20, 32)), *matrix(algorithm=[SHA1], size=(16, 20)))
+starts(f"{SHORT.nonces}, then TPM2_PCR_Reset by it, and TPM2_FlushContext", SHORT)
+for case in OTHER_NONCES:
+    starts(case.nonces, case)
+starts("AES", SessionCase(cipher=frames.AES))
+starts("AES with SHA-1 and a nonce of 17 bytes", SessionCase(SHA1, 17, frames.AES))
+for case in matrix(bind=ENTITIES):
+    empty = "whose authorization value is empty; TPM2_PCR_Reset by an hmac"
+    starts(f"Bound to {case.bound_to}, {empty}", case)
 
-for kind, name in ((frames.SE_POLICY, "policy"), (frames.SE_TRIAL, "trial")):
+LONG = SessionCase(size=32), SessionCase(SHA1, size=20)
+POLICY_CASES = (
+    *((it.nonces, it) for it in (SHORT, *LONG)),
+    ("AES", SessionCase(cipher=frames.AES)),
+    ("Bound to TPM_RH_OWNER", SessionCase(bind=RH_OWNER)),
+    ("Bound to TPM_RH_LOCKOUT", SessionCase(bind=RH_LOCKOUT, cipher=frames.AES)),
+    ("Bound to PCR 23", SessionCase(SHA1, bind=23)),
+)
+for kind, name in KINDS:
     tpm.chapter(f"A {name} session, of the same lowest number, and it is ended.")
-    for what, choices in (
-        ("SHA-256 and a nonce of 16 bytes", {}),
-        ("SHA-256 and a nonce of 32 bytes", dict(size=32)),
-        ("SHA-1 and a nonce of 20 bytes", dict(algorithm=SHA1, size=20)),
-        ("AES", dict(aes=True)),
-        ("Bound to TPM_RH_OWNER", dict(bind=RH_OWNER)),
-        ("Bound to TPM_RH_LOCKOUT", dict(bind=RH_LOCKOUT, aes=True)),
-        ("Bound to PCR 23", dict(bind=23, algorithm=SHA1)),
-    ):
-        what = f"{what}, TPM2_GetRandom and TPM2_FlushContext"
-        session = tpm.start(what, kind=kind, **choices)
-        assert session.handle == 0x0300_0000
-        tpm("").random(4, session)
-        tpm.accepted("", tpm.flush(session))
+    for what, case in POLICY_CASES:
+        starts(f"{what}, TPM2_GetRandom and TPM2_FlushContext", replace(case, kind=kind))
     sizes = dict(nonce=bytes(15), kind=kind), dict(nonce=bytes(21), algorithm=SHA1, kind=kind)
     refused("A nonce of 15 bytes, and of 21 for SHA-1: SIZE/p1", *sizes)
     refused("A salt: VALUE/p2", dict(salt=b"\x01", kind=kind))
@@ -242,10 +246,10 @@ case = "The same hash, and there is no place: SESSION_MEMORY"
 refused(case, *(dict(xor=it, algorithm=it) for it in (SHA1, SHA256)))
 tpm.accepted("The first is flushed", tpm.flush(sessions[0].handle))
 refused("Another hash, while there is a place: HASH/p4", *OTHERS)
-starts("The same one, SHA-256", xor=True)
-starts("SHA-1", xor=True, algorithm=SHA1, size=20)
-starts("Bound to TPM_RH_OWNER", xor=True, bind=RH_OWNER, size=32)
-for kind, name in ((frames.SE_POLICY, "policy"), (frames.SE_TRIAL, "trial")):
+starts("The same one, SHA-256", SessionCase(cipher=frames.XOR))
+starts("SHA-1", SessionCase(SHA1, 20, frames.XOR))
+starts("Bound to TPM_RH_OWNER", SessionCase(size=32, cipher=frames.XOR, bind=RH_OWNER))
+for kind, name in KINDS:
     session = tpm.start(f"A {name} session", kind=kind, xor=True)
     assert session.handle == 0x0300_0000
     tpm("TPM2_GetRandom by it").random(4, session)

@@ -7,17 +7,17 @@ and responses are compared byte for byte.
 """
 
 import hashlib
-import hmac
 
-from tpmsim.standard import COMMAND_BYTES
+from tpmsim.standard import COMMAND_BYTES, XOR
+from tests.common.hashed_sessions import HASHES, kdfa
 from tests.common.script import RANDOM_BYTES, SEED_BYTES
+from tests.common.session_matrix import bound_and_unbound, refuse_changes
 from tests.common.vocabulary import area, AUTH_VALUE, CC, CONTINUE_SESSION, DECRYPT, DECRYPTS
-from tests.common.vocabulary import ENCRYPT, ENCRYPTS, FIRST, flipped, frames, hmac_key, NAMES
-from tests.common.vocabulary import number, PASSWORD, policy, RH_ENDORSEMENT, RH_OWNER, SE_TRIAL
-from tests.common.vocabulary import sealed, SHA1, SHA256, sized, storage_key, Teller, Use
+from tests.common.vocabulary import ENCRYPT, ENCRYPTS, FIRST, frames, hmac_key, number, PASSWORD
+from tests.common.vocabulary import policy, RH_ENDORSEMENT, RH_OWNER, SE_TRIAL, sealed, SHA1
+from tests.common.vocabulary import SHA256, sized, storage_key, Teller, Use
 
 BOTH = DECRYPTS | ENCRYPT
-HASHES = {SHA1: hashlib.sha1, SHA256: hashlib.sha256}
 OWNER_AUTH = b"owner"
 
 # Sizes of a first parameter: none, one byte, the sizes of the digests, one byte more than a digest,
@@ -28,15 +28,8 @@ tpm = Teller(__name__, __doc__, tries=True)
 
 
 def mask(use, newer, older, size, auth_value):
-    """Computes the mask, with HMAC in the counter mode of SP 800-108. Each block is the HMAC of its
-    number, "XOR", 0, both nonces, and the number of bits.
-    """
-    key, given, block = use.session.key + auth_value, b"", 0
-    while len(given) < size:
-        block += 1
-        text = block.to_bytes(4, "big") + b"XOR\0" + newer + older + (8 * size).to_bytes(4, "big")
-        given += hmac.new(key, text, HASHES[use.session.algorithm]).digest()
-    return given[:size]
+    key = use.session.key + auth_value
+    return kdfa(HASHES[use.session.algorithm], key, b"XOR", newer, older, size)
 
 
 def exclusive_or(left, right):
@@ -77,8 +70,7 @@ def masked(what, prepared, plain, place=1, auth_value=b""):
 
 
 def drawn(count):
-    """Returns the random bytes that the next TPM2_GetRandom returns, which depend on the next seed.
-    """
+    """Returns the random bytes that the next TPM2_GetRandom returns, which depend on the next seed."""
     seed = hashlib.sha256(b"entropy %d" % (tpm.script.seeds + 1)).digest()[:SEED_BYTES]
     return (seed * RANDOM_BYTES)[:count]
 
@@ -99,11 +91,7 @@ def of_size(size):
 tpm.accepted('ownerAuth is "owner"', tpm.change_auth(RH_OWNER, OWNER_AUTH, b""))
 tpm.define("An index of 1,024 bytes", area(FIRST, size=1024), OWNER_AUTH, auth=b"index")
 
-for algorithm, nonce_size in ((SHA1, 16), (SHA1, 20), (SHA256, 16), (SHA256, 32)):
-    tpm.chapter(f"Sessions of {NAMES[algorithm]}, with nonces of {nonce_size} bytes.")
-    choices = dict(algorithm=algorithm, size=nonce_size, xor=True)
-    bound = tpm.start("Bound to TPM_RH_OWNER", RH_OWNER, **choices)
-    unbound = tpm.start("Bound to nothing, and so with an empty key", **choices)
+for bound, unbound in bound_and_unbound(tpm, XOR, "Bound to nothing, and so with an empty key"):
     for size in SIZES:
         data = bytes(it * 7 % 256 for it in range(size))
         case = f"TPM2_PCR_Event of {size:,} bytes, with the digests of them in plain"
@@ -126,8 +114,6 @@ for algorithm, nonce_size in ((SHA1, 16), (SHA1, 20), (SHA256, 16), (SHA256, 32)
     masking(f"{case} is not in that of the hmac", changing, b"another", auth_value=OWNER_AUTH)
     changing = tpm.change_auth(RH_OWNER, OWNER_AUTH, unbound.decrypting)
     masking("And back, by the unbound one", changing, OWNER_AUTH, auth_value=b"another")
-    for session in (bound, unbound):
-        tpm.accepted("The session is flushed", tpm.flush(session))
 
 tpm.chapter("Both directions of one command, with one session and with two.")
 session = tpm.start("A session, bound to TPM_RH_OWNER", RH_OWNER, xor=True)
@@ -211,11 +197,7 @@ said = tpm("TPM_ALG_XOR of SHA-1 for a session of SHA-256: HASH/p4")
 said.refused(tpm.prepare(CC.StartAuthSession, *frames.start_auth_session(bytes(16), xor=SHA1)))
 assert tpm.last.response == bytes.fromhex("80010000000a000004c3")
 right = tpm.event(b"event data", session.decrypting)
-said = tpm("One bit of the masked bytes, which the hmac is of: BAD_AUTH/s1")
-said.refused(right.but(parameters=flipped(right.parameters)))
-tpm.refused("The same bytes in plain: BAD_AUTH/s1", right.but(parameters=sized(b"event data")))
-said = tpm("The attribute decrypt taken away: BAD_AUTH/s1")
-said.refused(right.but_entry(1, attributes=CONTINUE_SESSION))
+refuse_changes(tpm, right, b"event data", "masked")
 said = tpm("A second session that unmasks: ATTRIBUTES/s2")
 said.event(b"event data", session.decrypting, other.decrypting)
 resets = [tpm.reset(Use(session, it)) for it in (DECRYPTS, ENCRYPTS)]
