@@ -7,6 +7,7 @@ table of commands:
 import pathlib
 import re
 
+from tpmsim.caller import short_names
 from tpmsim.standard import CC, Kind, Parameter
 from tpmsim.standard.given import NUMBER_WORDS
 
@@ -112,6 +113,19 @@ def signature(name: str, code: CC, result: str) -> str:
     return "    @overload\n" + method(f"def {name}", arguments, result)
 
 
+def short(name: str, code: CC) -> str:
+    """Returns the method that prepares the command with a short name."""
+    defaults = short_names.DEFAULTS.get(code, {})
+    types = dict.fromkeys(short_names.names_of(code), "Handle")
+    types |= {it.name: taken(it) for it in code.parameters}
+    in_order = [f"{it}: {types[it]}" for it in types if it not in defaults]
+    named = [
+        f"{it}: {types[it]}{' | None' if default is None else ''} = ..."
+        for it, default in defaults.items()
+    ]
+    return method(f"def {name}", ["self", *in_order, "/", "*uses: Means", *named], "Prepared")
+
+
 def any_command(name: str, result: str) -> str:
     """Returns the overload of a method for a command that is known only at run time."""
     arguments = ["self", "name: CC", "*those: Handle", "uses: Sequence[Means] = ..."]
@@ -124,8 +138,11 @@ def stub() -> str:
     text = re.sub(NEXT_EMPTY, r"\1", HEAD + "".join(map(response, CC)), flags=re.M)
     text += "\nclass Commands(Knowledge):\n"
     text += method("def by", ["self", "uses: Sequence[Means]", "handle: int"], "Sequence[Means]")
+    arguments = ["self", "code: CC", "those: Sequence[Handle]", "uses: Sequence[Means]"]
+    text += method("def asked", [*arguments, "*values: Any"], "Prepared")
     text += "".join(signature("command", it, "Prepared") for it in CC)
     text += any_command("command", "Prepared")
+    text += "".join(short(name, code) for name, code in short_names.COMMANDS.items())
     text += "\nclass Calls(Commands):\n"
     text += method("def send", ["self", "prepared: Prepared"], "Response")
     text += "".join(signature("call", it, f"{it.name}Response") for it in CC)

@@ -15,7 +15,7 @@ import unittest
 
 import tpmsim
 from tpmsim import BadValue, TpmsimError
-from tpmsim.caller import area, Caller, calls, sealed, storage_key
+from tpmsim.caller import area, Caller, calls, sealed, short_names, storage_key
 from tpmsim.caller.examples import EXAMPLES, INDEX, Scene
 from tpmsim.device import Device, ModelDevice
 from tpmsim.explain.dissection import fields_of_command
@@ -119,6 +119,52 @@ class Examples(unittest.TestCase):
             with self.assertRaisesRegex(ValueError, f"^{name} takes ") as caught:
                 calls.Commands().command(code, *handles, **arguments)
             self.assertEqual(caught.exception.field, name)
+
+
+class ShortNames(unittest.TestCase):
+    """Commands by their short names."""
+
+    def test_each(self):
+        """By its short name, each command is the same as by its name in Part 3."""
+        examples = {prepared.code: prepared for prepared, _ in played(ModelDevice)}
+        for name, code in short_names.COMMANDS.items():
+            wanted = examples.pop(code)
+            arguments = values.read_all(code.parameters, wanted.parameters).values()
+            found = dict(zip(short_names.names_of(code), (*wanted.handles, *arguments)))
+            named = {it: found.pop(it) for it in short_names.DEFAULTS.get(code, {})}
+            again = getattr(calls.Commands(), name)(*found.values(), *wanted.uses, **named)
+            with self.subTest(name):
+                self.assertEqual(again.buffer(), wanted.buffer())
+
+    def test_defaults(self):
+        """Arguments that are left out have their default values."""
+        tpm = calls.Commands()
+        wanted = tpm.command("NV_Read", INDEX, INDEX, size=8, offset=0)
+        self.assertEqual(tpm.reading(INDEX, 8), wanted)
+        wanted = tpm.command("NV_Read", "OWNER", INDEX, size=8, offset=3)
+        self.assertEqual(tpm.reading(INDEX, 8, by="OWNER", offset=3), wanted)
+        public = area()
+        wanted = tpm.command("NV_DefineSpace", "OWNER", auth=b"", publicInfo=public)
+        self.assertEqual(tpm.defining(public), wanted)
+        self.assertEqual(tpm.lock_reset(), tpm.command("DictionaryAttackLockReset", "LOCKOUT"))
+
+    def test_faults(self):
+        """A missing argument, a wrong name and a missing handle raise TypeError."""
+        tpm = calls.Commands()
+        self.assertRaises(TypeError, tpm.reading, INDEX)
+        self.assertRaises(TypeError, tpm.reading, INDEX, 8, of=RH_OWNER)
+        self.assertRaises(TypeError, tpm.command, "NV_Read", INDEX, size=8, offset=0)
+        self.assertRaises(AttributeError, getattr, tpm, "reads")
+
+    def test_sessions(self):
+        """A session may stand for its handle, as a handle and as a parameter."""
+        with ModelDevice() as device:
+            tpm = Caller(device)
+            tpm.start_up()
+            session = tpm.session()
+            wanted = tpm.command("FlushContext", flushHandle=session.handle)
+            self.assertEqual(tpm.command("FlushContext", flushHandle=session), wanted)
+            self.assertEqual(tpm.flush(session), wanted)
 
 
 class Words(unittest.TestCase):

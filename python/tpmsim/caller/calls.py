@@ -1,10 +1,13 @@
-"""The commands, which are called by their names in Part 3, and a response class for each command.
-Both are made from the table of commands, `tpmsim.standard.commands`. The types of each command are
-in calls.pyi, which packing/call_types.py writes from the same table.
+"""The commands, which are called by their names in Part 3 or prepared by their short names, and a
+response class for each command. All are made from the table of commands,
+`tpmsim.standard.commands`. The types of each command are in calls.pyi, which packing/call_types.py
+writes from the same table.
 """
 
+import functools
 from typing import Any, Callable, Sequence
 
+from tpmsim.caller import short_names
 from tpmsim.caller.entries import Means, Prepared, Response, Session
 from tpmsim.caller.knowledge import Knowledge
 from tpmsim.standard import CC, given, nv, objects, Short
@@ -52,12 +55,32 @@ RESPONSES = {code: response_class(code) for code in CC}
 globals().update({it.__name__: it for it in RESPONSES.values()})
 
 
+def number_of(value: Any) -> Any:
+    """Returns the handle of a session; returns any other value unchanged."""
+    return value.handle if isinstance(value, Session) else value
+
+
 class Commands(Knowledge):
-    """Prepares any command by its name."""
+    """Prepares any command by its name, or by its short name, as in `reading(index, 8)`."""
 
     def by(self, uses: Sequence[Means], handle: int) -> Sequence[Means]:
         """Returns the uses or, if there are none, the known authorization value of the handle."""
         return uses or [self.auth_value(handle)]
+
+    def asked(
+        self, code: CC, those: Sequence[int | str | Session], uses: Sequence[Means], *values: Any
+    ) -> Prepared:
+        """Prepares a command with a value for each parameter. Without `uses`, the known
+        authorization value of the first handle authorizes the command, as a password.
+        """
+        if len(those) != len(code.handles):
+            raise TypeError(f"{code.name} takes {len(code.handles)} handles")
+        pairs = zip(code.handles, map(number_of, those))
+        numbers = [given.handle(wanted.name, it) for wanted, it in pairs]
+        if code.authorized:
+            uses = self.by(uses, numbers[0])
+        parameters = given.write_in_order(code, *map(number_of, values))
+        return self.prepare(code, numbers, parameters, *uses)
 
     def command(
         self,
@@ -73,15 +96,18 @@ class Commands(Knowledge):
         if not isinstance(name, CC) and name not in CC.__members__:
             raise KeyError(f"{name} is not a command that the device serves")
         code = name if isinstance(name, CC) else CC[name]
-        if len(those) != len(code.handles):
-            raise TypeError(f"{code.name} takes {len(code.handles)} handles")
-        numbers = [
-            it.handle if isinstance(it, Session) else given.handle(wanted.name, it)
-            for wanted, it in zip(code.handles, those)
-        ]
-        if code.authorized:
-            uses = self.by(uses, numbers[0])
-        return self.prepare(code, numbers, given.write_all(code, arguments), *uses)
+        return self.asked(code, those, uses, *given.in_order(code, arguments))
+
+    def __getattr__(self, name: str) -> Callable[..., Prepared]:
+        """Returns the method that prepares the command with this short name."""
+        if name not in short_names.COMMANDS:
+            raise AttributeError(f"{type(self).__name__} has no {name}")
+        return functools.partial(self.short, short_names.COMMANDS[name])
+
+    def short(self, code: CC, *those: Any, **named: Any) -> Prepared:
+        """Prepares a command from the arguments of its short name."""
+        handles, values, uses = short_names.bound(code, those, named)
+        return self.asked(code, handles, uses, *values)
 
 
 class Calls(Commands):

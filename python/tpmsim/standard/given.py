@@ -94,14 +94,14 @@ def write_in_order(code: CC, *values: Any) -> bytes:
     return b"".join(write(it, value) for it, value in pairs)
 
 
-def write_all(code: CC, values: dict[str, Any]) -> bytes:
-    """Returns the encoding of parameters, by their names in Part 3; raises TypeError for a missing
-    or unknown parameter.
+def in_order(code: CC, values: dict[str, Any]) -> list[Any]:
+    """Returns the values of a command's parameters in the order of Part 3, given by their names;
+    raises TypeError for a missing or unknown parameter.
     """
     names = [it.name for it in code.parameters]
     if set(values) != set(names):
         raise TypeError(f"{code.name} takes {', '.join(names) or 'no parameters'}")
-    return write_in_order(code, *(values[it] for it in names))
+    return [values[it] for it in names]
 
 
 def handle(name: str, value: int | str) -> int:
