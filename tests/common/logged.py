@@ -129,8 +129,7 @@ def answered(*parts):
 
 
 def check_uses(program, *options):
-    """Uses a device in three runs, each with its own log. Returns the last run and its responses.
-    """
+    """Uses a device in three runs, each with its own log. Returns the last run and its responses."""
     for use in (use_sessions, use_indices, use_lockout):
         run = Run(program, "_".join([use.__name__, *options]), 4, *options)
         responses = answered(use, draw)

@@ -2,7 +2,6 @@
 library, and makes some of their calls fail.
 """
 
-import functools
 import os
 import pathlib
 import select
@@ -20,15 +19,6 @@ SERVE = "serve --socket socket --image image --entropy entropy --locality 0 --co
 
 # Files that any run may leave in its folder.
 OWN = {"image", "image.lock", "entropy"}
-
-# Functions that allocate memory, but that the shim refuse.c does not replace.
-OTHERS = (
-    "aligned_alloc calloc memalign mmap mmap64 mremap posix_memalign pvalloc reallocarray"
-    " brk sbrk valloc".split()
-)
-
-FOREVER = 1_000_000_000
-CALLS = pathlib.Path("calls")
 
 # The data that is exchanged with turns.h: before a run, the two numbers of the run; after the run,
 # its status from waitpid, and whether the shim has marked the run.
@@ -115,8 +105,8 @@ class Shim:
 
     def __init__(self, program, name, folder="."):
         self.program, self.library = program, pathlib.Path(folder, f"{name}.so").resolve()
-        words = ["cc", "-O1", "-shared", "-fPIC", "-o", self.library, HERE / f"{name}.c"]
-        subprocess.run(words, check=True)
+        words = "cc -std=gnu11 -O1 -fno-builtin -shared -fPIC -o".split()
+        subprocess.run([*words, self.library, HERE / f"{name}.c"], check=True)
 
     def check_calls(self, others):
         """Checks that the program calls none of the functions `others`, which do the same as the
@@ -203,85 +193,3 @@ class Turns:
     def run(self, *numbers, **told):
         self.begin(*numbers, **told)
         return self.ended()
-
-
-class Tears(Shim):
-    """A program with the shim tear.c, which records the calls and makes one of them fail."""
-
-    def __init__(self, program):
-        super().__init__(program, "tear")
-
-    def begun(self, words, folder=".", at=0, error=0, calls=CALLS, **told):
-        """Begins a run in which call number `at` fails with an error. If `error` is 0, the call
-        succeeds, but transfers only half of its bytes.
-        """
-        calls.unlink(missing_ok=True)
-        told |= {"AT": at, "ERROR": error, "CALLS": calls.resolve()}
-        return super().begun(words, folder, **told)
-
-    @staticmethod
-    def noted(calls=CALLS):
-        """Returns the calls of a run so far, each with the name of the file that it accesses."""
-        return [call.strip() for call in calls.read_text("ascii").splitlines()]
-
-
-class Refusals(Shim):
-    """A program with the shim refuse.c, which makes allocations fail. The two numbers of a run are
-    the numbers of the first and the last allocation that fail.
-    """
-
-    def __init__(self, program):
-        super().__init__(program, "refuse")
-        if "malloc" not in self.check_calls(OTHERS):
-            fail("the program does not get its memory by malloc")
-
-    def whole(self, words, stdin=b""):
-        """Returns the result of a run in which no allocation fails."""
-        with Turns(self, words) as turns:
-            return turns.run(stdin=stdin)
-
-    @staticmethod
-    def each(turns, run):
-        """Makes each allocation fail in turn: in one run only that allocation, and in another run
-        all later ones too. `run` starts a run with the two numbers. Yields each allocation's number
-        and the results of both runs.
-        """
-        turn = 1
-        while True:
-            alone = run(turn, turn)
-            if not turns.is_marked:
-                break
-            yield turn, alone, run(turn, FOREVER)
-            turn += 1
-        if turn == 1:
-            fail("nothing could be refused")
-
-    def compare(self, label, turns, run, whole, starved, needed=FOREVER, explains=False):
-        """Checks that a run results in `starved` if an allocation and all later ones fail. If only
-        one allocation fails, the result may also be `whole`. If only allocations after the first
-        `needed` ones fail, the result must be `whole`. If `explains` is true, the program uses its
-        last allocations only to explain a fault that it has already printed. Then `needed` is at
-        least 1, and is determined by the first run that results in `whole`. Returns the number of
-        allocations.
-        """
-        for turn, alone, rest in self.each(turns, run):
-            if explains and turn > 1 and turn <= needed and rest == whole:
-                needed = turn - 1
-            if alone not in ((whole, starved) if turn <= needed else (whole,)):
-                fail(f"{label}, allocation {turn} refused: {alone}")
-            if rest != (starved if turn <= needed else whole):
-                fail(f"{label}, refused all from allocation {turn}: {rest}")
-        return turn
-
-    def check(self, label, words, whole, memory, stdin=b"", needed=FOREVER, explains=False):
-        """Like `compare`, but begins the runs itself, and compares how they end. If no allocation
-        fails, a run must end with the result `whole`.
-        """
-        with Turns(self, words) as turns:
-            run = functools.partial(turns.run, stdin=stdin)
-            given = run()
-            if given != whole:
-                fail(f"{label}, nothing refused: {given}")
-            allocations = self.compare(label, turns, run, whole, memory, needed, explains)
-        print(f"{label}: {memory.error.decode().strip()}")
-        return allocations
