@@ -15,7 +15,15 @@ from dataclasses import dataclass
 HERE = pathlib.Path(__file__).resolve().parent
 AT_MOST = 60
 SHOWN = 2000
-SERVE = "serve --socket socket --image image --entropy entropy --locality 0 --connections".split()
+
+
+def serving(entropy):
+    """Returns the arguments that serve a device. The number of connections must follow."""
+    words = f"serve --socket socket --image image --entropy {entropy} --locality 0 --connections"
+    return words.split()
+
+
+SERVE = serving("entropy")
 
 # Files that any run may leave in its folder.
 OWN = {"image", "image.lock", "entropy"}

@@ -26,6 +26,7 @@ from dataclasses import dataclass, field
 from tests.keeping.counted import answer_of, BEGIN, DEFINE, INCREMENT, INITIALIZE, POWER, READ
 from tests.keeping.counted import STARTUP, SUCCESS
 from tests.keeping.hosts import does, Files, Host, Module, Python, Refused, Run, Simulator
+from tests.keeping.trials import forked
 
 FOLDER, FULL, CLONE_NEWPID, SECONDS_TO_END = "state", "full", 0x20000000, 60
 INTERRUPT_EACH, KILL_EACH = 0.0007, 0.02
@@ -51,12 +52,8 @@ class Worker:
         jumps = {"FAILING_CLOCK": "1"} if self.choices.random() < 0.5 else {}
         return self.kind(self.files, jumps)
 
-    @property
-    def is_program(self) -> bool:
-        return self.kind in (Run, Simulator)
-
     def works(self) -> None:
-        if not self.is_program:
+        if not self.kind.is_program:
             ctypes.CDLL(None).failing_jumps(int(self.choices.random() < 0.5))
             signal.signal(signal.SIGALRM, lambda *_: None)
             signal.setitimer(signal.ITIMER_REAL, INTERRUPT_EACH, INTERRUPT_EACH)
@@ -71,8 +68,8 @@ class Worker:
             except Refused as fault:
                 if "damaged" in str(fault):
                     self.says_wrong(str(fault))
-                is_open = is_open and not self.is_program
-                if self.is_program:
+                is_open = is_open and not self.kind.is_program
+                if self.kind.is_program:
                     self.host.close()
                 time.sleep(0.001)
         self.host.close()
@@ -93,7 +90,7 @@ class Worker:
             self.host.close()
             self.host = self.made()
             does(self.host, BEGIN, FOLDER)
-        elif chance < 0.96 and not self.is_program and not self.has_forked:
+        elif chance < 0.96 and not self.kind.is_program and not self.has_forked:
             self.forks()
 
     def asks(self, act: str) -> object:
@@ -128,19 +125,18 @@ class Worker:
         """
         self.has_forked = True
         ctypes.CDLL(None).unshare(CLONE_NEWPID)
-        child = os.fork()
-        if child == 0:
-            self.until = min(self.until, time.monotonic() + 0.3)
-            self.choices = random.Random(self.choices.random())
-            signal.setitimer(signal.ITIMER_REAL, INTERRUPT_EACH, INTERRUPT_EACH)
-            try:
-                while time.monotonic() < self.until:
-                    with contextlib.suppress(Refused):
-                        self.step()
-            finally:
-                os._exit(0)
+        child = forked(self.goes_on)
         while time.monotonic() < self.until and os.waitpid(child, os.WNOHANG) == (0, 0):
             self.step()
+
+    def goes_on(self) -> None:
+        """Continues in a forked child, for a short time."""
+        self.until = min(self.until, time.monotonic() + 0.3)
+        self.choices = random.Random(self.choices.random())
+        signal.setitimer(signal.ITIMER_REAL, INTERRUPT_EACH, INTERRUPT_EACH)
+        while time.monotonic() < self.until:
+            with contextlib.suppress(Refused):
+                self.step()
 
 
 @dataclass
@@ -165,18 +161,13 @@ def begun(kind: type[Host], files: Files, seed: int, until: float) -> tuple[int,
     reports.
     """
     reads, writes = os.pipe()
-    child = os.fork()
-    if child == 0:
-        try:
-            os.close(reads)
-            os.setsid()
-            worker = Worker(kind, files, writes, seed, until)
-            try:
-                worker.works()
-            except Exception as fault:  # pylint: disable=broad-except
-                worker.says_wrong(f"{type(fault).__name__}: {fault}")
-        finally:
-            os._exit(0)
+
+    def works() -> None:
+        os.close(reads)
+        os.setsid()
+        Worker(kind, files, writes, seed, until).works()
+
+    child = forked(works)
     os.close(writes)
     return child, reads
 
@@ -206,7 +197,8 @@ def plays(files: Files, seconds: float, processes: int, seed: int, fills: bool) 
                 chooser.unregister(key.fd)
                 os.close(key.fd)
                 kill(pids[key.fd])
-                os.waitpid(pids.pop(key.fd), 0)
+                _, status = os.waitpid(pids.pop(key.fd), 0)
+                counts.wrong += os.waitstatus_to_exitcode(status) > 0
                 if time.monotonic() < until:
                     begins()
         if next_kill < time.monotonic() < until and pids:

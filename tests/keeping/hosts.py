@@ -52,10 +52,11 @@ class Refused(Exception):
 class Host:
     """A host and its operations. `part` is a part of the name of its library. If `answers_all` is
     false, only the next response shows that the host has begun, or has cycled the power. If
-    `comes_on` is true, starting the host powers the device on.
+    `comes_on` is true, starting the host powers the device on. `is_program` says whether the host
+    is a process of its own.
     """
 
-    name, part, answers_all, comes_on = "", "", True, False
+    name, part, answers_all, comes_on, is_program = "", "", True, False, False
 
     def __init__(self, files: Files, environment: dict[str, str] | None = None) -> None:
         self.files, self.environment = files, {**os.environ, **(environment or {})}
@@ -214,8 +215,7 @@ class Run(Host):
     response to the next line shows that the cycle is done.
     """
 
-    name, answers_all = "the program", False
-
+    name, answers_all, is_program = "the program", False, True
     process: subprocess.Popen[bytes] | None = None
 
     @property
@@ -269,10 +269,10 @@ class Run(Host):
 class Power(Run):
     """tpmsim-power, which makes one power cycle."""
 
-    name = "tpmsim-power"
+    name, options = "tpmsim-power", list[str]()
 
     def words(self, folder: str) -> list[str]:
-        return [str(self.files.power), folder]
+        return [str(self.files.power), folder, *self.options]
 
     def power(self) -> None:
         """Does nothing, because the program itself cycles the power."""
@@ -282,7 +282,7 @@ class ProgramPower(Power):
     name = "tpmsim power"
 
     def words(self, folder: str) -> list[str]:
-        return [str(self.files.program), "power", folder]
+        return [str(self.files.program), "power", folder, *self.options]
 
 
 class Simulator(OnDevice, Run):
@@ -292,8 +292,8 @@ class Simulator(OnDevice, Run):
     name, answers_all, comes_on = "the simulator", True, True
 
     def words(self, folder: str) -> list[str]:
-        files = [str(self.files.simulator), "--port", "0", "--state", folder, "--force", "always"]
-        return files
+        words = ["--port", "0", "--state", folder, "--force", "always"]
+        return [str(self.files.simulator), *words]
 
     def begin(self, folder: str) -> None:
         super().begin(folder)

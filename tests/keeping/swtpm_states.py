@@ -20,11 +20,11 @@ import time
 from dataclasses import dataclass, replace
 from typing import Iterator, Sequence
 
+from tests.common.faults import Failing, Fault, said, sweep
 from tests.keeping.counted import BEGIN, COMMANDS, Counted, DEFINE, INCREMENT, NOTHING, POWER, READ
 from tests.keeping.counted import STARTUP, State
 from tests.keeping.hosts import OnDevice, Refused
-from tests.keeping.trials import check_all, Meeting, one_line, said, Shim, Start
-from tests.keeping.trials import state_of, Told, Sweep
+from tests.keeping.trials import check_all, Checked, one_line, Start, state_of, Told
 from tpmsim.device import SwtpmDevice
 from tpmsim.standard import number
 
@@ -186,14 +186,14 @@ def seen(swtpm: Swtpm) -> State:
 
 
 @dataclass
-class Case(Sweep):
+class Case(Checked):
     """The folder that swtpm begins with, and the operations that it must do. `without` is the number
     of runs that left no device.
     """
 
     library: pathlib.Path
     room: pathlib.Path
-    shim: Shim
+    shim: Failing
     start: SwtpmStart
     script: Sequence[str]
     without: int = 0
@@ -202,34 +202,37 @@ class Case(Sweep):
     def label(self) -> str:
         return f"swtpm, {self.start.label}"
 
-    def tries(self, meeting: Meeting) -> tuple[str, str]:
+    def tries(self, fault: Fault) -> tuple[str, str]:
         """Returns the call that failed, and a description of what is wrong. If there is no device,
         logs the reason to standard error.
         """
         folder = self.room / "state"
         self.start.put(folder)
-        told = {**self.shim.environment(meeting), "FAILING_IN": str(folder)}
+        told = {**self.shim.environment(fault), "FAILING_IN": str(folder)}
         swtpm, again = Swtpm(self.library, folder, told), Swtpm(self.library, folder, {})
         played = Played(self.start)
         try:
             played.play(swtpm, (BEGIN, *self.script))
             swtpm.close()
-        except Refused as fault:
-            played.told.strange.append(str(fault))
+        except Refused as refusal:
+            played.told.strange.append(str(refusal))
         acts = " ".join(played.told.acts)
         met, wrong = self.shim.met(), "; ".join(played.told.strange)
         try:
             state = seen(again)
-        except Refused as fault:
+        except Refused as refusal:
             self.without += 1
             if not wrong:
-                said(f"{self.label}: {meeting}, {met}: {one_line(fault)}, {again.logged}: {acts}")
+                said(f"{self.label}: {fault}, {met}: {one_line(refusal)}, {again.logged}: {acts}")
             return met, wrong
         finally:
             again.close()
         if state not in played.states:
             wrong = f"{wrong} {state} is none of {sorted(played.states)}"
         return met, wrong and f"{wrong}: {acts}"
+
+    def runs(self, share: int) -> Iterator[str]:
+        return sweep(self.tries, share)
 
     def check(self, share: int) -> tuple[int, int]:
         runs, wrongs = super().check(share)
@@ -248,7 +251,7 @@ def made(library: pathlib.Path, folder: pathlib.Path, is_suspended: bool) -> Sta
     return State(True, is_suspended, True, 2)
 
 
-def cases(library: pathlib.Path, room: pathlib.Path, shim: Shim) -> Iterator[Case]:
+def cases(library: pathlib.Path, room: pathlib.Path, shim: Failing) -> Iterator[Case]:
     kept, left = room / "kept", room / "left"
     counts, cycles = (INCREMENT, READ), (POWER, STARTUP, INCREMENT, READ)
     ended = SwtpmStart("a kept device", made(library, kept, False), kept)
@@ -262,7 +265,7 @@ def cases(library: pathlib.Path, room: pathlib.Path, shim: Shim) -> Iterator[Cas
 def main() -> None:
     folder, path, share, *words = sys.argv[1:]
     library = pathlib.Path(folder).resolve()
-    check_all(lambda room: cases(library, room, Shim(path, room)), share, *words)
+    check_all(lambda room: cases(library, room, Failing(path, room)), share, *words)
 
 
 if __name__ == "__main__":
