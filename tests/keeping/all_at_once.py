@@ -180,8 +180,7 @@ class Crowd:
         self.begun += 1
 
     def hears(self, seconds: float) -> int:
-        """Reads reports, for at most some seconds. Returns the number of processes that have ended.
-        """
+        """Reads reports, for at most some seconds. Returns the number of processes that have ended."""
         ended = 0
         for key, _ in self.chooser.select(seconds):
             text = os.read(key.fd, 65536)
@@ -214,7 +213,9 @@ def kill(group: int) -> None:
         os.killpg(group, signal.SIGKILL)
 
 
-def plays(files: Files, seconds: float, processes: int, seed: int, fills: bool) -> tuple[Crowd, int]:
+def plays(
+    files: Files, seconds: float, processes: int, seed: int, fills: bool
+) -> tuple[Crowd, int]:
     """Runs this many processes at once, for this many seconds. Each process that ends is replaced.
     Returns the processes, and the number of kills.
     """
@@ -279,7 +280,9 @@ def main() -> None:
         f"{crowd.begun} processes, {kills} killed, {crowd.count(DONE)} increments answered, "
         f"{crowd.unknown} not known, {more} there{wrong and ': '}{wrong}"
     )
-    print(f"{processes} processes at once: {'WRONG' if wrong else 'all that was answered is there'}")
+    print(
+        f"{processes} processes at once: {'WRONG' if wrong else 'all that was answered is there'}"
+    )
     shutil.rmtree(FOLDER)
     sys.exit(bool(wrong))
 

@@ -9,7 +9,7 @@ answer that is not possible in any of these states is wrong.
 from dataclasses import dataclass, replace
 from typing import Iterable, Iterator
 
-BEGIN, POWER, STARTUP = "begin", "power", "startup"
+BEGIN, POWER, SUSPEND, STARTUP = "begin", "power", "suspend", "startup"
 DEFINE, INCREMENT, READ = "define", "increment", "read"
 INDEX = "01000002"
 COMMANDS = {
@@ -44,6 +44,8 @@ def outcome(state: State, act: str) -> tuple[State, object]:
         return replace(state, is_there=True), None
     if act == POWER:
         return replace(state, is_started=False), None
+    if act == SUSPEND:
+        return state, None
     if act == STARTUP:
         return replace(state, is_started=True), INITIALIZE if state.is_started else SUCCESS
     if not state.is_started:
@@ -58,9 +60,8 @@ def outcome(state: State, act: str) -> tuple[State, object]:
 
 
 def answer_of(act: str, response: bytes) -> object:
-    """Returns the answer that a response contains, in the form in which `outcome` returns answers.
-    """
-    if act in (BEGIN, POWER):
+    """Returns the answer that a response contains, in the form in which `outcome` returns answers."""
+    if act not in COMMANDS:
         return None
     code = int.from_bytes(response[6:10], "big")
     if act != READ or code:
@@ -69,8 +70,7 @@ def answer_of(act: str, response: bytes) -> object:
 
 
 class Counted:
-    """The possible states of a device, and those that it may have had since the last power cycle.
-    """
+    """The possible states of a device, and those that it may have had since the last power cycle."""
 
     def __init__(self, states: Iterable[State]) -> None:
         self.states = set(states)

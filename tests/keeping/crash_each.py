@@ -192,7 +192,7 @@ class Crashes(Case):
             yield f"the host did only {told.acts} {told.strange}"
 
 
-def cases(files: Files, room: pathlib.Path) -> Iterator[Crashes]:
+def cases(files: Files, room: pathlib.Path, _: object) -> Iterator[Crashes]:
     starts = Starts.made(files, room)
     counts, new = (INCREMENT, READ, INCREMENT), (STARTUP, DEFINE, INCREMENT)
     cycles = (INCREMENT, POWER, STARTUP, INCREMENT, READ)
@@ -209,12 +209,6 @@ def cases(files: Files, room: pathlib.Path) -> Iterator[Crashes]:
             yield Crashes(files, room, host, starts.grown, counts, is_always)
 
 
-def main() -> None:
-    program, folder, path, share, *words = sys.argv[1:]
-    files = Files.of(program, folder)
-    os.environ["LD_PRELOAD"] = str(pathlib.Path(path).resolve())
-    check_all(lambda room: cases(files, room), share, *words, noun="crashes")
-
-
 if __name__ == "__main__":
-    main()
+    os.environ["LD_PRELOAD"] = str(pathlib.Path(sys.argv[3]).resolve())
+    check_all(cases, Files.of(*sys.argv[1:3]), *sys.argv[3:], noun="crashes")

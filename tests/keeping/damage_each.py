@@ -55,11 +55,5 @@ def cases(files: Files, room: pathlib.Path, shim: Failing) -> Iterator[Damaged]:
         yield Damaged(files, room, host, start, (POWER,), shim)
 
 
-def main() -> None:
-    program, folder, path, share = sys.argv[1:]
-    files = Files.of(program, folder)
-    check_all(lambda room: cases(files, room, Failing(path, room)), share)
-
-
 if __name__ == "__main__":
-    main()
+    check_all(cases, Files.of(*sys.argv[1:3]), *sys.argv[3:])

@@ -63,11 +63,5 @@ def cases(files: Files, room: pathlib.Path, shim: Failing) -> Iterator[EachCall]
             yield EachCall(files, room, host, starts.grown, counts[:2], shim)
 
 
-def main() -> None:
-    program, folder, path, share, *words = sys.argv[1:]
-    files = Files.of(program, folder)
-    check_all(lambda room: cases(files, room, Failing(path, room)), share, *words)
-
-
 if __name__ == "__main__":
-    main()
+    check_all(cases, Files.of(*sys.argv[1:3]), *sys.argv[3:])

@@ -65,11 +65,5 @@ def cases(files: Files, room: pathlib.Path, shim: Failing) -> Iterator[Past]:
     yield Past(files, room, KeepingPast, Start("", NOTHING, kept), (POWER,), shim)
 
 
-def main() -> None:
-    program, folder, path = sys.argv[1:]
-    files = Files.of(program, folder)
-    check_all(lambda room: cases(files, room, Failing(path, room)), share="1")
-
-
 if __name__ == "__main__":
-    main()
+    check_all(cases, Files.of(*sys.argv[1:3]), *sys.argv[3:])

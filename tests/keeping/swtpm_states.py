@@ -22,13 +22,13 @@ from typing import Iterator, Sequence
 
 from tests.common.faults import Failing, Fault, said, sweep
 from tests.keeping.counted import BEGIN, COMMANDS, Counted, DEFINE, INCREMENT, NOTHING, POWER, READ
-from tests.keeping.counted import STARTUP, State
+from tests.keeping.counted import STARTUP, State, SUSPEND
 from tests.keeping.hosts import OnDevice, Refused
 from tests.keeping.trials import check_all, Checked, one_line, Start, state_of, Told
 from tpmsim.device import SwtpmDevice
 from tpmsim.standard import number
 
-SECONDS, SUSPEND = 20, "suspend"
+SECONDS = 20
 # Requests of the control channel, and the flag of INIT that removes the volatile state after it is
 # resumed. QEMU sends this flag when it resumes a guest.
 INIT, SHUTDOWN, STORE_VOLATILE = 2, 3, 10
@@ -129,54 +129,31 @@ class SwtpmStart(Start):
         folder.mkdir(exist_ok=True)
 
 
-class Played:
-    """The operations of a run, and the states that the device may have after them."""
-
-    def __init__(self, start: SwtpmStart) -> None:
-        self.told, self.is_resumed = Told(Counted([start.state])), start.is_suspended
-        self.may_be_suspended, self.is_suspended = start.is_suspended, False
-
-    def play(self, swtpm: Swtpm, script: Sequence[str]) -> None:
-        """Makes swtpm perform the operations one by one, until one fails because swtpm has ended.
-        """
-        for act in script:
-            is_done = self.suspend(swtpm) if act == SUSPEND else self.act(swtpm, act)
-            if not is_done and (act in (BEGIN, POWER) or not swtpm.is_running):
-                return
-
-    def act(self, swtpm: Swtpm, act: str) -> bool:
-        """Makes swtpm perform an operation. Returns whether it was answered."""
-        self.told.asks(act)
+def play(swtpm: Swtpm, script: Sequence[str], told: Told, is_resumed: bool) -> None:
+    """Makes swtpm perform the operations one by one, until one fails because swtpm has ended."""
+    for act in script:
+        told.asks(act)
         try:
-            response = swtpm.does(act, self.is_resumed)
+            response = swtpm.does(act, is_resumed)
         except Refused as fault:
-            self.told.ends(f"refused ({one_line(fault)})")
-            return False
-        if response == FAILURE:
-            self.told.ends("failure")
-            return False
-        self.told.answers(response)
-        return True
+            told.ends(f"refused ({one_line(fault)})")
+        else:
+            if response != FAILURE:
+                told.answers(response)
+                continue
+            told.ends("failure")
+        if act in (BEGIN, POWER) or not swtpm.is_running:
+            return
 
-    def suspend(self, swtpm: Swtpm) -> bool:
-        self.may_be_suspended = True
-        try:
-            swtpm.does(SUSPEND)
-        except Refused as fault:
-            self.told.acts.append(f"{SUSPEND}:refused ({one_line(fault)})")
-            return False
-        self.told.acts.append(SUSPEND)
-        self.is_suspended = True
-        return True
 
-    @property
-    def states(self) -> set[State]:
-        """Returns the states that the device may have when swtpm is started again."""
-        running = set(self.told.counted.states)
-        cycled = {replace(it, is_started=False) for it in running}
-        if self.is_suspended:
-            return running
-        return running | cycled if self.may_be_suspended else cycled
+def states_after(told: Told, start: SwtpmStart) -> set[State]:
+    """Returns the states that the device may have when swtpm is started again."""
+    running = told.counted.states
+    cycled = {replace(it, is_started=False) for it in running}
+    if f"{SUSPEND}=None" in told.acts:
+        return running
+    may_be_suspended = start.is_suspended or any(it.startswith(SUSPEND) for it in told.acts)
+    return running | cycled if may_be_suspended else cycled
 
 
 def seen(swtpm: Swtpm) -> State:
@@ -208,27 +185,27 @@ class Case(Checked):
         """
         folder = self.room / "state"
         self.start.put(folder)
-        told = {**self.shim.environment(fault), "FAILING_IN": str(folder)}
-        swtpm, again = Swtpm(self.library, folder, told), Swtpm(self.library, folder, {})
-        played = Played(self.start)
+        environment = {**self.shim.environment(fault), "FAILING_IN": str(folder)}
+        swtpm, again = Swtpm(self.library, folder, environment), Swtpm(self.library, folder, {})
+        told, start = Told(Counted([self.start.state])), self.start
         try:
-            played.play(swtpm, (BEGIN, *self.script))
+            play(swtpm, (BEGIN, *self.script), told, start.is_suspended)
             swtpm.close()
         except Refused as refusal:
-            played.told.strange.append(str(refusal))
-        acts = " ".join(played.told.acts)
-        met, wrong = self.shim.met(), "; ".join(played.told.strange)
+            told.strange.append(str(refusal))
+        met, acts, states = self.shim.met(), " ".join(told.acts), states_after(told, start)
         try:
             state = seen(again)
         except Refused as refusal:
             self.without += 1
-            if not wrong:
+            if not told.strange:
                 said(f"{self.label}: {fault}, {met}: {one_line(refusal)}, {again.logged}: {acts}")
-            return met, wrong
+        else:
+            if state not in states:
+                told.strange.append(f"{state} is none of {sorted(states)}")
         finally:
             again.close()
-        if state not in played.states:
-            wrong = f"{wrong} {state} is none of {sorted(played.states)}"
+        wrong = "; ".join(told.strange)
         return met, wrong and f"{wrong}: {acts}"
 
     def runs(self, share: int) -> Iterator[str]:
@@ -262,11 +239,5 @@ def cases(library: pathlib.Path, room: pathlib.Path, shim: Failing) -> Iterator[
     yield Case(library, room, shim, suspended, (*counts, SUSPEND))
 
 
-def main() -> None:
-    folder, path, share, *words = sys.argv[1:]
-    library = pathlib.Path(folder).resolve()
-    check_all(lambda room: cases(library, room, Failing(path, room)), share, *words)
-
-
 if __name__ == "__main__":
-    main()
+    check_all(cases, pathlib.Path(sys.argv[1]).resolve(), *sys.argv[2:])

@@ -43,8 +43,7 @@ class Told:
         self.waiting.append(act)
 
     def answers(self, response: bytes) -> None:
-        """Records that all waiting operations were done, and that the last one had this response.
-        """
+        """Records that all waiting operations were done, and that the last one had this response."""
         *before, last = self.waiting
         self.waiting = []
         self.counted.has(before)
@@ -59,8 +58,7 @@ class Told:
         self.waiting = []
 
     def ends(self, how: str) -> None:
-        """Records that the waiting operations ended without an answer, so they may have been done.
-        """
+        """Records that the waiting operations ended without an answer, so they may have been done."""
         if self.waiting:
             self.acts.append(f"{'+'.join(self.waiting)}:{how}")
             self.counted.may_have(self.waiting)
@@ -169,8 +167,7 @@ class Child:
         self.says(word, text)
 
     def plays(self, script: Sequence[str]) -> None:
-        """Performs the operations, even if some are refused. Begins again until the host is open.
-        """
+        """Performs the operations, even if some are refused. Begins again until the host is open."""
         before = len(os.listdir("/proc/self/fd"))
         for act in (BEGIN, *script):
             if not self.host.is_open:
@@ -352,16 +349,22 @@ class Sweep(Case):
 
 
 def check_all(
-    cases: Callable[[pathlib.Path], Iterable[Any]], share: str, *words: str, noun: str = "runs"
+    cases: Callable[[Any, pathlib.Path, Failing], Iterable[Checked]],
+    hosts: object,
+    path: str,
+    share: str = "1",
+    word: str = "",
+    noun: str = "runs",
 ) -> NoReturn:
-    """Checks the cases that `cases` makes in a temporary folder. If `words` is not empty, checks
-    only those whose label contains the word. Ends this program, with status 1 if something is
-    wrong.
+    """Checks the cases that `cases` makes of the hosts, in a temporary folder, with the shim at a
+    path. Checks only those whose label contains the word. Ends this program, with status 1 if
+    something is wrong.
     """
     runs = wrongs = 0
     with tempfile.TemporaryDirectory() as name:
-        for case in cases(pathlib.Path(name).resolve()):
-            if not words or words[0] in case.label:
+        room = pathlib.Path(name).resolve()
+        for case in cases(hosts, room, Failing(path, room)):
+            if word in case.label:
                 more, wrong = case.check(int(share))
                 runs, wrongs = runs + more, wrongs + wrong
     said(f"{runs} {noun}, {wrongs} wrong")

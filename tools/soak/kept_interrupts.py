@@ -32,7 +32,7 @@ from tpmsim.device import BadImage, DeviceEnded, KeptDevice
 PROCESSES, SECONDS, SECONDS_TO_END = 3, 0.5, 20
 PACKAGE = str(pathlib.Path(tpmsim.device.__file__).parent)
 MOST_INTERRUPTS, MOST_LINES, DELAYS = 3, 40, (3e-5, 5e-4)
-NO_FILES = Files(pathlib.Path(), pathlib.Path())
+NO_FILES = Files()
 
 # Further reports of a process: a call, and an interrupt.
 CALL, INTERRUPT = b"c", b"i"
