@@ -8,14 +8,13 @@ expected image.
 """
 
 import os
-import socket
 import sys
 
 from tpmsim.model.machine import Model
 from tpmsim.standard import lines
 from tests.common.client import answer, connected
 from tests.common.kept_image import BESIDE, identity, IMAGE, KeptRun
-from tests.common.shims import end, fail, FILE, serving
+from tests.common.shims import close, end, fail, FILE, serving
 from tests.common.streams import device_told, image_told
 
 RANDOM = bytes(256)
@@ -66,14 +65,8 @@ class Run(KeptRun):
 
     def connect(self):
         """Closes the connection, and opens a new one."""
-        self.close()
+        close(self.client)
         self.client = connected("socket")
-
-    def close(self):
-        self.client.shutdown(socket.SHUT_WR)
-        if self.client.recv(1):
-            fail("there is more than the responses")
-        self.client.close()
 
     def kill(self):
         super().kill()
@@ -91,7 +84,7 @@ def check_each(program):
     second = sum(run.tell_and_look(*LINES[2:]))
     if old == identity():
         fail("the clock is not saved behind a connection")
-    run.close()
+    close(run.client)
     end(run.process)
     run.check_image("the end")
     print(f"{len(LINES)} commands, and {first} saves; then {len(LINES) - 2}, and {second}")

@@ -71,6 +71,14 @@ def end(process, wanted=WELL, label="a run"):
         fail(f"{label} ended with {given}, and not {wanted}")
 
 
+def close(client):
+    """Ends a connection. The program must have sent only the responses that were read."""
+    client.shutdown(socket.SHUT_WR)
+    if client.recv(1):
+        fail("there are more bytes than responses")
+    client.close()
+
+
 def ran(*words, stdin=b""):
     """Runs a program to its end. Returns its status and output."""
     done = subprocess.run(words, input=stdin, capture_output=True, timeout=AT_MOST, check=False)

@@ -11,7 +11,6 @@ the expected device in the image.
 
 import collections
 import errno
-import socket
 import sys
 from dataclasses import dataclass, field, replace
 from functools import partial
@@ -19,7 +18,8 @@ from functools import partial
 import torn_rivals
 from client import answer, connected
 from tests.common.faults import MOVING, NO_FAULT, Tears
-from tests.common.shims import ENTROPY, FILE, HERE, SERVE, SOCKET, WELL, Ending, Room, ended, fail
+from tests.common.shims import close, ENTROPY, FILE, HERE, SERVE, SOCKET, WELL, Ending, Room, ended
+from tests.common.shims import fail
 from tpmsim.model import machine
 from tpmsim.model.image import image, open_image
 from tpmsim.standard import lines
@@ -163,12 +163,9 @@ def talked(process, buffers):
             if told is None:
                 break
             answers.append(told)
-        client.shutdown(socket.SHUT_WR)
-        if client.recv(1):
-            fail("there are more bytes than responses")
+        close(client)
     except (BrokenPipeError, ConnectionResetError):
-        pass
-    client.close()
+        client.close()
     return answers
 
 
