@@ -8,13 +8,12 @@ import errno
 import functools
 import os
 import pathlib
-import subprocess
 import sys
 from dataclasses import dataclass
 from enum import IntEnum
 from typing import Any, Callable, Iterable, Iterator
 
-from tests.common.shims import Ending, Shim, Turns, fail
+from tests.common.shims import Ending, fail, Path, Process, Shim, Turns
 
 # The faults that failing.c can cause in a call.
 Act = IntEnum(
@@ -126,17 +125,18 @@ class Tears(Shim):
     def __init__(self, program: str) -> None:
         super().__init__(program, "failing")
 
-    def begun(
+    def begins(
         self,
         words: Iterable[str],
-        folder: str | pathlib.Path = ".",
+        folder: Path = ".",
         fault: Fault = NO_FAULT,
         calls: pathlib.Path = CALLS,
-        report: str | pathlib.Path = os.devnull,
-    ) -> "subprocess.Popen[bytes]":
+        report: Path = os.devnull,
+    ) -> Process:
+        """Begins a run with a fault. `calls` and `report` are the files to which the shim writes."""
         calls.unlink(missing_ok=True)
         told = fault.told(report)
-        return super().begun(words, folder, FAILING=told, FAILING_CALLS=calls.resolve())
+        return self.begun(words, folder, FAILING=told, FAILING_CALLS=calls.resolve())
 
     @staticmethod
     def noted(calls: pathlib.Path = CALLS) -> list[str]:

@@ -20,7 +20,7 @@ ABOVE = pathlib.Path("above")
 
 def order(program, label, words, stdin=b""):
     """Prints the order in which a run syncs files, renames them and answers."""
-    ending = ended(program.begun(words), stdin)
+    ending = ended(program.begins(words), stdin)
     calls = [call for call in program.noted() if call.startswith(FORCING)]
     print(f"{label}: status {ending.status}, {', '.join(calls) or 'nothing'}")
 

@@ -67,7 +67,7 @@ class Restore:
             shutil.rmtree(FOLDER, ignore_errors=True)
             if is_over:
                 shutil.copytree(KEPT, FOLDER)
-            ending = ended(self.program.begun(WORDS, fault=fault))
+            ending = ended(self.program.begins(WORDS, fault=fault))
             *before, call = ["", *self.program.noted()][: fault.number + 1]
             if len(before) < fault.number:
                 return "", ""

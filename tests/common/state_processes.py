@@ -20,6 +20,7 @@ INCREMENTED = "80020000001300000000000000000000010000"
 def begun(program: str, *acts: str) -> "subprocess.Popen[bytes]":
     """Begins a run that reads its commands from a pipe."""
     run = shims.begun([program, "run", "--state", "state", "-"])
+    assert run.stdin
     run.stdin.write("".join(f"cmd {COMMANDS[act].hex()}\n" for act in acts).encode("ascii"))
     run.stdin.close()
     run.stdin = None
@@ -35,7 +36,9 @@ def count(program: str) -> int:
     """Returns the number that the index has counted."""
     (line,) = answers(begun(program, READ))
     answer = answer_of(READ, bytes.fromhex(line))
-    return answer[1] if isinstance(answer, tuple) else shims.fail(f"the index is gone: {answer}")
+    if not isinstance(answer, tuple):
+        shims.fail(f"the index is gone: {answer}")
+    return int(answer[1])
 
 
 def together(program: str, processes: int, each: int) -> None:

@@ -172,7 +172,7 @@ def talked(process, buffers):
 def served(program, text, fault):
     """Runs the program, with or without an image, and makes a call fail."""
     ROOM.furnish(text, b"".join(map(random_of, range(0 if text is None else 1, COMMANDS + 1))))
-    process = program.begun([*SERVE, str(len(SENT))], ROOM.path, fault)
+    process = program.begins([*SERVE, str(len(SENT))], ROOM.path, fault)
     answers = [talked(process, buffers) for buffers in SENT]
     ending, image = ended(process), ROOM.image
     return Service(ending, answers, image_told(image), ROOM.left, image)
@@ -254,7 +254,7 @@ def wrong_next(program, torn):
     """Checks that the next run opens the image that an interrupted run left, and removes the other
     files of that run.
     """
-    process = program.begun([*SERVE, "1"], ROOM.path)
+    process = program.begins([*SERVE, "1"], ROOM.path)
     talked(process, [])
     ending, left = ended(process), set(ROOM.left) - {".0"}
     saved = Model(None).image if torn.text is None else torn.image
@@ -300,7 +300,7 @@ def check_words(program, label, words, stdin=b""):
     """
 
     def run(fault=NO_FAULT):
-        return ended(program.begun(words, fault=fault), stdin)
+        return ended(program.begins(words, fault=fault), stdin)
 
     def wrong_ending(_, torn):
         is_front = whole.output.startswith(torn.output)

@@ -25,7 +25,7 @@ class Rival:
         self.calls = ROOM.path / f"{name}.calls"
         words = [f"{name}.{own}" if it == own else it for it in SERVE]
         fault, go = Fault(at, Act.AWAITS), (ROOM.path / "go").resolve()
-        self.process = program.begun([*words, "1000"], ROOM.path, fault, self.calls, go)
+        self.process = program.begins([*words, "1000"], ROOM.path, fault, self.calls, go)
 
     @property
     def noted(self):

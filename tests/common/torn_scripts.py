@@ -90,7 +90,7 @@ def answers_to(process):
 def ran(program, text, fault):
     """Runs the program, with or without an image, and makes a call fail."""
     ROOM.furnish(text, RANDOM)
-    process = program.begun(RUN, ROOM.path, fault)
+    process = program.begins(RUN, ROOM.path, fault)
     answers = list(answers_to(process))
     return Result(ended(process), answers, ROOM.image, ROOM.left)
 

@@ -264,7 +264,7 @@ def value(files: Files) -> int:
     host.close()
     if not isinstance(answer, tuple):
         sys.exit(f"WRONG: the index is gone: {answer}")
-    return answer[1]
+    return int(answer[1])
 
 
 def main() -> None:

@@ -124,7 +124,8 @@ class Disk:
         if not self.is_there or (not self.is_named and (how == LEAST or choices.random() < 0.5)):
             return
         folder.mkdir(mode=0o700)
-        names = choices.choice(self.names) if how in PARTS else self.names[-how]
+        ends = self.names[0], self.names[-1]
+        names = choices.choice(self.names) if how in PARTS else ends[how == ALL]
         for name, number in names.items():
             (folder / name).write_bytes(self.files[number].left(choices, how))
             (folder / name).chmod(0o600)
@@ -137,7 +138,7 @@ class Crashes(Case):
     is_always: bool
     right = "no crash takes what was promised"
 
-    def plays(self, mark: Callable[[str], None], environment: dict[str, str]) -> None:
+    def plays(self, mark: Callable[[str], object], environment: dict[str, str]) -> None:
         host = self.host(self.files, environment)
         for word, text in performed(host, self.script, self.folder):
             mark(f"{word} {text}")

@@ -38,7 +38,7 @@ class Damaged(Sweep):
         return self.host.name
 
     def wrong(self, told: Told) -> str:
-        before, now = (pathlib.Path(it, "journal") for it in (self.start.folder, self.folder))
+        before, now = (self.room / it / "journal" for it in ("damaged", self.folder))
         if now.read_bytes() == before.read_bytes():
             return "" if FRONT in told.counted.states else "nothing was done"
         return super().wrong(told)
@@ -46,13 +46,13 @@ class Damaged(Sweep):
 
 def cases(files: Files, room: pathlib.Path, shim: Failing) -> Iterator[Damaged]:
     """Makes a device that has counted to 3, with damage in the record of the second increment."""
-    start = Start("", FRONT, room / "damaged")
-    sizes = made(files, start.folder, (STARTUP, DEFINE, *[INCREMENT] * 3))
-    text = bytearray((start.folder / "journal").read_bytes())
+    folder = room / "damaged"
+    sizes = made(files, folder, (STARTUP, DEFINE, *[INCREMENT] * 3))
+    text = bytearray((folder / "journal").read_bytes())
     text[(sizes[-3] + sizes[-2]) // 2] ^= 1
-    (start.folder / "journal").write_bytes(text)
+    (folder / "journal").write_bytes(text)
     for host in (Cut, ProgramCut):
-        yield Damaged(files, room, host, start, (POWER,), shim)
+        yield Damaged(files, room, host, Start("", FRONT, folder), (POWER,), shim)
 
 
 if __name__ == "__main__":

@@ -45,13 +45,17 @@ class Host:
     """A host and its operations. `part` is a part of the name of its library. If `answers_all` is
     false, only the next response shows that the host has begun, or has cycled the power. If
     `comes_on` is true, starting the host powers the device on. `is_program` says whether the host
-    is a process of its own. Other hosts have the property `is_open`.
+    is a process of its own.
     """
 
     name, part, answers_all, comes_on, is_program = "", "", True, False, False
 
     def __init__(self, files: Files, environment: dict[str, str] | None = None) -> None:
         self.files, self.environment = files, {**os.environ, **(environment or {})}
+
+    @property
+    def is_open(self) -> bool:
+        return False
 
     def begin(self, folder: str) -> None:
         raise NotImplementedError

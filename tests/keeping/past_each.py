@@ -50,7 +50,7 @@ class Past(Sweep):
 
     def kind_of(self, name: str) -> str:
         """Describes a past journal: its letter, the journal at the beginning, or a new one."""
-        path, first = pathlib.Path(self.folder, name), self.start.folder / "journal"
+        path, first = pathlib.Path(self.folder, name), self.room / "kept" / "journal"
         text = path.read_bytes() if path.exists() else b"none"
         if text == first.read_bytes():
             return "journal"

@@ -53,7 +53,7 @@ class Swtpm(OnDevice):
 
     @property
     def opened(self) -> SwtpmDevice:
-        if self.device is None:
+        if not isinstance(self.device, SwtpmDevice):
             raise Refused("there is no connection")
         return self.device
 
@@ -99,7 +99,7 @@ class Swtpm(OnDevice):
             return self.execute(COMMANDS[act])
         return b""
 
-    def close(self) -> int:
+    def close(self) -> tuple[int, str]:
         """Ends swtpm with its control channel, or with a signal if there is no connection. Returns
         its status.
         """
@@ -111,7 +111,7 @@ class Swtpm(OnDevice):
         if self.device is not None:
             self.device.close()
         try:
-            return self.process.wait(SECONDS)
+            return self.process.wait(SECONDS), ""
         except subprocess.TimeoutExpired:
             self.process.kill()
             self.process.wait()
@@ -124,9 +124,9 @@ class SwtpmStart(Start):
 
     is_suspended: bool = False
 
-    def put(self, folder: pathlib.Path) -> None:
+    def put(self, folder: str | pathlib.Path) -> None:
         super().put(folder)
-        folder.mkdir(exist_ok=True)
+        pathlib.Path(folder).mkdir(exist_ok=True)
 
 
 def play(swtpm: Swtpm, script: Sequence[str], told: Told, is_resumed: bool) -> None:

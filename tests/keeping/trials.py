@@ -246,7 +246,11 @@ def counting(files: Files, folder: pathlib.Path, least: int) -> State:
 class Checked:
     """Runs of a host. If no run is wrong, `check` prints the text `right`."""
 
-    label, right = "", "as it was answered"
+    right = "as it was answered"
+
+    @property
+    def label(self) -> str:
+        return ""
 
     def runs(self, share: int) -> Iterator[str]:
         """Makes one in every `share` runs. Yields, for each run, a description of what is wrong, or
@@ -354,6 +358,7 @@ def check_all(
     path: str,
     share: str = "1",
     word: str = "",
+    *,
     noun: str = "runs",
 ) -> NoReturn:
     """Checks the cases that `cases` makes of the hosts, in a temporary folder, with the shim at a
