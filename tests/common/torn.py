@@ -251,8 +251,8 @@ class Tear:
 
 
 def wrong_next(program, torn):
-    """Checks that the next run opens the image that an interrupted run left, and removes the other
-    files of that run.
+    """Returns what is wrong with the next run. It must open the image that an interrupted run left,
+    and remove the other files of that run.
     """
     process = program.begins([*SERVE, "1"], ROOM.path)
     talked(process, [])
