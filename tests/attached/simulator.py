@@ -12,6 +12,7 @@ import socket
 import subprocess
 import sys
 import tempfile
+from typing import Callable
 
 from tpmsim.caller import area, Caller
 from tpmsim.device import KeptDevice, SimulatorDevice
@@ -32,11 +33,17 @@ LAUNCHED = [
 
 
 class Served:
-    """A running simulator, and the addresses of its devices."""
+    """A running simulator, and the addresses of its devices. Its process first calls `begins`."""
 
-    def __init__(self, *words: object, devices: int = 1) -> None:
-        given = [PROGRAM, "--port", "0", *map(str, words)]
-        self.process = subprocess.Popen(given, stdout=subprocess.PIPE, text=True)
+    def __init__(
+        self, *words: object, devices: int = 1, begins: Callable[[], None] | None = None
+    ) -> None:
+        self.process = subprocess.Popen(
+            [PROGRAM, "--port", "0", *map(str, words)],
+            stdout=subprocess.PIPE,
+            preexec_fn=begins,
+            text=True,
+        )
         assert self.process.stdout is not None
         lines = [self.process.stdout.readline().split() for _ in range(devices)]
         self.addresses = [(host, int(port)) for host, port in lines]
@@ -214,4 +221,5 @@ def main() -> None:
                 print(f"{act.__name__}: {type(fault).__name__}: {fault}")
 
 
-main()
+if __name__ == "__main__":
+    main()

@@ -11,10 +11,9 @@ import pathlib
 import resource
 import select
 import socket
-import subprocess
-import sys
 import time
 
+from tests.attached.simulator import Served
 from tpmsim.caller import area, Caller
 from tpmsim.device import SimulatorDevice
 from tpmsim.device.base import DeviceEnded
@@ -25,14 +24,6 @@ IMAGE = pathlib.Path("image")
 
 def limit():
     resource.setrlimit(resource.RLIMIT_NOFILE, (FILES, FILES))
-
-
-def served():
-    """Starts the server. Returns its process and its address."""
-    words = [sys.argv[1], "--port", "0", "--image", IMAGE]
-    process = subprocess.Popen(words, stdout=subprocess.PIPE, preexec_fn=limit, text=True)
-    host, port = process.stdout.readline().split()
-    return process, (host, int(port))
 
 
 def refused(idle):
@@ -74,18 +65,16 @@ def connected(address):
                 return "none"
 
 
-process, address = served()
-with SimulatorDevice(*address, SECONDS) as device:
-    tpm = Caller(device)
-    tpm.start_up()
-    idle = [
-        socket.create_connection((address[0], address[1] + i % 2), SECONDS) for i in range(IDLE)
-    ]
-    print("some are refused, and some are not:", IDLE - FILES <= refused(idle) < IDLE)
-    print("a change of the first client:", said(lambda: changes(tpm, 0x0100_0001)))
-    print("another change:", said(lambda: changes(tpm, 0x0100_0002)))
-    for client in idle:
-        client.close()
-    print("a new client's bytes:", connected(address))
-process.terminate()
-print("status", process.wait(SECONDS))
+with Served("--image", IMAGE, begins=limit) as served:
+    host, port = served.addresses[0]
+    with SimulatorDevice(host, port, SECONDS) as device:
+        tpm = Caller(device)
+        tpm.start_up()
+        idle = [socket.create_connection((host, port + i % 2), SECONDS) for i in range(IDLE)]
+        print("some are refused, and some are not:", IDLE - FILES <= refused(idle) < IDLE)
+        print("a change of the first client:", said(lambda: changes(tpm, 0x0100_0001)))
+        print("another change:", said(lambda: changes(tpm, 0x0100_0002)))
+        for client in idle:
+            client.close()
+        print("a new client's bytes:", connected((host, port)))
+    print("status", served.end())

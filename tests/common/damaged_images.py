@@ -202,8 +202,7 @@ def damage(comparison, text):
 
 
 def device_that_saved(program):
-    """Returns the Python device after it has executed LINES. The program must save the same image.
-    """
+    """Returns the Python device after it has executed LINES. The program must save the same image."""
     device = Model()
     commands = [lines.assemble(line.encode("ascii")) for line in LINES]
     for buffer in commands:

@@ -4,14 +4,15 @@
 
 The process that renamed the journal may have been killed before it synced the folder. The process
 that created the folder may also have been killed before it synced the parent. Therefore each run
-syncs the folder and its parent once, before it prints a response. The shim tear.c records the
+syncs the folder and its parent once, before it prints a response. The shim failing.c logs the
 calls.
 """
 
 import pathlib
 import sys
 
-from tests.common.shims import Tears, ended
+from tests.common.faults import Tears
+from tests.common.shims import ended
 
 FORCING = ("fsync ", "fdatasync ", "rename ", "write output")
 ABOVE = pathlib.Path("above")
@@ -19,7 +20,7 @@ ABOVE = pathlib.Path("above")
 
 def order(program, label, words, stdin=b""):
     """Prints the order in which a run syncs files, renames them and answers."""
-    ending = ended(program.begun(words), stdin)
+    ending = ended(program.begins(words), stdin)
     calls = [call for call in program.noted() if call.startswith(FORCING)]
     print(f"{label}: status {ending.status}, {', '.join(calls) or 'nothing'}")
 

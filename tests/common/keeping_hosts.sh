@@ -13,9 +13,9 @@ make_hosts() {
 }
 
 make_shims() {
-    for shim in failing disk; do
+    for shim in common/failing keeping/disk; do
         cc -std=gnu11 -O1 -Wall -Wextra -Werror -Wno-nonnull -fno-builtin -shared -fPIC \
-            -o "$1/$shim.so" "$tests/keeping/$shim.c" || return 1
+            -o "$1/${shim##*/}.so" "$tests/$shim.c" || return 1
     done
 }
 

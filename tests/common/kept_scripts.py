@@ -9,13 +9,12 @@ Python device.
 import pathlib
 import sys
 
-from tpmsim.model import player
-from tpmsim.model.image import image, open_image
+from tpmsim.model.image import open_image
 from tpmsim.model.machine import Model
+from tpmsim.model.player import Player
 from tests.common import places
-from tests.common.streams import image_told, without_clock
-from tests.common.kept_image import BESIDE, IMAGE, check_image, check_save, identity, opened
-from tests.common.shims import FILE, begun, end, ended, fail
+from tests.common.kept_image import BESIDE, IMAGE, KeptRun
+from tests.common.shims import end, fail, FILE
 
 PROGRAM = sys.argv[1]
 RUN = [PROGRAM, "run", "--trace", "--image", IMAGE]
@@ -35,70 +34,55 @@ DEFINE = b"do NV_DefineSpace OWNER pw:- - 01000002000b0002001200000008"
 INCREMENT = b"do NV_Increment OWNER 01000002 pw:-"
 
 
-class Run:
+class Run(KeptRun):
     """A run of the program, and the Python device that plays the same lines."""
 
-    def __init__(self, device=None, *words):
-        self.player, self.is_saved = player.Player(device), device is not None
-        self.process = begun([*RUN, *words, "-"])
-        self.commands = self.saves = 0
+    compared = staticmethod(bytes)
+
+    def __init__(self, *words, new=None):
+        super().__init__([*RUN, *words, "-"], new or Model())
+        self.player = Player(self.device)
 
     def write(self, *lines):
         self.process.stdin.write(b"".join(line + b"\n" for line in lines))
         self.process.stdin.flush()
 
     def read(self, line):
-        """Checks the output of the run for a line, and returns the expected output."""
         wanted = self.player.play(line)
         given = [self.process.stdout.readline().decode().rstrip("\n") for _ in wanted]
         if given != wanted:
             fail(f"{line}: {given}, and not {wanted}")
         return wanted
 
-    def tell(self, *lines):
-        """Sends lines, and checks the image after each one."""
-        before = without_clock(self.player.device)
-        for line in lines:
-            old = identity()
-            self.write(line)
-            wanted = self.read(line)
-            if wanted:
-                kept = without_clock(self.player.device)
-                changes = kept != before or wanted == ["power"] or not self.is_saved
-                check_save(line, self.player.device, changes, old)
-                self.commands, self.saves = self.commands + 1, self.saves + changes
-                self.is_saved, before = True, kept
-
     def end(self, stays=False):
         """Ends the script. The image is then removed, unless `stays` is true."""
         end(self.process)
-        check_image("the end", self.player.device)
+        self.check_image("the end")
         if not stays:
             IMAGE.unlink()
 
-    def kill(self):
-        """Kills the program, and returns the device that must be in the image."""
-        self.process.kill()
-        ended(self.process)
-        return open_image(image(self.player.device))
+    def fail_to_save(self, *lines):
+        """Sends lines whose changes cannot be saved, and checks how the program ends."""
+        self.write(*lines)
+        end(self.process, FILE)
 
 
 def watch(script):
     """Plays a script line by line, and then again on the image that the first run left."""
     for again in ("", ", on its image"):
-        run = Run(opened() if again else None)
-        run.tell(*script.read_bytes().splitlines())
+        run = Run()
+        saves = run.tell_and_look(*script.read_bytes().splitlines())
         run.end(stays=not again)
-        print(f"{script.stem}{again}: {run.commands} events, {run.saves} saves")
+        print(f"{script.stem}{again}: {len(saves)} events, {sum(saves)} saves")
 
 
 def check_powers():
     """A power cycle saves the clock, even if no command before it caused a save."""
     run = Run()
-    run.tell(b"do Startup 0", b"wait 5000", b"do ReadClock", b"power", b"do ReadClock")
-    device = opened()
-    if device.clock != 5000:
-        fail(f"the clock of the image is {device.clock}")
+    run.tell_and_look(b"do Startup 0", b"wait 5000", b"do ReadClock", b"power", b"do ReadClock")
+    clock = open_image(IMAGE.read_bytes()).clock
+    if clock != 5000:
+        fail(f"the clock of the image is {clock}")
     run.end()
     print("a power cycle saves the clock")
 
@@ -110,11 +94,11 @@ def check_kills():
     lines = [b"do Startup 0", DEFINE, INCREMENT, INCREMENT, EXTEND, b"do Shutdown 1", INCREMENT]
     for count in range(1, len(lines) + 1):
         run = Run()
-        run.tell(*lines[:count])
-        device = run.kill()
-        check_image(f"killed behind {lines[count - 1]}", device, image_told)
-        again = Run(opened())
-        again.tell(b"do Startup 0", b"do NV_Read OWNER 01000002 pw:- 8 0")
+        run.tell_and_look(*lines[:count])
+        run.kill()
+        run.check_image(f"killed after {lines[count - 1]}")
+        again = Run()
+        again.tell_and_look(b"do Startup 0", b"do NV_Read OWNER 01000002 pw:- 8 0")
         again.end()
     print(f"killed behind each of {len(lines)} responses: what was told is in the image")
 
@@ -122,37 +106,29 @@ def check_kills():
 def check_entropy():
     """A new device is made from the first random bytes. Opening an existing device needs none."""
     random = bytes(range(255, -1, -1))
-    pathlib.Path("entropy").write_bytes(random + b"left over")
-    run = Run(None, "--entropy", "entropy")
-    run.player.device = Model(random)
-    run.tell(b"do Startup 0")
-    run.end(stays=True)
-    pathlib.Path("entropy").write_bytes(b"")
-    run = Run(opened(), "--entropy", "entropy")
-    run.tell(b"do Startup 0")
-    run.end()
+    for text in (random + b"left over", b""):
+        pathlib.Path("entropy").write_bytes(text)
+        run = Run("--entropy", "entropy", new=Model(random))
+        run.tell_and_look(b"do Startup 0")
+        run.end(stays=bool(text))
     print("a new device is made of the first 256 random bytes")
 
 
 def check_unsaved():
     """A response is sent only after its change is saved. If the save fails, no response is sent."""
     BESIDE.mkdir()
-    run = Run()
     (BESIDE / "file").touch()
-    run.write(b"do GetRandom 4")
-    end(run.process, FILE)
+    Run().fail_to_save(b"do GetRandom 4")
     if IMAGE.exists():
         fail("there is an image")
     (BESIDE / "file").unlink()
     BESIDE.rmdir()
     run = Run()
-    run.tell(b"do Startup 0", DEFINE)
+    run.tell_and_look(b"do Startup 0", DEFINE)
     kept = IMAGE.read_bytes()
     BESIDE.mkdir()
-    run.write(b"do GetRandom 4")
-    run.read(b"do GetRandom 4")
-    run.write(INCREMENT, b"do GetRandom 4")
-    end(run.process, FILE)
+    run.tell(b"do GetRandom 4")
+    run.fail_to_save(INCREMENT, b"do GetRandom 4")
     if IMAGE.read_bytes() != kept:
         fail("the image is another one")
     BESIDE.rmdir()
@@ -167,7 +143,7 @@ def check_pieces():
     run.write(*lines)
     for line in lines:
         run.read(line)
-    check_image("many commands at once", run.player.device)
+    run.check_image("many commands at once")
     run.end()
     print("many commands at once are saved")
 

@@ -17,6 +17,7 @@ after that one.
 """
 
 import collections
+import contextlib
 import hashlib
 import pathlib
 import random
@@ -29,12 +30,12 @@ import time
 from tpmsim.caller import area, BY_OWNER, Caller, CLEAR, counter, Refused
 from tpmsim.device import DeviceEnded, ServedDevice
 from tpmsim.standard import RH_OWNER
-from tests.common.shims import begun, ended, Ending, WELL
+from tests.common.shims import begun, ended, Ending, serving, WELL
 
-SERVE = "serve --socket socket --image image --entropy /dev/zero --locality 0 --connections".split()
 LONGEST_LIVES = [0.005, 0.05]
 DIGEST_SIZE = 32
 COUNTER, NUMBER = 0x0100_0002, 0x0100_0003
+MOST_CONNECTIONS = 4294967295
 
 
 class Wrong(Exception):
@@ -43,12 +44,6 @@ class Wrong(Exception):
 
 class Client(Caller):
     """A caller with its own connection."""
-
-    def answers(self):
-        """Sends TPM2_Startup(CLEAR), even if the device is already started. Raises DeviceEnded if
-        the stream ends first.
-        """
-        self.device.execute(self.starting(CLEAR).buffer())
 
     def number(self):
         """Returns the number of connections that the device has had. Checks that both indices
@@ -75,13 +70,22 @@ class Client(Caller):
         client.close()
 
 
+def serves(program, connections):
+    return begun([program, *serving("/dev/zero"), str(connections)])
+
+
 def connected(process):
-    """Connects a client as soon as the socket exists. Returns None if the program has ended."""
+    """Connects a client as soon as the socket exists, and sends TPM2_Startup(CLEAR), even if the
+    device is started. Returns None if the program has ended.
+    """
     while process.poll() is None:
         try:
-            return Client(ServedDevice("socket"))
+            client = Client(ServedDevice("socket"))
         except (FileNotFoundError, ConnectionRefusedError):
             time.sleep(0.0005)
+        else:
+            client.device.execute(client.starting(CLEAR).buffer())
+            return client
     return None
 
 
@@ -91,14 +95,12 @@ def ends_so(process, wanted):
         raise Wrong(f"a run ended with {given}")
 
 
-def manufacture(program):
-    """Makes an image of a new device, with 1 in both indices."""
-    process = begun([program, *SERVE, "1"])
+@contextlib.contextmanager
+def one_connection(program):
+    """Serves one connection. The run must then end well."""
+    process = serves(program, 1)
     client = connected(process)
-    client.start_up()
-    client.define(counter(COUNTER, BY_OWNER))
-    client.define(area(NUMBER, BY_OWNER))
-    client.more(0)
+    yield client
     client.close()
     ends_so(process, WELL)
 
@@ -109,7 +111,6 @@ def serve(process, known):
     """
     may_be_saved = False
     while client := connected(process):
-        client.answers()
         # This connection was answered, so the previous one has ended.
         known, may_be_saved = known + may_be_saved, False
         yield known, may_be_saved
@@ -126,8 +127,7 @@ def until_killed(program, known, life):
     """Serves connections until the program is killed. Returns the last values that `serve` yielded,
     and whether a connection was answered.
     """
-    process = begun([program, *SERVE, "4294967295"])
-    killed = threading.Event()
+    process, killed = serves(program, MOST_CONNECTIONS), threading.Event()
 
     def kill():
         killed.set()
@@ -155,47 +155,45 @@ def looked_at(program):
     image = pathlib.Path("image").read_bytes()
     if hashlib.sha256(image[:-DIGEST_SIZE]).digest() != image[-DIGEST_SIZE:]:
         raise Wrong("the image is not whole")
-    ends_so(begun([program, *SERVE, "0"]), WELL)
-    process = begun([program, *SERVE, "1"])
-    client = connected(process)
-    client.start_up()
-    number = client.number()
-    client.close()
-    ends_so(process, WELL)
-    return number
+    ends_so(serves(program, 0), WELL)
+    with one_connection(program) as client:
+        return client.number()
 
 
-def tidy():
-    """Removes the folders that killed runs left. Returns whether there were any."""
+def killed(program, known, life, counts):
+    """Makes a run that is killed, and checks the image. Returns the number of connections in the
+    image.
+    """
+    first = known
+    known, may_be_saved, started = until_killed(program, known, life)
     left = list(pathlib.Path().glob(".[0-9]*"))
     for folder in left:
         shutil.rmtree(folder)
-    return bool(left)
+    counts["unserved"] += not started
+    counts["image.new"] += pathlib.Path("image.new").exists()
+    counts["folder"] += bool(left)
+    number = looked_at(program)
+    if number not in range(known, known + may_be_saved + 1):
+        raise Wrong(f"{number} connections are in the image, and {known} had ended")
+    counts["saved"] += number > known
+    counts["lost"] += may_be_saved and number == known
+    counts["connections"] += number - first
+    return number
 
 
 def main():
     program, count, seed, *rest = sys.argv[1:]
-    lives = random.Random(int(seed))
-    manufacture(program)
-    known = 1
-    counts = collections.Counter()
+    lives, counts, known = random.Random(int(seed)), collections.Counter(), 1
+    with one_connection(program) as client:
+        client.define(counter(COUNTER, BY_OWNER))
+        client.define(area(NUMBER, BY_OWNER))
+        client.more(0)
     for kill in range(1, int(count) + 1):
-        first = known
+        life = lives.uniform(0, lives.choice(LONGEST_LIVES))
         try:
-            life = lives.uniform(0, lives.choice(LONGEST_LIVES))
-            known, may_be_saved, started = until_killed(program, known, life)
-            counts["unserved"] += not started
-            counts["image.new"] += pathlib.Path("image.new").exists()
-            counts["folder"] += tidy()
-            number = looked_at(program)
-            if number not in range(known, known + may_be_saved + 1):
-                raise Wrong(f"{number} connections are in the image, and {known} had ended")
+            known = killed(program, known, life, counts)
         except (Refused, Wrong) as wrong:
             sys.exit(f"kill {kill} of seed {seed}: {wrong}")
-        counts["saved"] += number > known
-        counts["lost"] += may_be_saved and number == known
-        counts["connections"] += number - first
-        known = number
     print(f"{count} kills: each image opened, none older than the last connection that had ended")
     if rest:
         print(

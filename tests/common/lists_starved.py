@@ -17,7 +17,8 @@ import sys
 from tpmsim.model import image, machine
 from tpmsim.model.player import Player
 from tpmsim.standard import CC, lines
-from tests.common.shims import HERE, Ending, Refusals, Turns, fail
+from tests.common.faults import Refusals
+from tests.common.shims import HERE, Ending, Turns, fail
 
 MEMORY = Ending(3, error=b"tpmsim_lists: memory\n")
 STARVED, SUCCESS = machine.STARVED.hex(), bytes(4).hex()
@@ -134,27 +135,27 @@ def check_image(program, label, text):
     """
     path, words = pathlib.Path("image"), ["open", "image"]
     path.write_bytes(text)
-    program.check(label, words, Ending(0, text), MEMORY)
+    program.check(label, words, Ending(0, text))
     no_image = Ending(1, error=b"tpmsim_lists: image\n")
     body = text[image.BODY_AT : -image.DIGEST_AT_END]
     longer = image.framed(body + b"\0")
     path.write_bytes(longer[:-1] + bytes([longer[-1] ^ 1]))
-    needed = program.check(f"{label}, with a wrong digest", words, no_image, MEMORY)
+    needed = program.check(f"{label}, with a wrong digest", words, no_image)
     path.write_bytes(longer)
-    program.check(f"{label}, with a byte too many", words, no_image, MEMORY, needed=needed)
+    program.check(f"{label}, with a byte too many", words, no_image, needed=needed)
 
 
 def check_line(program, line):
     trace, _ = Player().play(b"do " + line.encode("ascii"))
-    program.check(f"a line, {line}", ["line", line], Ending(0, f"{trace}\n".encode()), MEMORY)
+    program.check(f"a line, {line}", ["line", line], Ending(0, f"{trace}\n".encode()))
 
 
-program = Refusals(sys.argv[1])
+program = Refusals(sys.argv[1], MEMORY)
 check_image(program, "the image of a new device", image.image(Player().device))
 check_image(program, "the image of a full device", full_image())
 check_line(program, "Startup 0")
 check_line(program, "GetRandom 4")
-program.check("a bad line", ["line", "x"], Ending(1, error=b"tpmsim_lists: line\n"), MEMORY)
-program.check("no file", ["open", "none"], Ending(1, error=b"tpmsim_lists: file\n"), MEMORY)
-program.check("other words", ["run"], Ending(1, error=b"tpmsim_lists: usage\n"), MEMORY)
+program.check("a bad line", ["line", "x"], Ending(1, error=b"tpmsim_lists: line\n"))
+program.check("no file", ["open", "none"], Ending(1, error=b"tpmsim_lists: file\n"))
+program.check("other words", ["run"], Ending(1, error=b"tpmsim_lists: usage\n"))
 Script(program).check()

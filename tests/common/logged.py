@@ -22,9 +22,8 @@ from tpmsim.explain.play import Play
 from tpmsim.standard import AES, RH_OWNER
 from tpmsim.standard.objects import Attribute
 from client import connected
-from tests.common.shims import begun, end, ended, fail, FILE, ran, WELL
+from tests.common.shims import begun, end, ended, fail, FILE, ran, serving, WELL
 
-SERVE = "serve --socket socket --image image --entropy /dev/urandom --locality 0".split()
 MOST_CONNECTIONS = 4294967295
 LINES_OF_A_HEAD, LINES_OF_AN_ENTRY = 2, 5
 CUTS = 12
@@ -40,7 +39,7 @@ class Run:
         self.program, self.log = program, pathlib.Path(folder, f"{name}.log")
         self.start = pathlib.Path(f"{name}.start")
         shutil.copy("image", self.start)
-        words = [*SERVE, "--connections", str(connections), "--log", str(self.log), *options]
+        words = [*serving("/dev/urandom"), str(connections), "--log", str(self.log), *options]
         self.process = begun([program, *words])
 
     def played(self, log):
@@ -129,8 +128,7 @@ def answered(*parts):
 
 
 def check_uses(program, *options):
-    """Uses a device in three runs, each with its own log. Returns the last run and its responses.
-    """
+    """Uses a device in three runs, each with its own log. Returns the last run and its responses."""
     for use in (use_sessions, use_indices, use_lockout):
         run = Run(program, "_".join([use.__name__, *options]), 4, *options)
         responses = answered(use, draw)

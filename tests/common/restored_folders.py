@@ -4,23 +4,20 @@
 
 After a run on a folder with an old device, the folder must contain this device or the device in the
 state text. After a run that succeeded it must contain the device in the text. After a run that
-failed it may contain that device only if the failed call came after the rename. The shim tear.c
-records the calls.
+failed it may contain that device only if the failed call came after the rename.
 """
 
 import errno
 import pathlib
 import shutil
 import sys
-import time
+from dataclasses import dataclass
 
-from tests.common.shims import CALLS, Ending, Tears, ended, fail, ran
+from tests.common.faults import Act, Fault, sweep, Tears
+from tests.common.shims import Ending, ended, fail, ran
 
-FOLDER, KEPT, TEXT, NEVER = (
-    pathlib.Path(name) for name in ("state", "kept", "other.text", "never")
-)
+FOLDER, KEPT, TEXT = (pathlib.Path(name) for name in ("state", "kept", "other.text"))
 WORDS = ["restore", str(FOLDER), str(TEXT)]
-AT_MOST_SECONDS = 30
 
 # The number that identifies the start of the completing layer, in a state text: its offset from the
 # end of the text, and its size. Then the size of the digest at the end.
@@ -52,84 +49,57 @@ def is_other(found: bytes, wanted: bytes) -> bool:
     return any(found[part] != wanted[part] for part in parts)
 
 
-def fresh(there: bool) -> None:
-    """Empties the folder, and copies the old device into it if `there` is true."""
-    shutil.rmtree(FOLDER, ignore_errors=True)
-    if there:
-        shutil.copytree(KEPT, FOLDER)
+@dataclass(frozen=True)
+class Restore:
+    """The program, and the state texts of the old device and of the device that it restores."""
 
+    program: Tears
+    old: bytes
+    new: bytes
 
-def is_renamed(at: int) -> bool:
-    """Returns whether call number `at` comes after the rename of the new journal."""
-    return any(call.startswith("rename") for call in Tears.noted()[: at - 1])
+    def endings(self, act: Act, is_over: bool) -> list[Ending]:
+        """Repeats a run, and makes a different call fail each time. If `is_over` is true, the folder
+        contains the old device before. Returns how the runs ended.
+        """
+        endings = []
 
+        def tries(fault: Fault) -> tuple[str, str]:
+            shutil.rmtree(FOLDER, ignore_errors=True)
+            if is_over:
+                shutil.copytree(KEPT, FOLDER)
+            ending = ended(self.program.begins(WORDS, fault=fault))
+            *before, call = ["", *self.program.noted()][: fault.number + 1]
+            if len(before) < fault.number:
+                return "", ""
+            endings.append(ending)
+            is_renamed = any(it.startswith("rename") for it in before)
+            wanted = self.new if is_renamed or ending.status == 0 or not is_over else self.old
+            is_there = is_over or (FOLDER / "journal").exists()
+            is_wrong = is_there and is_other(snapshot(self.program.program, FOLDER), wanted)
+            return call, f"another device, {ending}" if is_wrong else ""
 
-def killed(program: Tears, at: int) -> bool:
-    """Kills a run before call number `at`. Returns false if the run makes fewer calls."""
-    run = program.begun(WORDS, at=at, WAIT_FOR=NEVER)
-    ending = time.monotonic() + AT_MOST_SECONDS
-    while run.poll() is None and time.monotonic() < ending:
-        if CALLS.exists() and len(Tears.noted()) >= at:
-            run.kill()
-            run.communicate()
-            return True
-        time.sleep(0.001)
-    run.communicate()
-    return False
-
-
-def failed(program: Tears, at: int) -> Ending:
-    """Returns the result of a run in which call number `at` fails."""
-    return ended(program.begun(WORDS, at=at, error=errno.EIO))
-
-
-def kills(program: Tears, old: bytes, new: bytes) -> None:
-    """Kills a run before each call, both with and without an old device in the folder."""
-    for there in (True, False):
-        at = 0
-        fresh(there)
-        while killed(program, at + 1):
-            at += 1
-            if not there and not (FOLDER / "journal").exists():
-                fresh(there)
-                continue
-            wanted = new if is_renamed(at) or not there else old
-            if is_other(snapshot(program.program, FOLDER), wanted):
-                fail(f"killed before call {at}, {Tears.noted()[at - 1]}: another device")
-            fresh(there)
-        print(
-            f"killed before each call, {'over a device' if there else 'in a new folder'}:",
-            "no device is lost" if at > 10 else f"only {at} calls",
-        )
-
-
-def failures(program: Tears, old: bytes, new: bytes) -> None:
-    """Repeats a run in a folder with an old device, and makes a different call fail each time."""
-    at, told = 0, set()
-    while True:
-        at += 1
-        fresh(True)
-        ending = failed(program, at)
-        if len(Tears.noted()) < at:
-            break
-        found = snapshot(program.program, FOLDER)
-        wanted = new if ending.status == 0 or is_renamed(at) else old
-        if is_other(found, wanted):
-            fail(f"call {at}, {Tears.noted()[at - 1]}, failed: another device, {ending}")
-        told.add((ending.status, ending.error.decode()))
-    for status, error in sorted(told):
-        print(f"a call that fails: status {status}, {error.strip() or 'nothing is said'}")
+        for wrong in sweep(tries, variants=[(act, errno.EIO)]):
+            if wrong:
+                fail(wrong)
+        return endings
 
 
 def main() -> None:
     """Runs all tests in the current folder."""
     (path,) = sys.argv[1:]
-    program = Tears(path)
     old = device(path, KEPT, b"do Startup 0\ndo GetRandom 4\n")
     new = device(path, pathlib.Path("other"), b"do Startup 0\nwait 5000\ndo GetRandom 8\n")
     TEXT.write_bytes(new)
-    kills(program, old, new)
-    failures(program, old, new)
+    restore = Restore(Tears(path), old, new)
+    for is_over, words in ((True, "over a device"), (False, "in a new folder")):
+        kills = len(restore.endings(Act.IS_KILLED, is_over))
+        told = "no device is lost" if kills > 10 else f"only {kills} calls"
+        print(f"killed before each call, {words}: {told}")
+    for ending in sorted(
+        set(restore.endings(Act.FAILS, True)), key=lambda it: (it.status, it.error)
+    ):
+        error = ending.error.decode().strip()
+        print(f"a call that fails: status {ending.status}, {error or 'nothing is said'}")
 
 
 main()

@@ -8,21 +8,17 @@ expected image.
 """
 
 import os
-import socket
 import sys
 
 from tpmsim.model.machine import Model
 from tpmsim.standard import lines
+from tests.common.client import answer, connected
+from tests.common.kept_image import BESIDE, identity, IMAGE, KeptRun
+from tests.common.shims import close, end, fail, FILE, serving
 from tests.common.streams import device_told, image_told
-from client import answer, connected
-from tests.common.kept_image import BESIDE, IMAGE, check_image, check_save, identity, opened
-from tests.common.shims import FILE, Ending, begun, end, fail
 
-SERVE = "serve --socket socket --image image --entropy /dev/zero --locality 0 --connections".split()
-OPTION = "--save-each"
 RANDOM = bytes(256)
 MOST_CONNECTIONS = 4294967295
-KILLED = Ending(-9)
 
 INCREMENT = "NV_Increment OWNER 01000002 pw:-"
 LINES = [
@@ -44,57 +40,37 @@ def buffer_of(line):
     return lines.assemble(line.encode("ascii"))
 
 
-class Run:
-    """A run of the program, a connection to it, and the Python device that executes the same
-    commands.
-    """
+class Run(KeptRun):
+    """A run of the program, a connection to it, and the Python device."""
 
-    def __init__(self, program, connections=MOST_CONNECTIONS, options=(OPTION,)):
-        self.device = opened() if IMAGE.exists() else Model(RANDOM)
-        self.saved = device_told(self.device) if IMAGE.exists() else None
-        self.process = begun([program, *SERVE, str(connections), *options])
+    def __init__(self, program, connections=MOST_CONNECTIONS, options=("--save-each",)):
+        words = [program, *serving("/dev/zero"), str(connections), *options]
+        super().__init__(words, Model(RANDOM))
         self.client = connected("socket")
 
-    def wanted(self, line):
-        """Returns the expected response to a command. For ReadClock the response is not compared,
-        because it contains the host's time.
+    def write(self, *lines):
+        self.client.sendall(b"".join(map(buffer_of, lines)))
+
+    def read(self, line):
+        """Checks a response. That of ReadClock is not compared, because it contains the host's
+        time.
         """
+        given, wanted = answer(self.client), self.wanted(line)
+        if given is None or (given != wanted and line != "ReadClock"):
+            fail(f"{line}: {given}, and not {wanted}")
+        return given
+
+    def wanted(self, line):
         return self.device.execute(buffer_of(line), 0, RANDOM).response
-
-    def tell(self, *lines):
-        """Sends commands, and checks each response."""
-        for line in lines:
-            self.client.sendall(buffer_of(line))
-            given, wanted = answer(self.client), self.wanted(line)
-            if given is None or (given != wanted and line != "ReadClock"):
-                fail(f"{line}: {given}, and not {wanted}")
-
-    def tell_and_look(self, line):
-        """Sends a command, and then checks the image. Returns whether the image was saved."""
-        old, saved = identity(), self.saved
-        self.tell(line)
-        self.saved = device_told(self.device)
-        check_save(line, self.device, self.saved != saved, old, image_told)
-        return self.saved != saved
-
-    def check_image(self, label):
-        check_image(label, self.device, image_told)
 
     def connect(self):
         """Closes the connection, and opens a new one."""
-        self.close()
+        close(self.client)
         self.client = connected("socket")
 
-    def close(self):
-        self.client.shutdown(socket.SHUT_WR)
-        if self.client.recv(1):
-            fail("there is more than the responses")
-        self.client.close()
-
     def kill(self):
-        self.process.kill()
+        super().kill()
         self.client.close()
-        end(self.process, KILLED)
 
 
 def check_each(program):
@@ -102,13 +78,13 @@ def check_each(program):
     saved. This is tested in two connections.
     """
     run = Run(program, 2)
-    first = sum([run.tell_and_look(line) for line in LINES])
+    first = sum(run.tell_and_look(*LINES))
     old = identity()
     run.connect()
-    second = sum([run.tell_and_look(line) for line in LINES[2:]])
+    second = sum(run.tell_and_look(*LINES[2:]))
     if old == identity():
         fail("the clock is not saved behind a connection")
-    run.close()
+    close(run.client)
     end(run.process)
     run.check_image("the end")
     print(f"{len(LINES)} commands, and {first} saves; then {len(LINES) - 2}, and {second}")
@@ -122,7 +98,7 @@ def check_kills(program, count):
         run, told = Run(program), LINES[: number % len(LINES) + 1]
         run.tell(*told)
         run.kill()
-        run.check_image(f"kill {number + 1}, behind {told[-1]}")
+        run.check_image(f"kill {number + 1}, after {told[-1]}")
     print(f"{count} kills straight behind a response: all that was answered is in the image")
 
 
@@ -132,10 +108,9 @@ def check_pieces(program):
     """
     run = Run(program)
     told = ["Startup 0", *[INCREMENT] * 100]
-    run.client.sendall(b"".join(map(buffer_of, told)))
+    run.write(*told)
     for line in told[:-20]:
-        if answer(run.client) != run.wanted(line):
-            fail(f"{line}, of many at once")
+        run.read(line)
     run.kill()
     given, allowed = image_told(IMAGE.read_bytes()), [device_told(run.device)]
     for line in told[-20:]:
@@ -155,7 +130,7 @@ def check_unsaved(program):
     BESIDE.mkdir()
     kept, old = IMAGE.read_bytes(), identity()
     run.tell("GetRandom 4")
-    run.client.sendall(buffer_of(INCREMENT) + buffer_of("GetRandom 4"))
+    run.write(INCREMENT, "GetRandom 4")
     if answer(run.client) is not None:
         fail("a change that was not saved is answered")
     end(run.process, FILE)

@@ -2,7 +2,6 @@
 library, and makes some of their calls fail.
 """
 
-import functools
 import os
 import pathlib
 import select
@@ -12,23 +11,25 @@ import struct
 import subprocess
 import sys
 from dataclasses import dataclass
+from typing import Any, Iterable, NoReturn, Self, Sequence
 
 HERE = pathlib.Path(__file__).resolve().parent
 AT_MOST = 60
+Path = str | pathlib.Path
+Process = subprocess.Popen[bytes]
 SHOWN = 2000
-SERVE = "serve --socket socket --image image --entropy entropy --locality 0 --connections".split()
+
+
+def serving(entropy: str) -> list[str]:
+    """Returns the arguments that serve a device. The number of connections must follow."""
+    words = f"serve --socket socket --image image --entropy {entropy} --locality 0 --connections"
+    return words.split()
+
+
+SERVE = serving("entropy")
 
 # Files that any run may leave in its folder.
 OWN = {"image", "image.lock", "entropy"}
-
-# Functions that allocate memory, but that the shim refuse.c does not replace.
-OTHERS = (
-    "aligned_alloc calloc memalign mmap mmap64 mremap posix_memalign pvalloc reallocarray"
-    " brk sbrk valloc".split()
-)
-
-FOREVER = 1_000_000_000
-CALLS = pathlib.Path("calls")
 
 # The data that is exchanged with turns.h: before a run, the two numbers of the run; after the run,
 # its status from waitpid, and whether the shim has marked the run.
@@ -49,31 +50,39 @@ FILE, SOCKET = Ending(3, error=b"tpmsim: file\n"), Ending(3, error=b"tpmsim: soc
 ENTROPY = Ending(3, error=b"tpmsim: entropy\n")
 
 
-def fail(words):
+def fail(words: str) -> NoReturn:
     """Ends the test with a description of the fault, truncated to a readable length."""
     sys.exit(f"WRONG: {words[:SHOWN]}")
 
 
-def begun(words, folder=".", **environment):
+def begun(words: Iterable[Any], folder: Path = ".", **environment: object) -> Process:
     """Begins a run in a folder. The keyword arguments are added to its environment."""
     told = {name: str(value) for name, value in environment.items()}
-    pipes = dict.fromkeys(("stdin", "stdout", "stderr"), subprocess.PIPE)
-    return subprocess.Popen(words, cwd=folder, env={**os.environ, **told}, **pipes)
+    pipe, environ = subprocess.PIPE, {**os.environ, **told}
+    return subprocess.Popen([*words], cwd=folder, env=environ, stdin=pipe, stdout=pipe, stderr=pipe)
 
 
-def ended(process, stdin=b""):
+def ended(process: Process, stdin: bytes = b"") -> Ending:
     output, error = process.communicate(stdin, timeout=AT_MOST)
     return Ending(process.returncode, output, error)
 
 
-def end(process, wanted=WELL, label="a run"):
+def end(process: Process, wanted: Ending = WELL, label: str = "a run") -> None:
     """Checks that a run ends as expected."""
     given = ended(process)
     if given != wanted:
         fail(f"{label} ended with {given}, and not {wanted}")
 
 
-def ran(*words, stdin=b""):
+def close(client: socket.socket) -> None:
+    """Ends a connection. The program must have sent only the responses that were read."""
+    client.shutdown(socket.SHUT_WR)
+    if client.recv(1):
+        fail("there are more bytes than responses")
+    client.close()
+
+
+def ran(*words: Any, stdin: bytes = b"") -> Ending:
     """Runs a program to its end. Returns its status and output."""
     done = subprocess.run(words, input=stdin, capture_output=True, timeout=AT_MOST, check=False)
     return Ending(done.returncode, done.stdout, done.stderr)
@@ -82,10 +91,10 @@ def ran(*words, stdin=b""):
 class Room:
     """A folder with the files of a run: its image, if it has one, and its random bytes."""
 
-    def __init__(self, name):
+    def __init__(self, name: str) -> None:
         self.path = pathlib.Path(name)
 
-    def furnish(self, image, entropy):
+    def furnish(self, image: bytes | None, entropy: bytes) -> None:
         """Empties the folder, and writes the image and the random bytes. The folder itself is not
         replaced, because processes may already run in it.
         """
@@ -100,12 +109,12 @@ class Room:
         (self.path / "entropy").write_bytes(entropy)
 
     @property
-    def image(self):
+    def image(self) -> bytes | None:
         path = self.path / "image"
         return path.read_bytes() if path.exists() else None
 
     @property
-    def left(self):
+    def left(self) -> tuple[str, ...]:
         """Returns the names of the files that a run has left in the folder, except those in OWN."""
         return tuple(sorted({path.name for path in self.path.iterdir()} - OWN))
 
@@ -113,12 +122,12 @@ class Room:
 class Shim:
     """A program with a shim, which is compiled in a folder."""
 
-    def __init__(self, program, name, folder="."):
+    def __init__(self, program: str, name: str, folder: Path = ".") -> None:
         self.program, self.library = program, pathlib.Path(folder, f"{name}.so").resolve()
-        words = ["cc", "-O1", "-shared", "-fPIC", "-o", self.library, HERE / f"{name}.c"]
-        subprocess.run(words, check=True)
+        words = "cc -std=gnu11 -O1 -fno-builtin -shared -fPIC -o".split()
+        subprocess.run([*words, self.library, HERE / f"{name}.c"], check=True)
 
-    def check_calls(self, others):
+    def check_calls(self, others: Iterable[str]) -> set[str]:
         """Checks that the program calls none of the functions `others`, which do the same as the
         functions that the shim replaces. Returns the functions that it calls.
         """
@@ -129,17 +138,17 @@ class Shim:
             fail(f"the program calls {', '.join(sorted(called & set(others)))} too")
         return called
 
-    def begun(self, words, folder=".", **told):
+    def begun(self, words: Iterable[Any], folder: Path = ".", **told: object) -> Process:
         return begun([self.program, *words], folder, LD_PRELOAD=self.library, **told)
 
 
 class MemoryFile:
     """A standard stream of several runs. Each run reads or writes it from the start."""
 
-    def __init__(self, name):
+    def __init__(self, name: str) -> None:
         self.name, self.file = name, open(os.memfd_create(name), "w+b", buffering=0)
 
-    def fill(self, content):
+    def fill(self, content: bytes) -> None:
         self.file.seek(0)
         self.file.truncate()
         if content:
@@ -147,7 +156,7 @@ class MemoryFile:
             self.file.seek(0)
 
     @property
-    def content(self):
+    def content(self) -> bytes:
         self.file.seek(0)
         return self.file.read()
 
@@ -157,28 +166,32 @@ class Turns:
     the same arguments, except that the last one may differ.
     """
 
-    def __init__(self, shim, words, folder="."):
+    def __init__(self, shim: Shim, words: Iterable[str], folder: Path = ".") -> None:
         self.streams = [MemoryFile(name) for name in ("stdin", "stdout", "stderr")]
         self.is_marked = False
         self.socket, theirs = socket.socketpair(socket.AF_UNIX, socket.SOCK_SEQPACKET)
         with theirs:
-            number = theirs.fileno()
+            number, (stdin, stdout, stderr) = theirs.fileno(), (it.file for it in self.streams)
             self.process = subprocess.Popen(
                 [shim.program, *words],
                 cwd=folder,
                 env={**os.environ, "LD_PRELOAD": str(shim.library), "TURNS": str(number)},
                 pass_fds=[number],
-                **{stream.name: stream.file for stream in self.streams},
+                stdin=stdin,
+                stdout=stdout,
+                stderr=stderr,
             )
 
-    def __enter__(self):
+    def __enter__(self) -> Self:
         return self
 
-    def __exit__(self, *_):
+    def __exit__(self, *_: object) -> None:
         self.socket.close()
         self.process.wait()
 
-    def begin(self, first=0, second=0, word=None, stdin=b""):
+    def begin(
+        self, first: int = 0, second: int = 0, word: bytes | None = None, stdin: bytes = b""
+    ) -> None:
         """Begins a run with the two numbers for its shim. If `word` is given, it is the last
         argument.
         """
@@ -186,12 +199,12 @@ class Turns:
             stream.fill(content)
         self.socket.send(TURN.pack(first, second) + (b"" if word is None else word + b"\0"))
 
-    def poll(self):
+    def poll(self) -> Sequence[object] | None:
         """Returns None while the run continues, like the method `poll` of a process."""
         ready, _, _ = select.select([self.socket], [], [], 0)
         return ready or None
 
-    def ended(self):
+    def ended(self) -> Ending:
         told = self.socket.recv(REPORT.size)
         if not told:
             fail("the shim has ended")
@@ -200,88 +213,6 @@ class Turns:
         _, output, error = (stream.content for stream in self.streams)
         return Ending(os.waitstatus_to_exitcode(status), output, error)
 
-    def run(self, *numbers, **told):
-        self.begin(*numbers, **told)
+    def run(self, first: int = 0, second: int = 0, **told: Any) -> Ending:
+        self.begin(first, second, **told)
         return self.ended()
-
-
-class Tears(Shim):
-    """A program with the shim tear.c, which records the calls and makes one of them fail."""
-
-    def __init__(self, program):
-        super().__init__(program, "tear")
-
-    def begun(self, words, folder=".", at=0, error=0, calls=CALLS, **told):
-        """Begins a run in which call number `at` fails with an error. If `error` is 0, the call
-        succeeds, but transfers only half of its bytes.
-        """
-        calls.unlink(missing_ok=True)
-        told |= {"AT": at, "ERROR": error, "CALLS": calls.resolve()}
-        return super().begun(words, folder, **told)
-
-    @staticmethod
-    def noted(calls=CALLS):
-        """Returns the calls of a run so far, each with the name of the file that it accesses."""
-        return [call.strip() for call in calls.read_text("ascii").splitlines()]
-
-
-class Refusals(Shim):
-    """A program with the shim refuse.c, which makes allocations fail. The two numbers of a run are
-    the numbers of the first and the last allocation that fail.
-    """
-
-    def __init__(self, program):
-        super().__init__(program, "refuse")
-        if "malloc" not in self.check_calls(OTHERS):
-            fail("the program does not get its memory by malloc")
-
-    def whole(self, words, stdin=b""):
-        """Returns the result of a run in which no allocation fails."""
-        with Turns(self, words) as turns:
-            return turns.run(stdin=stdin)
-
-    @staticmethod
-    def each(turns, run):
-        """Makes each allocation fail in turn: in one run only that allocation, and in another run
-        all later ones too. `run` starts a run with the two numbers. Yields each allocation's number
-        and the results of both runs.
-        """
-        turn = 1
-        while True:
-            alone = run(turn, turn)
-            if not turns.is_marked:
-                break
-            yield turn, alone, run(turn, FOREVER)
-            turn += 1
-        if turn == 1:
-            fail("nothing could be refused")
-
-    def compare(self, label, turns, run, whole, starved, needed=FOREVER, explains=False):
-        """Checks that a run results in `starved` if an allocation and all later ones fail. If only
-        one allocation fails, the result may also be `whole`. If only allocations after the first
-        `needed` ones fail, the result must be `whole`. If `explains` is true, the program uses its
-        last allocations only to explain a fault that it has already printed. Then `needed` is at
-        least 1, and is determined by the first run that results in `whole`. Returns the number of
-        allocations.
-        """
-        for turn, alone, rest in self.each(turns, run):
-            if explains and turn > 1 and turn <= needed and rest == whole:
-                needed = turn - 1
-            if alone not in ((whole, starved) if turn <= needed else (whole,)):
-                fail(f"{label}, allocation {turn} refused: {alone}")
-            if rest != (starved if turn <= needed else whole):
-                fail(f"{label}, refused all from allocation {turn}: {rest}")
-        return turn
-
-    def check(self, label, words, whole, memory, stdin=b"", needed=FOREVER, explains=False):
-        """Like `compare`, but begins the runs itself, and compares how they end. If no allocation
-        fails, a run must end with the result `whole`.
-        """
-        with Turns(self, words) as turns:
-            run = functools.partial(turns.run, stdin=stdin)
-            given = run()
-            if given != whole:
-                fail(f"{label}, nothing refused: {given}")
-            allocations = self.compare(label, turns, run, whole, memory, needed, explains)
-        print(f"{label}: {memory.error.decode().strip()}")
-        return allocations

@@ -16,7 +16,8 @@ from dataclasses import dataclass
 
 from client import connected, received
 from tests.common import streams
-from tests.common.shims import FILE, HERE, SERVE, WELL, Ending, Refusals, Room, Turns, fail
+from tests.common.faults import Refusals
+from tests.common.shims import FILE, HERE, SERVE, WELL, Ending, Room, Turns, fail
 
 TOP = HERE.parent.parent
 SCRIPT = TOP / "examples/measured_boot.tpm"
@@ -69,10 +70,10 @@ def check_words(program):
     ]
     for label, words, whole in cases:
         # After a fault the program checks the environment to decide whether to explain the fault.
-        program.check(label, words, whole, MEMORY, explains=whole.status != 0)
-    program.check("a script on standard input", ["run", "-"], played, MEMORY, SCRIPT.read_bytes())
+        program.check(label, words, whole, explains=whole.status != 0)
+    program.check("a script on standard input", ["run", "-"], played, SCRIPT.read_bytes())
     for words in ["--help", "--version", "run --help", "serve --help"]:
-        program.check(words, words.split(), program.whole(words.split()), MEMORY)
+        program.check(words, words.split())
 
 
 @dataclass(frozen=True)
@@ -122,7 +123,7 @@ def check_service(program, label, image, connections):
     return ROOM.image
 
 
-program = Refusals(sys.argv[1])
+program = Refusals(sys.argv[1], MEMORY)
 check_words(program)
 check_service(program, "no image and no connection", None, 0)
 image = check_service(program, "no image, and a connection", None, 1)

@@ -2,60 +2,52 @@
 
     python3 state_processes.py PROGRAM
 
-Each command extends PCR 16. The journal must contain all answered commands. Therefore PCR 16 must
-have been extended at least once for each answered command, and at most once for each command that
-was sent.
+Each command increments an index. The journal must contain all answered commands. Therefore the
+index must have counted at least each answered command, and at most each command that was sent.
 """
 
-import hashlib
 import random
 import subprocess
 import sys
 import time
 
 from tests.common import shims
+from tests.keeping.counted import answer_of, COMMANDS, DEFINE, INCREMENT, READ, STARTUP
 
-DIGEST = "5a" * 32
-EXTEND = f"do PCR_Extend 00000010 pw:- sha256:{DIGEST}\n"
-READ = "do PCR_Read sha256:16\n"
-SUCCESS = "80020000001300000000000000000000010000"
+INCREMENTED = "80020000001300000000000000000000010000"
 
 
-def begun(program: str, script: str) -> "subprocess.Popen[bytes]":
-    """Begins a run that reads its script from a pipe."""
+def begun(program: str, *acts: str) -> "subprocess.Popen[bytes]":
+    """Begins a run that reads its commands from a pipe."""
     run = shims.begun([program, "run", "--state", "state", "-"])
-    run.stdin.write(script.encode("ascii"))
+    assert run.stdin
+    run.stdin.write("".join(f"cmd {COMMANDS[act].hex()}\n" for act in acts).encode("ascii"))
     run.stdin.close()
     run.stdin = None
     return run
 
 
 def answers(run: "subprocess.Popen[bytes]") -> list[str]:
-    """Returns the remaining responses of a run."""
+    """Returns the responses of a run."""
     return run.communicate()[0].decode("ascii").splitlines()
 
 
-def extends(program: str) -> int:
-    """Returns how often PCR 16 has been extended."""
+def count(program: str) -> int:
+    """Returns the number that the index has counted."""
     (line,) = answers(begun(program, READ))
-    value = bytes.fromhex(line)[-32:]
-    count = 0
-    hashed = bytes(32)
-    while hashed != value:
-        hashed = hashlib.sha256(hashed + bytes.fromhex(DIGEST)).digest()
-        count += 1
-        if count > 100000:
-            sys.exit("WRONG: the PCR has a value of no number of extends")
-    return count
+    answer = answer_of(READ, bytes.fromhex(line))
+    if not isinstance(answer, tuple):
+        shims.fail(f"the index is gone: {answer}")
+    return int(answer[1])
 
 
 def together(program: str, processes: int, each: int) -> None:
-    """Runs several processes at once. Each process extends PCR 16 `each` times."""
-    before = extends(program)
-    runs = [begun(program, EXTEND * each) for _ in range(processes)]
+    """Runs several processes at once. Each process increments the index `each` times."""
+    before = count(program)
+    runs = [begun(program, *[INCREMENT] * each) for _ in range(processes)]
     said = [line for run in runs for line in answers(run)]
-    after = extends(program)
-    fine = said == [SUCCESS] * (processes * each) and after - before == processes * each
+    more, wanted = count(program) - before, processes * each
+    fine = said == [INCREMENTED] * wanted and more == wanted
     print(f"{processes} processes at once: {'all' if fine else 'NOT ALL'} answered and kept")
 
 
@@ -64,19 +56,19 @@ def killed(program: str, times: int) -> None:
     rolls = random.Random(57)
     lost = 0
     for _ in range(times):
-        before = extends(program)
-        run, other = begun(program, EXTEND * 400), begun(program, EXTEND * 3)
+        before = count(program)
+        run, other = begun(program, *[INCREMENT] * 400), begun(program, *[INCREMENT] * 3)
         time.sleep(rolls.uniform(0.0, 0.08))
         run.kill()
-        said = sum(line == SUCCESS for line in answers(run) + answers(other))
-        lost += not said <= extends(program) - before <= 403
+        said = sum(line == INCREMENTED for line in answers(run) + answers(other))
+        lost += not said <= count(program) - before <= 403
     print(f"{times} processes killed: {lost} of them lost an answer")
 
 
 def main() -> None:
     """Runs all tests in the current folder."""
     (program,) = sys.argv[1:]
-    print(answers(begun(program, "do Startup 0\n"))[0])
+    print(answers(begun(program, STARTUP, DEFINE, INCREMENT))[0])
     together(program, 4, 25)
     killed(program, 12)
     power = subprocess.run([program, "power", "state"], check=False)

@@ -2,7 +2,7 @@
 
     python3 torn.py PROGRAM
 
-The shim tear.c records the calls of a run in order. Then each call is made to fail, in a run of its
+The shim failing.c logs the calls of a run in order. Then each call is made to fail, in a run of its
 own. If the call transfers bytes, it transfers only half of them in another run. The table ENDINGS
 has the expected results. A client sends one command after another, and waits for each response, so
 that it knows which commands were executed. The Python device determines the expected responses and
@@ -11,14 +11,15 @@ the expected device in the image.
 
 import collections
 import errno
-import socket
 import sys
-from dataclasses import dataclass, replace
+from dataclasses import dataclass, field, replace
+from functools import partial
 
 import torn_rivals
 from client import answer, connected
-from tests.common.shims import ENTROPY, FILE, HERE, SERVE, SOCKET, WELL, Ending, Room, Tears
-from tests.common.shims import ended, fail
+from tests.common.faults import MOVING, NO_FAULT, Tears
+from tests.common.shims import close, ENTROPY, FILE, HERE, SERVE, SOCKET, WELL, Ending, Room, ended
+from tests.common.shims import fail
 from tpmsim.model import machine
 from tpmsim.model.image import image, open_image
 from tpmsim.standard import lines
@@ -28,13 +29,11 @@ from tests.common.streams import device_told, image_told
 TOP = HERE.parent.parent
 SCRIPT = TOP / "examples/measured_boot.tpm"
 ROOM = Room("torn")
-HALF = 0
 
 # Functions that access files, sockets or the clock, and that the shim does not replace.
 OTHERS = (
-    "accept clock_nanosleep creat dup dup2 fopen fstat lseek lstat mmap open64"
-    " openat openat64 poll pread64 pwrite64 readv recvfrom recvmsg renameat renameat2"
-    " sendfile sendmsg sendto shutdown splice stat sync unlinkat writev"
+    "accept clock_nanosleep creat dup dup2 fopen lseek mmap poll readv recvfrom recvmsg renameat2"
+    " sendfile sendmsg sendto shutdown splice sync writev"
 ).split()
 
 # Texts that the test prints for additional effects of a failed call.
@@ -63,7 +62,8 @@ UNSAVED = End(FILE, ("image.new",), OLD)
 ENDINGS = {
     call: end
     for end, calls in (
-        (End(FILE), "statx image, open image.lock, flock image.lock, open image, read image"),
+        (End(FILE), "statx image, open image.lock, fchmod image.lock, flock image.lock"),
+        (End(FILE), "open image, read image"),
         (End(ENTROPY), "open entropy, statx entropy, read entropy, clock_gettime"),
         (
             End(SOCKET),
@@ -73,7 +73,7 @@ ENDINGS = {
         (End(SOCKET), "accept4"),
         (End(WELL, (), ALONE), "recv connection, send connection"),
         (End(FILE, (), OLD), "unlink image.new, open image.new"),
-        (UNSAVED, "write image.new, fsync image.new, open ., rename image.new"),
+        (UNSAVED, "fchmod image.new, write image.new, fsync image.new, open ., rename image.new"),
         (End(FILE, (), NEW), "fsync torn"),
         (End(WELL, ("socket",)), "statx socket, unlink socket"),
     )
@@ -139,20 +139,15 @@ def random_of(number):
 
 @dataclass(frozen=True)
 class Service:
-    """The result of a run: its ending, the responses to each connection, the image, and the other
-    files in the folder.
+    """The result of a run: its ending, the responses to each connection, a description of the image,
+    and the other files in the folder. The bytes of the image are not compared.
     """
 
     ending: Ending
     answers: list
-    image: bytes | str
+    image: str
     left: tuple
-
-    @property
-    def told(self):
-        """Returns this result with a description of the image instead of its bytes, for comparison.
-        """
-        return replace(self, image=image_told(self.image))
+    text: bytes | None = field(default=None, compare=False)
 
 
 def talked(process, buffers):
@@ -168,21 +163,19 @@ def talked(process, buffers):
             if told is None:
                 break
             answers.append(told)
-        client.shutdown(socket.SHUT_WR)
-        if client.recv(1):
-            fail("there are more bytes than responses")
+        close(client)
     except (BrokenPipeError, ConnectionResetError):
-        pass
-    client.close()
+        client.close()
     return answers
 
 
-def served(program, text, at=0, error=0):
-    """Runs the program, with or without an image, and makes call number `at` fail."""
+def served(program, text, fault):
+    """Runs the program, with or without an image, and makes a call fail."""
     ROOM.furnish(text, b"".join(map(random_of, range(0 if text is None else 1, COMMANDS + 1))))
-    process = program.begun([*SERVE, str(len(SENT))], ROOM.path, at, error)
+    process = program.begins([*SERVE, str(len(SENT))], ROOM.path, fault)
     answers = [talked(process, buffers) for buffers in SENT]
-    return Service(ended(process), answers, ROOM.image, ROOM.left)
+    ending, image = ended(process), ROOM.image
+    return Service(ending, answers, image_told(image), ROOM.left, image)
 
 
 class Model:
@@ -224,8 +217,8 @@ class Tear:
     answered: int
 
     @classmethod
-    def of(cls, calls, at):
-        call, before = calls[at - 1], calls[: at - 1]
+    def of(cls, calls):
+        *before, call = calls
         accepted = before.count("accept4")
         last = before[::-1][: before[::-1].index("accept4")] if accepted else []
         return cls(call, ENDINGS[call], accepted, last.count("send connection"))
@@ -257,50 +250,47 @@ class Tear:
         return Service(self.end.ending, answers, saved, self.end.left)
 
 
-def check_next(program, label, torn):
-    """Checks that the next run opens the image that an interrupted run left, and removes the other
-    files of that run.
+def wrong_next(program, torn):
+    """Returns what is wrong with the next run. It must open the image that an interrupted run left,
+    and remove the other files of that run.
     """
-    process = program.begun([*SERVE, "1"], ROOM.path)
+    process = program.begins([*SERVE, "1"], ROOM.path)
     talked(process, [])
     ending, left = ended(process), set(ROOM.left) - {".0"}
-    saved = Model(None).image if torn.image is None else torn.told.image
+    saved = Model(None).image if torn.text is None else torn.image
     if ending != WELL or left or image_told(ROOM.image) != saved:
-        fail(f"{label}, the next run: {ending}, {left}, {ROOM.image.hex()}")
+        return f"the next run: {ending}, {left}, {ROOM.image.hex()}"
+    return ""
 
 
-def check_torn(program, label, text, calls, at):
-    """Checks a run in which call number `at` fails."""
-    call = calls[at - 1]
-    if call not in ENDINGS:
-        fail(f"{label}: {call} is no call that is known")
-    label = f"{label}, call {at}, {call}"
-    torn, tear = served(program, text, at, ERRORS.get(call, errno.EIO)), Tear.of(calls, at)
-    if torn.told != tear.wanted(text):
-        fail(f"{label}: {torn}, and not {tear.wanted(text)}")
-    if tear.accepted == 1 and tear.end.more == OLD and torn.image != text:
-        fail(f"{label}: the old image is there, but not byte for byte")
-    check_next(program, label, torn)
+def wrong(program, text, calls, torn):
+    """Returns what is wrong with a run on an image, or on no image, whose last of `calls` failed."""
+    if calls[-1] not in ENDINGS:
+        return "no call that is known"
+    tear = Tear.of(calls)
+    if torn != tear.wanted(text):
+        return f"{torn}, and not {tear.wanted(text)}"
+    if tear.accepted == 1 and tear.end.more == OLD and torn.text != text:
+        return "the old image is there, but not byte for byte"
+    return wrong_next(program, torn)
 
 
 def check_service(program, label, text):
     """Repeats a run that serves clients, with or without an image, and makes a different call fail
     each time.
     """
-    model, whole = Model(text), served(program, text).told
-    calls = program.noted()
-    if whole != Service(WELL, [model.answers(it) for it in SENT], model.image, ()):
-        fail(f"{label}, nothing torn: {whole}")
-    halves = set()
-    for at, call in enumerate(calls, 1):
-        check_torn(program, label, text, calls, at)
-        if call.startswith(("read ", "write ", "recv ", "send ")):
-            if served(program, text, at, HALF).told != whole:
-                fail(f"{label}, call {at}, {call} moves a half")
-            halves.add(call)
+    model = Model(text)
+    whole = Service(WELL, [model.answers(it) for it in SENT], model.image, ())
+    calls = program.tear(
+        label,
+        partial(served, program, text),
+        whole,
+        partial(wrong, program, text),
+        lambda call: ERRORS.get(call, errno.EIO),
+    )
     print(f"{label}:")
     for call, count in collections.Counter(calls).items():
-        half = "; half of the bytes moved: nothing is lost" if call in halves else ""
+        half = "; half of the bytes moved: nothing is lost" if call.startswith(MOVING) else ""
         print(f"    {call}, {count} in turn: {ENDINGS[call].words}{half}")
 
 
@@ -309,20 +299,18 @@ def check_words(program, label, words, stdin=b""):
     must end with `tpmsim: file`, after it has printed a prefix of its usual output.
     """
 
-    def run(at=0, error=0):
-        return ended(program.begun(words, ".", at, error), stdin)
+    def run(fault=NO_FAULT):
+        return ended(program.begins(words, fault=fault), stdin)
+
+    def wrong_ending(_, torn):
+        is_front = whole.output.startswith(torn.output)
+        return "" if torn == replace(FILE, output=torn.output) and is_front else torn
 
     whole = run()
-    calls = program.noted()
-    if whole.status != 0 or whole.error or not calls:
+    if whole.status != 0 or whole.error:
         fail(f"{label}, nothing torn: {whole}")
-    for at, call in enumerate(calls, 1):
-        torn = run(at, errno.EIO)
-        is_front = whole.output.startswith(torn.output)
-        if (torn.status, torn.error) != (FILE.status, FILE.error) or not is_front:
-            fail(f"{label}, call {at}, {call}: {torn}")
-        if run(at, HALF) != whole:
-            fail(f"{label}, call {at}, {call} moves a half")
+    if not program.tear(label, run, whole, wrong_ending):
+        fail(f"{label}: no call could fail")
     print(f"{label}: {FILE.error.decode().strip()}; half of the bytes moved: nothing is lost")
 
 

@@ -6,7 +6,8 @@ waits at one of its calls.
 import socket
 import time
 
-from tests.common.shims import AT_MOST, FILE, SERVE, SOCKET, Room, Tears, ended, fail
+from tests.common.faults import Act, Fault, Tears
+from tests.common.shims import AT_MOST, FILE, SERVE, SOCKET, Room, ended, fail
 
 ROOM = Room("torn")
 RANDOM = bytes(512)
@@ -23,8 +24,8 @@ class Rival:
     def __init__(self, program, name, own, at=0):
         self.calls = ROOM.path / f"{name}.calls"
         words = [f"{name}.{own}" if it == own else it for it in SERVE]
-        go = (ROOM.path / "go").resolve()
-        self.process = program.begun([*words, "1000"], ROOM.path, at, calls=self.calls, WAIT_FOR=go)
+        fault, go = Fault(at, Act.AWAITS), (ROOM.path / "go").resolve()
+        self.process = program.begins([*words, "1000"], ROOM.path, fault, self.calls, go)
 
     @property
     def noted(self):

@@ -2,26 +2,26 @@
 
     python3 torn_scripts.py PROGRAM
 
-The shim tear.c records the calls of a run in order. Then each call is made to fail, in a run of its
+The shim failing.c logs the calls of a run in order. Then each call is made to fail, in a run of its
 own. If the call transfers bytes, it transfers only half of them in another run. The client sends
 one line after another, and waits for each response. Whichever call fails, the image must have the
 effects of all answered commands, according to the Python device. The run must end with the fault of
 the failed call.
 """
 
-import errno
 import sys
 from dataclasses import dataclass
+from functools import partial
 
 from tpmsim.model import machine, player
 from tpmsim.model.image import image, open_image
 from tests.common.streams import device_told, image_told
-from tests.common.shims import ENTROPY, FILE, WELL, Ending, Room, Tears, ended, fail
+from tests.common.faults import Tears
+from tests.common.shims import ENTROPY, FILE, WELL, Ending, Room, ended
 
 ROOM = Room("torn")
 RUN = "run --image image --entropy entropy -".split()
 RANDOM = bytes(range(255, -1, -1))
-HALF = 0
 
 LINES = [
     "do Startup 0",
@@ -87,37 +87,35 @@ def answers_to(process):
         pass
 
 
-def ran(program, text, at=0, error=0):
-    """Runs the program, with or without an image, and makes call number `at` fail."""
+def ran(program, text, fault):
+    """Runs the program, with or without an image, and makes a call fail."""
     ROOM.furnish(text, RANDOM)
-    process = program.begun(RUN, ROOM.path, at, error)
+    process = program.begins(RUN, ROOM.path, fault)
     answers = list(answers_to(process))
     return Result(ended(process), answers, ROOM.image, ROOM.left)
 
 
-def fault_of(call):
-    return ENTROPY if call.endswith("entropy") else FILE
+def wrong(model, calls, torn):
+    """Returns what is wrong with a run whose last of `calls` failed."""
+    told = len(torn.answers)
+    fault = ENTROPY if calls[-1].endswith("entropy") else FILE
+    if torn.answers != model.answers[:told] or torn.ending != fault:
+        return f"{torn}"
+    if not model.allows(told, image_told(torn.image)):
+        return f"{torn}"
+    return f"{torn.left} is left" if set(torn.left) - {"image.new"} else ""
 
 
 def check(program, label, text):
-    """Repeats a run with or without an image, and makes a different call fail each time."""
+    """Repeats a run with or without an image, and makes a different call fail each time. Returns
+    the image of the device after all lines.
+    """
     model = Model(text)
-    whole = ran(program, text)
-    calls = program.noted()
-    if whole != Result(WELL, model.answers, image(model.player.device), ()):
-        fail(f"{label}, nothing torn: {whole}")
-    for at, call in enumerate(calls, 1):
-        torn = ran(program, text, at, errno.EIO)
-        told = len(torn.answers)
-        is_right = torn.answers == model.answers[:told] and torn.ending == fault_of(call)
-        if not is_right or not model.allows(told, image_told(torn.image)):
-            fail(f"{label}, call {at}, {call}: {torn}")
-        if set(torn.left) - {"image.new"}:
-            fail(f"{label}, call {at}, {call}: {torn.left} is left")
-        if call.startswith(("read ", "write ")) and ran(program, text, at, HALF) != whole:
-            fail(f"{label}, call {at}, {call} moves a half")
+    saved = image(model.player.device)
+    whole = Result(WELL, model.answers, saved, ())
+    program.tear(label, partial(ran, program, text), whole, partial(wrong, model))
     print(f"{label}: what was told is in the image, whichever of its calls fails")
-    return whole.image
+    return saved
 
 
 program = Tears(sys.argv[1])

@@ -59,8 +59,7 @@ class Bender(random.Random):
         return values[self.below(len(values))]
 
     def bent(self, body, version=VERSION_2):
-        """Alters the bytes once, or the fields once or twice. Returns a description and the image.
-        """
+        """Alters the bytes once, or the fields once or twice. Returns a description and the image."""
         fields = body.fields
         text_bends = self.change_byte, self.remove_piece, self.double_piece, self.insert_piece
         field_bends = (
@@ -134,8 +133,7 @@ class Bender(random.Random):
             field.count = wrong
 
     def resize(self, fields):
-        """Makes a field longer or shorter, and corrects the sizes of the buffers that contain it.
-        """
+        """Makes a field longer or shorter, and corrects the sizes of the buffers that contain it."""
         field = self.one_of(self.all_of(fields, Plain))
         near = len(field.text) + 1, max(len(field.text) - 1, 0)
         size = self.one_of((*near, *SIZES, self.below(near[0])))

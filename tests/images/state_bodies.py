@@ -159,8 +159,7 @@ def sequence_pairs():
 
 
 def pairs():
-    """Yields the description of an error, the body with this error, and the most similar good body.
-    """
+    """Yields the description of an error, the body with this error, and the most similar good body."""
     yield from session_pairs()
     yield from place_pairs()
     for name in ("forgiving_time", "closed_time"):

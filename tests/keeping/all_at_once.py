@@ -21,14 +21,20 @@ import shutil
 import signal
 import sys
 import time
-from dataclasses import dataclass, field
+from collections import Counter
+from typing import Callable
 
+from tests.common.faults import said
 from tests.keeping.counted import answer_of, BEGIN, DEFINE, INCREMENT, INITIALIZE, POWER, READ
 from tests.keeping.counted import STARTUP, SUCCESS
 from tests.keeping.hosts import does, Files, Host, Module, Python, Refused, Run, Simulator
+from tests.keeping.trials import forked, made
 
 FOLDER, FULL, CLONE_NEWPID, SECONDS_TO_END = "state", "full", 0x20000000, 60
 INTERRUPT_EACH, KILL_EACH = 0.0007, 0.02
+
+# The reports of a process, each a byte: an increment that was requested, one that was answered with
+# SUCCESS or in another way, and a fault.
 ASKED, DONE, OTHER, WRONG = b"a", b"d", b"o", b"w"
 
 # The kinds of hosts, in the order in which processes begin, and the probability of a power cycle.
@@ -51,12 +57,8 @@ class Worker:
         jumps = {"FAILING_CLOCK": "1"} if self.choices.random() < 0.5 else {}
         return self.kind(self.files, jumps)
 
-    @property
-    def is_program(self) -> bool:
-        return self.kind in (Run, Simulator)
-
     def works(self) -> None:
-        if not self.is_program:
+        if not self.kind.is_program:
             ctypes.CDLL(None).failing_jumps(int(self.choices.random() < 0.5))
             signal.signal(signal.SIGALRM, lambda *_: None)
             signal.setitimer(signal.ITIMER_REAL, INTERRUPT_EACH, INTERRUPT_EACH)
@@ -71,15 +73,18 @@ class Worker:
             except Refused as fault:
                 if "damaged" in str(fault):
                     self.says_wrong(str(fault))
-                is_open = is_open and not self.is_program
-                if self.is_program:
+                is_open = is_open and not self.kind.is_program
+                if self.kind.is_program:
                     self.host.close()
                 time.sleep(0.001)
         self.host.close()
 
+    def says(self, report: bytes) -> None:
+        os.write(self.tell, report)
+
     def says_wrong(self, words: str) -> None:
-        os.write(self.tell, WRONG)
-        print(f"{self.kind.name}: {words}", file=sys.stderr, flush=True)
+        self.says(WRONG)
+        said(f"{self.host.name}: {words}")
 
     def step(self) -> None:
         chance = self.choices.random()
@@ -93,31 +98,24 @@ class Worker:
             self.host.close()
             self.host = self.made()
             does(self.host, BEGIN, FOLDER)
-        elif chance < 0.96 and not self.is_program and not self.has_forked:
+        elif chance < 0.96 and not self.kind.is_program and not self.has_forked:
             self.forks()
 
-    def asks(self, act: str) -> object:
-        """Performs an operation, and returns its answer. If the device is not started, starts it
-        for the next operation.
-        """
-        answer = answer_of(act, does(self.host, act, FOLDER))
+    def counts(self) -> None:
+        self.says(ASKED)
+        answer = answer_of(INCREMENT, does(self.host, INCREMENT, FOLDER))
+        self.says(DONE if answer == SUCCESS else OTHER)
+        self.least += answer == SUCCESS
         if answer == INITIALIZE:
             does(self.host, STARTUP, FOLDER)
-        return answer
-
-    def counts(self) -> None:
-        os.write(self.tell, ASKED)
-        answer = self.asks(INCREMENT)
-        os.write(self.tell, DONE if answer == SUCCESS else OTHER)
-        self.least += answer == SUCCESS
-        if answer not in (SUCCESS, INITIALIZE):
+        elif answer != SUCCESS:
             self.says_wrong(f"an increment is answered {answer}")
 
     def reads(self) -> None:
-        answer = self.asks(READ)
+        answer = answer_of(READ, does(self.host, READ, FOLDER))
         if answer == INITIALIZE:
-            return
-        if not isinstance(answer, tuple) or answer[1] < self.least:
+            does(self.host, STARTUP, FOLDER)
+        elif not isinstance(answer, tuple) or answer[1] < self.least:
             self.says_wrong(f"{answer} is read, where {self.least} were counted")
         else:
             self.least = answer[1]
@@ -128,104 +126,122 @@ class Worker:
         """
         self.has_forked = True
         ctypes.CDLL(None).unshare(CLONE_NEWPID)
-        child = os.fork()
-        if child == 0:
-            self.until = min(self.until, time.monotonic() + 0.3)
-            self.choices = random.Random(self.choices.random())
-            signal.setitimer(signal.ITIMER_REAL, INTERRUPT_EACH, INTERRUPT_EACH)
-            try:
-                while time.monotonic() < self.until:
-                    with contextlib.suppress(Refused):
-                        self.step()
-            finally:
-                os._exit(0)
+        child = forked(self.goes_on)
         while time.monotonic() < self.until and os.waitpid(child, os.WNOHANG) == (0, 0):
             self.step()
 
-
-@dataclass
-class Counts:
-    asked: int = 0
-    done: int = 0
-    other: int = 0
-    wrong: int = 0
-    kills: int = 0
-    processes: int = 0
-    pipes: dict[int, int] = field(default_factory=dict)
-
-    def add(self, text: bytes) -> None:
-        self.asked += text.count(ASKED)
-        self.done += text.count(DONE)
-        self.other += text.count(OTHER)
-        self.wrong += text.count(WRONG)
+    def goes_on(self) -> None:
+        """Continues in a forked child, for a short time."""
+        self.until = min(self.until, time.monotonic() + 0.3)
+        self.choices = random.Random(self.choices.random())
+        signal.setitimer(signal.ITIMER_REAL, INTERRUPT_EACH, INTERRUPT_EACH)
+        while time.monotonic() < self.until:
+            with contextlib.suppress(Refused):
+                self.step()
 
 
-def begun(kind: type[Host], files: Files, seed: int, until: float) -> tuple[int, int]:
-    """Begins a process in its own process group. Returns the process number, and the pipe of the
-    reports.
+class Crowd:
+    """Processes that use one device at once. `reports` counts their reports, and `pids` has the
+    process number of each pipe.
     """
-    reads, writes = os.pipe()
-    child = os.fork()
-    if child == 0:
-        try:
+
+    def __init__(self, make: Callable[[int, int], Worker]) -> None:
+        """`make` returns the worker of a process, from the number of the process and its pipe."""
+        self.make, self.reports, self.begun = make, Counter[int](), 0
+        self.pids, self.chooser = dict[int, int](), selectors.DefaultSelector()
+
+    def count(self, report: bytes) -> int:
+        return self.reports[ord(report)]
+
+    @property
+    def unknown(self) -> int:
+        """Returns the number of increments that were requested and not answered."""
+        return self.count(ASKED) - self.count(DONE) - self.count(OTHER)
+
+    def wrong(self, more: int) -> str:
+        """Returns what is wrong if the index has counted `more` increments, or an empty string."""
+        done = self.count(DONE)
+        if not done <= more <= done + self.unknown:
+            return f"{more} increments, where {done} were answered, and {self.unknown} not"
+        return f"{self.count(WRONG)} faults were reported" if self.count(WRONG) else ""
+
+    def begins(self) -> None:
+        """Begins a process in its own process group."""
+        reads, writes = os.pipe()
+
+        def works() -> None:
             os.close(reads)
             os.setsid()
-            worker = Worker(kind, files, writes, seed, until)
-            try:
-                worker.works()
-            except Exception as fault:  # pylint: disable=broad-except
-                worker.says_wrong(f"{type(fault).__name__}: {fault}")
-        finally:
-            os._exit(0)
-    os.close(writes)
-    return child, reads
+            self.make(self.begun, writes).works()
 
+        self.pids[reads] = forked(works)
+        os.close(writes)
+        self.chooser.register(reads, selectors.EVENT_READ)
+        self.begun += 1
 
-def plays(files: Files, seconds: float, processes: int, seed: int, fills: bool) -> Counts:
-    """Runs this many processes at once, for this many seconds. Each process that ends is replaced.
-    """
-    choices, counts, chooser = random.Random(seed), Counts(), selectors.DefaultSelector()
-    until, kinds = time.monotonic() + seconds, KINDS[seed % 2]
-    pids: dict[int, int] = {}
-
-    def begins() -> None:
-        kind = kinds[counts.processes % len(kinds)]
-        pid, pipe = begun(kind, files, 2 * choices.randrange(1 << 30) + seed % 2, until)
-        chooser.register(pipe, selectors.EVENT_READ)
-        pids[pipe] = pid
-        counts.processes += 1
-
-    for _ in range(processes):
-        begins()
-    next_kill = time.monotonic()
-    while pids and time.monotonic() < until + SECONDS_TO_END:
-        for key, _ in chooser.select(0.01):
+    def hears(self, seconds: float) -> int:
+        """Reads reports, for at most some seconds. Returns the number of processes that have ended."""
+        ended = 0
+        for key, _ in self.chooser.select(seconds):
             text = os.read(key.fd, 65536)
-            counts.add(text)
+            self.reports.update(text)
             if not text:
-                chooser.unregister(key.fd)
-                os.close(key.fd)
-                kill(pids[key.fd])
-                os.waitpid(pids.pop(key.fd), 0)
-                if time.monotonic() < until:
-                    begins()
-        if next_kill < time.monotonic() < until and pids:
-            next_kill = time.monotonic() + choices.expovariate(1 / KILL_EACH)
-            kill(choices.choice(list(pids.values())))
-            counts.kills += 1
-            if fills and choices.random() < 0.3:
-                fill(choices)
-    for pipe, pid in pids.items():
-        print(f"process {pid} waits for ever", file=sys.stderr)
+                self.end(key.fd)
+                ended += 1
+        return ended
+
+    def end(self, pipe: int) -> None:
+        """Kills a process group. Counts a fault if the process has ended with an exception."""
+        self.chooser.unregister(pipe)
+        os.close(pipe)
+        pid = self.pids.pop(pipe)
         kill(pid)
-        counts.wrong += 1
-    return counts
+        _, status = os.waitpid(pid, 0)
+        self.reports[ord(WRONG)] += os.waitstatus_to_exitcode(status) > 0
+
+    def end_all(self) -> None:
+        """Ends the processes that did not end by themselves. Each of them counts as a fault."""
+        for pipe, pid in list(self.pids.items()):
+            said(f"process {pid} waits for ever")
+            self.reports[ord(WRONG)] += 1
+            self.end(pipe)
 
 
 def kill(group: int) -> None:
     """Kills a process group, if it exists."""
     with contextlib.suppress(ProcessLookupError):
         os.killpg(group, signal.SIGKILL)
+
+
+def plays(
+    files: Files, seconds: float, processes: int, seed: int, fills: bool
+) -> tuple[Crowd, int]:
+    """Runs this many processes at once, for this many seconds. Each process that ends is replaced.
+    Returns the processes, and the number of kills.
+    """
+    choices, until, kills = random.Random(seed), time.monotonic() + seconds, 0
+
+    def worker(number: int, pipe: int) -> Worker:
+        kinds = KINDS[seed % 2]
+        of_its_own = 2 * random.Random(f"{seed} {number}").randrange(1 << 30) + seed % 2
+        return Worker(kinds[number % len(kinds)], files, pipe, of_its_own, until)
+
+    crowd = Crowd(worker)
+    for _ in range(processes):
+        crowd.begins()
+    next_kill = time.monotonic()
+    while crowd.pids and time.monotonic() < until + SECONDS_TO_END:
+        for _ in range(crowd.hears(0.01)):
+            if time.monotonic() < until:
+                crowd.begins()
+        if next_kill < time.monotonic() < until and crowd.pids:
+            next_kill = time.monotonic() + choices.expovariate(1 / KILL_EACH)
+            kill(choices.choice(list(crowd.pids.values())))
+            kills += 1
+            if fills and choices.random() < 0.3:
+                fill(choices)
+    crowd.end_all()
+    return crowd, kills
 
 
 def fill(choices: random.Random) -> None:
@@ -240,6 +256,7 @@ def fill(choices: random.Random) -> None:
 
 
 def value(files: Files) -> int:
+    """Returns the value of the index."""
     host = Python(files)
     does(host, BEGIN, FOLDER)
     does(host, STARTUP, FOLDER)
@@ -247,31 +264,27 @@ def value(files: Files) -> int:
     host.close()
     if not isinstance(answer, tuple):
         sys.exit(f"WRONG: the index is gone: {answer}")
-    return answer[1]
+    return int(answer[1])
 
 
 def main() -> None:
     program, folder, _, seconds, processes, seed, *words = sys.argv[1:]
     files = Files.of(program, folder)
-    host = Python(files)
-    for act in (BEGIN, STARTUP, DEFINE, INCREMENT):
-        does(host, act, FOLDER)
-    host.close()
+    made(files, pathlib.Path(FOLDER), (STARTUP, DEFINE, INCREMENT))
     before = value(files)
-    counts = plays(files, float(seconds), int(processes), int(seed), "fills" in words)
+    crowd, kills = plays(files, float(seconds), int(processes), int(seed), "fills" in words)
     pathlib.Path(FULL).unlink(missing_ok=True)
-    more, unknown = value(files) - before, counts.asked - counts.done - counts.other
-    print(
-        f"{counts.processes} processes, {counts.kills} killed, {counts.done} increments answered, "
-        f"{unknown} not known, {more} there",
-        file=sys.stderr,
+    more = value(files) - before
+    wrong = crowd.wrong(more)
+    said(
+        f"{crowd.begun} processes, {kills} killed, {crowd.count(DONE)} increments answered, "
+        f"{crowd.unknown} not known, {more} there{wrong and ': '}{wrong}"
     )
-    is_right = counts.done <= more <= counts.done + unknown and counts.wrong == 0
     print(
-        f"{processes} processes at once: {'all that was answered is there' if is_right else 'WRONG'}"
+        f"{processes} processes at once: {'WRONG' if wrong else 'all that was answered is there'}"
     )
     shutil.rmtree(FOLDER)
-    sys.exit(not is_right)
+    sys.exit(bool(wrong))
 
 
 if __name__ == "__main__":

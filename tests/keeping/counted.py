@@ -9,7 +9,7 @@ answer that is not possible in any of these states is wrong.
 from dataclasses import dataclass, replace
 from typing import Iterable, Iterator
 
-BEGIN, POWER, STARTUP = "begin", "power", "startup"
+BEGIN, POWER, SUSPEND, STARTUP = "begin", "power", "suspend", "startup"
 DEFINE, INCREMENT, READ = "define", "increment", "read"
 INDEX = "01000002"
 COMMANDS = {
@@ -44,6 +44,8 @@ def outcome(state: State, act: str) -> tuple[State, object]:
         return replace(state, is_there=True), None
     if act == POWER:
         return replace(state, is_started=False), None
+    if act == SUSPEND:
+        return state, None
     if act == STARTUP:
         return replace(state, is_started=True), INITIALIZE if state.is_started else SUCCESS
     if not state.is_started:
@@ -58,9 +60,8 @@ def outcome(state: State, act: str) -> tuple[State, object]:
 
 
 def answer_of(act: str, response: bytes) -> object:
-    """Returns the answer that a response contains, in the form in which `outcome` returns answers.
-    """
-    if act in (BEGIN, POWER):
+    """Returns the answer that a response contains, in the form in which `outcome` returns answers."""
+    if act not in COMMANDS:
         return None
     code = int.from_bytes(response[6:10], "big")
     if act != READ or code:
@@ -69,10 +70,11 @@ def answer_of(act: str, response: bytes) -> object:
 
 
 class Counted:
-    """The possible states of a device."""
+    """The possible states of a device, and those that it may have had since the last power cycle."""
 
     def __init__(self, states: Iterable[State]) -> None:
         self.states = set(states)
+        self.since = set(self.states)
 
     def answers(self, act: str, response: bytes) -> bool:
         """Records that an operation was answered. Returns whether one of the possible states allows
@@ -80,13 +82,21 @@ class Counted:
         """
         told = answer_of(act, response)
         after = (outcome(state, act) for state in self.states if state.is_there or act == BEGIN)
-        self.states = {state for state, answer in after if answer == told}
+        self.becomes(act, {state for state, answer in after if answer == told})
         return bool(self.states)
+
+    def becomes(self, act: str, states: set[State]) -> None:
+        """Records the states after an operation. A crash of the system may undo the operation,
+        unless it is a power cycle.
+        """
+        before = set() if act == POWER else {it for it in self.since if it.is_there}
+        self.states, self.since = states, before | states
 
     def has(self, acts: Iterable[str]) -> None:
         """Records that operations were done, whatever their answers were."""
         for act in acts:
-            self.states = {outcome(it, act)[0] for it in self.states if it.is_there or act == BEGIN}
+            there = (it for it in self.states if it.is_there or act == BEGIN)
+            self.becomes(act, {outcome(it, act)[0] for it in there})
 
     def may_have(self, acts: Iterable[str]) -> None:
         """Records that operations were requested. Perhaps none, only the first few, or all of them

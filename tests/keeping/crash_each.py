@@ -24,12 +24,14 @@ import sys
 from dataclasses import dataclass, field
 from typing import Callable, Iterator, Sequence
 
-from tests.keeping.counted import BEGIN, Counted, DEFINE, INCREMENT, POWER, READ, STARTUP, State
-from tests.keeping.each_call import seen, Starts
-from tests.keeping.hosts import does, Files, Host, Module, Python, Refused, Run, Simulator
-from tests.keeping.trials import check_all, said, Start
+from tests.keeping.counted import Counted, DEFINE, INCREMENT, POWER, READ, STARTUP, State
+from tests.keeping.hosts import Files, Host, Module, Python, Run, Simulator
+from tests.keeping.trials import Case, check_all, forked, performed, Starts, Told, wrong_in
 
-MOST_ZEROS, CHOICES = 5000, 3
+MOST_ZEROS = 5000
+
+# What a crash leaves: only what must be on the disk, all, or a part that is chosen at random.
+LEAST, ALL, *PARTS = range(5)
 
 
 @dataclass
@@ -57,8 +59,10 @@ class File:
     def forces(self) -> None:
         self.past, self.forced = [], len(self.now)
 
-    def left(self, choices: random.Random) -> bytes:
-        """Returns the content after a crash, chosen at random."""
+    def left(self, choices: random.Random, how: int) -> bytes:
+        """Returns the content after a crash (see Disk.leaves)."""
+        if how not in PARTS:
+            return self.now[: self.forced if how == LEAST else None]
         text = choices.choice([*self.past, self.now])
         text = text[: max(self.forced, choices.randrange(len(text) + 1))]
         return text + bytes(choices.randrange(MOST_ZEROS) if choices.random() < 0.5 else 0)
@@ -67,14 +71,13 @@ class File:
 class Disk:
     """A folder as processes see it, and as a crash may leave it."""
 
-    def __init__(self, folder: pathlib.Path, is_there: bool) -> None:
-        self.folder, self.is_there, self.is_named = folder, is_there, is_there
+    def __init__(self, folder: pathlib.Path) -> None:
+        self.folder, self.is_there, self.is_named = folder, folder.exists(), folder.exists()
         self.files: dict[str, File] = {}
         self.names: list[dict[str, str]] = [{}]
-        if is_there:
-            for path in folder.iterdir():
-                self.names[0][path.name] = number = str(path.stat().st_ino)
-                self.files[number] = File(path.read_bytes(), [], path.stat().st_size)
+        for path in folder.iterdir() if self.is_there else ():
+            self.names[0][path.name] = number = str(path.stat().st_ino)
+            self.files[number] = File(path.read_bytes(), [], path.stat().st_size)
 
     def name_of(self, path: str) -> str:
         """Returns the name of a file in the folder, or an empty name for any other file."""
@@ -116,166 +119,81 @@ class Disk:
             file.forces()
 
     def leaves(self, folder: pathlib.Path, choices: random.Random, how: int) -> None:
-        """Makes a folder in a state in which a crash may leave it. The folder contains only what
-        must be on the disk (`how` is 0), everything (1), or a random part.
-        """
+        """Makes a folder in a state in which a crash may leave it: LEAST, ALL or one of PARTS."""
         shutil.rmtree(folder, ignore_errors=True)
-        if not self.is_there or (not self.is_named and (how == 0 or choices.random() < 0.5)):
+        if not self.is_there or (not self.is_named and (how == LEAST or choices.random() < 0.5)):
             return
         folder.mkdir(mode=0o700)
-        names = self.names[
-            0 if how == 0 else -1 if how == 1 else choices.randrange(len(self.names))
-        ]
+        ends = self.names[0], self.names[-1]
+        names = choices.choice(self.names) if how in PARTS else ends[how == ALL]
         for name, number in names.items():
-            file = self.files[number]
-            text = (
-                file.now[: file.forced]
-                if how == 0
-                else file.now
-                if how == 1
-                else file.left(choices)
-            )
-            (folder / name).write_bytes(text)
+            (folder / name).write_bytes(self.files[number].left(choices, how))
             (folder / name).chmod(0o600)
 
 
-class Allowed:
-    """The states of the device that the folder may contain after a crash: the state after the
-    answered operations or, without force=always, any state since the last power cycle.
-    """
-
-    def __init__(self, state: State, is_always: bool) -> None:
-        self.counted, self.is_always, self.waiting = Counted([state]), is_always, list[str]()
-        self.since = {state}
-
-    def hears(self, word: str, act: str, response: str = "") -> None:
-        if word == "asks":
-            self.waiting.append(act)
-            return
-        *before, last = self.waiting
-        self.waiting = []
-        for done in before:
-            self.counted.has([done])
-            self.holds(done)
-        self.counted.answers(last, bytes.fromhex(response))
-        self.holds(last)
-
-    def holds(self, act: str) -> None:
-        """Records that an operation was done. A crash may undo it, unless it was a power cycle."""
-        before = set() if act == POWER else {it for it in self.since if it.is_there}
-        self.since = before | self.counted.states
-
-    def after(self, acts: Sequence[str]) -> set[State]:
-        counted = Counted(self.counted.states)
-        counted.may_have(acts)
-        return counted.states
-
-    @property
-    def states(self) -> set[State]:
-        return self.after(self.waiting) | (set() if self.is_always else self.since)
-
-
 @dataclass(frozen=True)
-class Case:
-    """A host, its folder and device at the beginning, and the operations that it must do."""
+class Crashes(Case):
+    """The runs of a host, with a crash after each change to its folder."""
 
-    files: Files
-    room: pathlib.Path
-    host: type[Host]
-    start: Start
-    script: Sequence[str]
     is_always: bool
+    right = "no crash takes what was promised"
 
-    @property
-    def label(self) -> str:
-        return f"{self.host.name}, {self.start.label}"
-
-    def plays(self, host: Host, folder: pathlib.Path, mark: Callable[[str], None]) -> None:
-        for act in (BEGIN, *self.script):
-            mark(f"asks {act}")
-            if act == BEGIN and host.comes_on:
-                mark(f"asks {POWER}")
-            response = does(host, act, str(folder))
-            if host.answers_all or act not in (BEGIN, POWER):
-                mark(f"answers {act} {response.hex()}")
+    def plays(self, mark: Callable[[str], object], environment: dict[str, str]) -> None:
+        host = self.host(self.files, environment)
+        for word, text in performed(host, self.script, self.folder):
+            mark(f"{word} {text}")
         host.close()
 
-    def in_a_fork(self, folder: pathlib.Path, log: pathlib.Path) -> None:
-        child = os.fork()
-        if child == 0:
-            try:
-                os.dup2(os.open("/dev/null", os.O_WRONLY), 2)
-                library = ctypes.CDLL(None)
-                library.disk_logs(str(log).encode())
-                self.plays(
-                    self.host(self.files), folder, lambda line: library.disk_marks(line.encode())
-                )
-            finally:
-                os._exit(0)
-        os.waitpid(child, 0)
+    def plays_here(self, log: str) -> None:
+        os.dup2(os.open("/dev/null", os.O_WRONLY), 2)
+        library = ctypes.CDLL(None)
+        library.disk_logs(log.encode())
+        self.plays(lambda line: library.disk_marks(line.encode()), {})
 
-    def as_a_program(self, folder: pathlib.Path, log: pathlib.Path) -> None:
-        def mark(line: str) -> None:
-            with log.open("a", encoding="ascii") as file:
-                file.write(f"{line}\n")
-
-        self.plays(self.host(self.files, {"DISK_LOG": str(log)}), folder, mark)
-
-    def lines(self, folder: pathlib.Path) -> list[list[str]]:
+    def lines(self) -> list[str]:
         """Returns the log of the changes that the host makes to the folder, and of the host's
         answers.
         """
         log = self.room / "log"
-        log.unlink(missing_ok=True)
-        runs = self.in_a_fork if self.host in (Module, Python) else self.as_a_program
-        runs(folder, log)
-        return [line.split() for line in log.read_text("ascii").splitlines()]
+        log.write_bytes(b"")
+        if self.host.is_program:
+            with log.open("a", encoding="ascii", buffering=1) as file:
+                self.plays(lambda line: print(line, file=file), {"DISK_LOG": str(log)})
+        else:
+            os.waitpid(forked(lambda: self.plays_here(str(log))), 0)
+        return log.read_text("ascii").splitlines()
 
-    def check(self, share: int) -> tuple[int, int]:
-        """Tests one in every `share` crashes. Returns the number of tested crashes, and the number
-        of crashes after which the folder is wrong.
+    def allowed(self, told: Told) -> set[State]:
+        """Returns the states of the device that the folder may contain after a crash: the state
+        after the answered operations or, without force=always, any state since the last power
+        cycle. The operation that was not answered may have been executed too.
         """
-        folder, left = self.room / "state", self.room / "left"
-        self.start.put(folder)
-        disk = Disk(folder, folder.exists())
-        allowed = Allowed(self.start.state, self.is_always)
-        choices, crashes, wrongs = random.Random(self.label), 0, 0
-        lines = self.lines(folder)
-        for number, line in enumerate(lines):
-            if line[0] in ("asks", "answers"):
-                allowed.hears(*line)
+        counted = Counted(told.counted.states)
+        counted.may_have(told.waiting)
+        return counted.states | (set() if self.is_always else told.counted.since)
+
+    def runs(self, share: int) -> Iterator[str]:
+        """Tests one in every `share` crashes. Yields what is wrong with the folder after each."""
+        left, choices, crashes = self.room / "left", random.Random(self.label), 0
+        self.start.put(self.folder)
+        disk, told = Disk(pathlib.Path(self.folder)), Told(Counted([self.start.state]))
+        for number, line in enumerate(self.lines()):
+            word, *rest = line.split()
+            if word in ("asks", "answers"):
+                told.hears(word, "".join(rest))
             else:
-                disk.hears(*line)
-            for how in range(2 + CHOICES):
+                disk.hears(word, *rest)
+            for how in (LEAST, ALL, *PARTS):
                 crashes += 1
-                if crashes % share:
-                    continue
-                disk.leaves(left, choices, how)
-                wrong = self.wrong(left, allowed)
-                if wrong:
-                    wrongs += 1
-                    said(
-                        f"{self.label}: crash after {' '.join(line)[:200]} (line {number}, way {how}): {wrong}"
-                    )
-        if not any(line[0] == "answers" and line[1] == self.script[-1] for line in lines):
-            wrongs += 1
-            said(f"{self.label}: the host did not do all acts")
-        print(
-            f"{self.label}: {'WRONG' if wrongs else 'no crash takes what was promised'}", flush=True
-        )
-        return crashes // share, wrongs
-
-    def wrong(self, left: pathlib.Path, allowed: Allowed) -> str:
-        try:
-            state = seen(self.files, str(left))
-        except Refused as fault:
-            return f"it does not open: {fault}"
-        if state in allowed.states:
-            return ""
-        return f"{state} is none of {sorted(allowed.states)}"
+                if crashes % share == 0:
+                    disk.leaves(left, choices, how)
+                    wrong = wrong_in(self.files, str(left), self.allowed(told))
+                    yield wrong and f"crash after {line[:200]} (line {number}, way {how}): {wrong}"
+        if not "".join(told.acts[-1:]).startswith(self.script[-1]) or told.strange:
+            yield f"the host did only {told.acts} {told.strange}"
 
 
-def cases(files: Files, room: pathlib.Path) -> Iterator[Case]:
+def cases(files: Files, room: pathlib.Path, _: object) -> Iterator[Crashes]:
     starts = Starts.made(files, room)
     counts, new = (INCREMENT, READ, INCREMENT), (STARTUP, DEFINE, INCREMENT)
     cycles = (INCREMENT, POWER, STARTUP, INCREMENT, READ)
@@ -286,18 +204,12 @@ def cases(files: Files, room: pathlib.Path) -> Iterator[Case]:
         (Simulator, (STARTUP, *cycles), True),
     ]
     for host, acts, is_always in hosts:
-        yield Case(files, room, host, starts.kept, acts, is_always)
-        yield Case(files, room, host, starts.new, new, is_always)
+        yield Crashes(files, room, host, starts.kept, acts, is_always)
+        yield Crashes(files, room, host, starts.new, new, is_always)
         if acts[0] == INCREMENT:
-            yield Case(files, room, host, starts.grown, counts, is_always)
-
-
-def main() -> None:
-    program, folder, path, share, *words = sys.argv[1:]
-    files = Files.of(program, folder)
-    os.environ["LD_PRELOAD"] = str(pathlib.Path(path).resolve())
-    check_all(lambda room: cases(files, room), share, *words, noun="crashes")
+            yield Crashes(files, room, host, starts.grown, counts, is_always)
 
 
 if __name__ == "__main__":
-    main()
+    os.environ["LD_PRELOAD"] = str(pathlib.Path(sys.argv[3]).resolve())
+    check_all(cases, Files.of(*sys.argv[1:3]), *sys.argv[3:], noun="crashes")

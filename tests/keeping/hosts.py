@@ -25,24 +25,16 @@ SECONDS, RESPONSE_BYTES, RC = 20, 4096, ctypes.c_uint32
 class Files:
     """The paths of the hosts: the program, and a folder with the module and the other programs."""
 
-    program: pathlib.Path
-    folder: pathlib.Path
+    program: pathlib.Path = pathlib.Path()
+    folder: pathlib.Path = pathlib.Path()
 
     @classmethod
     def of(cls, program: str, folder: str) -> Self:
         return cls(pathlib.Path(program).resolve(), pathlib.Path(folder).resolve())
 
-    @property
-    def module(self) -> pathlib.Path:
-        return self.folder / "libtss2-tcti-tpmsim.so.0"
-
-    @property
-    def power(self) -> pathlib.Path:
-        return self.folder / "tpmsim-power"
-
-    @property
-    def simulator(self) -> pathlib.Path:
-        return self.folder / "tpmsim-simulator"
+    def of_host(self, name: str) -> str:
+        """Returns the path of the module, or of a program in the folder."""
+        return str(self.folder / name)
 
 
 class Refused(Exception):
@@ -52,17 +44,18 @@ class Refused(Exception):
 class Host:
     """A host and its operations. `part` is a part of the name of its library. If `answers_all` is
     false, only the next response shows that the host has begun, or has cycled the power. If
-    `comes_on` is true, starting the host powers the device on.
+    `comes_on` is true, starting the host powers the device on. `is_program` says whether the host
+    is a process of its own.
     """
 
-    name, part, answers_all, comes_on = "", "", True, False
+    name, part, answers_all, comes_on, is_program = "", "", True, False, False
 
     def __init__(self, files: Files, environment: dict[str, str] | None = None) -> None:
         self.files, self.environment = files, {**os.environ, **(environment or {})}
 
     @property
     def is_open(self) -> bool:
-        raise NotImplementedError
+        return False
 
     def begin(self, folder: str) -> None:
         raise NotImplementedError
@@ -116,7 +109,7 @@ class Module(Host):
 
     def __init__(self, files: Files, environment: dict[str, str] | None = None) -> None:
         super().__init__(files, environment)
-        self.module = ctypes.CDLL(str(files.module))
+        self.module = ctypes.CDLL(files.of_host("libtss2-tcti-tpmsim.so.0"))
         self.module.Tss2_Tcti_Info.restype = ctypes.POINTER(Info)
         self.info = self.module.Tss2_Tcti_Info().contents
         self.room = ctypes.create_string_buffer(0)
@@ -214,8 +207,7 @@ class Run(Host):
     response to the next line shows that the cycle is done.
     """
 
-    name, answers_all = "the program", False
-
+    name, answers_all, is_program = "the program", False, True
     process: subprocess.Popen[bytes] | None = None
 
     @property
@@ -232,10 +224,6 @@ class Run(Host):
         self.process = subprocess.Popen(
             words, env=self.environment, stdin=pipe, stdout=pipe, stderr=pipe
         )
-
-    @property
-    def is_open(self) -> bool:
-        return self.process is not None
 
     def tells(self, line: str) -> None:
         try:
@@ -269,10 +257,10 @@ class Run(Host):
 class Power(Run):
     """tpmsim-power, which makes one power cycle."""
 
-    name = "tpmsim-power"
+    name, options = "tpmsim-power", list[str]()
 
     def words(self, folder: str) -> list[str]:
-        return [str(self.files.power), folder]
+        return [self.files.of_host("tpmsim-power"), folder, *self.options]
 
     def power(self) -> None:
         """Does nothing, because the program itself cycles the power."""
@@ -282,18 +270,17 @@ class ProgramPower(Power):
     name = "tpmsim power"
 
     def words(self, folder: str) -> list[str]:
-        return [str(self.files.program), "power", folder]
+        return [str(self.files.program), "power", folder, *self.options]
 
 
 class Simulator(OnDevice, Run):
-    """tpmsim-simulator, with a client of its protocol. Starting the simulator powers the device on.
-    """
+    """tpmsim-simulator, with a client of its protocol. Starting the simulator powers the device on."""
 
     name, answers_all, comes_on = "the simulator", True, True
 
     def words(self, folder: str) -> list[str]:
-        files = [str(self.files.simulator), "--port", "0", "--state", folder, "--force", "always"]
-        return files
+        words = ["--port", "0", "--state", folder, "--force", "always"]
+        return [self.files.of_host("tpmsim-simulator"), *words]
 
     def begin(self, folder: str) -> None:
         super().begin(folder)

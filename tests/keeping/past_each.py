@@ -7,20 +7,17 @@ past journals must be numbered from 1 on, beginning with the latest, and none ma
 """
 
 import errno
-import functools
 import pathlib
 import sys
-import tempfile
 from typing import Iterator
 
-from tests.keeping.counted import BEGIN, Counted, NOTHING, POWER, STARTUP
-from tests.keeping.each_call import Trial
-from tests.keeping.hosts import does, Files, Host, Python, Refused
-from tests.keeping.trials import Act, Meeting, said, Shim, Start, sweep, Told
+from tests.common.faults import Act, Failing
+from tests.keeping.counted import BEGIN, NOTHING, POWER, STARTUP
+from tests.keeping.hosts import does, Files, Python, Refused
+from tests.keeping.trials import check_all, made, Start, Sweep, Told
 from tpmsim.device import KeptDevice
 
-KEPT, PAST = 3, ["C", "B", "A"]
-VARIANTS = [(Act.FAILS, errno.EIO), (Act.DOES_AND_FAILS, errno.EIO), (Act.IS_KILLED, 0)]
+KEPT, PAST = 3, "ABC"
 
 
 class KeepingPast(Python):
@@ -31,65 +28,42 @@ class KeepingPast(Python):
             self.device = KeptDevice(folder, keep=KEPT)
 
 
-def made(host: Host, folder: pathlib.Path) -> None:
-    """Makes a device with three past journals, each with one letter. The latest one contains A."""
-    for act in (BEGIN, STARTUP):
-        does(host, act, str(folder))
-    host.close()
-    for number, text in enumerate(reversed(PAST), 1):
-        (folder / f"journal.{number}").write_text(text, "ascii")
+class Past(Sweep):
+    """A device with three past journals, each with one letter. The latest one contains A."""
 
+    label, right = "", "no journal of the past is lost"
+    variants = [(Act.FAILS, errno.EIO), (Act.DOES_AND_FAILS, errno.EIO), (Act.IS_KILLED, 0)]
 
-def past_in(folder: pathlib.Path, journal: bytes) -> list[str]:
-    """Returns the content of each past journal, from number 1 on."""
-    told = []
-    for number in range(1, KEPT + 1):
-        path = folder / f"journal.{number}"
+    def wrong(self, told: Told) -> str:
+        """Cycles the power again, and returns what is wrong with the past journals."""
+        host = self.host(self.files)
+        try:
+            for act in (BEGIN, POWER):
+                does(host, act, self.folder)
+        except Refused as fault:
+            return str(fault)
+        finally:
+            host.close()
+        past = [self.kind_of(f"journal.{number}") for number in range(1, KEPT + 1)]
+        is_right = past in (["journal", "A", "B"], ["new", "journal", "A"])
+        return "; ".join(told.strange) if is_right else f"the past is {past}"
+
+    def kind_of(self, name: str) -> str:
+        """Describes a past journal: its letter, the journal at the beginning, or a new one."""
+        path, first = pathlib.Path(self.folder, name), self.room / "kept" / "journal"
         text = path.read_bytes() if path.exists() else b"none"
-        told.append(
-            "journal" if text == journal else text.decode("ascii") if len(text) < 5 else "new"
-        )
-    return told
+        if text == first.read_bytes():
+            return "journal"
+        return text.decode("ascii") if len(text) < 5 else "new"
 
 
-def wrong(host: Host, folder: pathlib.Path, journal: bytes) -> str:
-    try:
-        for act in (BEGIN, POWER):
-            does(host, act, str(folder))
-    except Refused as fault:
-        return str(fault)
-    finally:
-        host.close()
-    past = past_in(folder, journal)
-    return "" if past in (["journal", "A", "B"], ["new", "journal", "A"]) else f"the past is {past}"
-
-
-def faults(files: Files, room: pathlib.Path, shim: Shim) -> Iterator[str]:
-    """Yields, for each run, a description of what is wrong afterwards, or an empty string."""
-    make, state, kept = functools.partial(KeepingPast, files), room / "state", room / "kept"
-    made(make(), kept)
-    start, journal = Start("", NOTHING, kept), (kept / "journal").read_bytes()
-
-    def tries(meeting: Meeting) -> tuple[str, str]:
-        start.put(state)
-        told = Told(Counted([NOTHING]))
-        Trial(make, (POWER,), str(state), told, shim, meeting).in_a_fork()
-        return shim.met(), wrong(make(), state, journal)
-
-    return sweep(tries, variants=VARIANTS)
-
-
-def main() -> None:
-    program, folder, path = sys.argv[1:]
-    wrongs = 0
-    with tempfile.TemporaryDirectory() as name:
-        room = pathlib.Path(name)
-        for fault in filter(None, faults(Files.of(program, folder), room, Shim(path, room))):
-            wrongs += 1
-            said(fault)
-    print("WRONG" if wrongs else "no journal of the past is lost")
-    sys.exit(wrongs > 0)
+def cases(files: Files, room: pathlib.Path, shim: Failing) -> Iterator[Past]:
+    kept = room / "kept"
+    made(files, kept, [STARTUP])
+    for number, letter in enumerate(PAST, 1):
+        (kept / f"journal.{number}").write_text(letter, "ascii")
+    yield Past(files, room, KeepingPast, Start("", NOTHING, kept), (POWER,), shim)
 
 
 if __name__ == "__main__":
-    main()
+    check_all(cases, Files.of(*sys.argv[1:3]), *sys.argv[3:])

@@ -20,15 +20,15 @@ import time
 from dataclasses import dataclass, replace
 from typing import Iterator, Sequence
 
+from tests.common.faults import Failing, Fault, said, sweep
 from tests.keeping.counted import BEGIN, COMMANDS, Counted, DEFINE, INCREMENT, NOTHING, POWER, READ
-from tests.keeping.counted import STARTUP, State
+from tests.keeping.counted import STARTUP, State, SUSPEND
 from tests.keeping.hosts import OnDevice, Refused
-from tests.keeping.trials import check_all, Meeting, one_line, said, Shim, Start
-from tests.keeping.trials import state_of, Told, Sweep
+from tests.keeping.trials import check_all, Checked, one_line, Start, state_of, Told
 from tpmsim.device import SwtpmDevice
 from tpmsim.standard import number
 
-SECONDS, SUSPEND = 20, "suspend"
+SECONDS = 20
 # Requests of the control channel, and the flag of INIT that removes the volatile state after it is
 # resumed. QEMU sends this flag when it resumes a guest.
 INIT, SHUTDOWN, STORE_VOLATILE = 2, 3, 10
@@ -53,7 +53,7 @@ class Swtpm(OnDevice):
 
     @property
     def opened(self) -> SwtpmDevice:
-        if self.device is None:
+        if not isinstance(self.device, SwtpmDevice):
             raise Refused("there is no connection")
         return self.device
 
@@ -99,7 +99,7 @@ class Swtpm(OnDevice):
             return self.execute(COMMANDS[act])
         return b""
 
-    def close(self) -> int:
+    def close(self) -> tuple[int, str]:
         """Ends swtpm with its control channel, or with a signal if there is no connection. Returns
         its status.
         """
@@ -111,7 +111,7 @@ class Swtpm(OnDevice):
         if self.device is not None:
             self.device.close()
         try:
-            return self.process.wait(SECONDS)
+            return self.process.wait(SECONDS), ""
         except subprocess.TimeoutExpired:
             self.process.kill()
             self.process.wait()
@@ -124,59 +124,36 @@ class SwtpmStart(Start):
 
     is_suspended: bool = False
 
-    def put(self, folder: pathlib.Path) -> None:
+    def put(self, folder: str | pathlib.Path) -> None:
         super().put(folder)
-        folder.mkdir(exist_ok=True)
+        pathlib.Path(folder).mkdir(exist_ok=True)
 
 
-class Played:
-    """The operations of a run, and the states that the device may have after them."""
-
-    def __init__(self, start: SwtpmStart) -> None:
-        self.told, self.is_resumed = Told(Counted([start.state])), start.is_suspended
-        self.may_be_suspended, self.is_suspended = start.is_suspended, False
-
-    def play(self, swtpm: Swtpm, script: Sequence[str]) -> None:
-        """Makes swtpm perform the operations one by one, until one fails because swtpm has ended.
-        """
-        for act in script:
-            is_done = self.suspend(swtpm) if act == SUSPEND else self.act(swtpm, act)
-            if not is_done and (act in (BEGIN, POWER) or not swtpm.is_running):
-                return
-
-    def act(self, swtpm: Swtpm, act: str) -> bool:
-        """Makes swtpm perform an operation. Returns whether it was answered."""
-        self.told.asks(act)
+def play(swtpm: Swtpm, script: Sequence[str], told: Told, is_resumed: bool) -> None:
+    """Makes swtpm perform the operations one by one, until one fails because swtpm has ended."""
+    for act in script:
+        told.asks(act)
         try:
-            response = swtpm.does(act, self.is_resumed)
+            response = swtpm.does(act, is_resumed)
         except Refused as fault:
-            self.told.ends(f"refused ({one_line(fault)})")
-            return False
-        if response == FAILURE:
-            self.told.ends("failure")
-            return False
-        self.told.answers(response)
-        return True
+            told.ends(f"refused ({one_line(fault)})")
+        else:
+            if response != FAILURE:
+                told.answers(response)
+                continue
+            told.ends("failure")
+        if act in (BEGIN, POWER) or not swtpm.is_running:
+            return
 
-    def suspend(self, swtpm: Swtpm) -> bool:
-        self.may_be_suspended = True
-        try:
-            swtpm.does(SUSPEND)
-        except Refused as fault:
-            self.told.acts.append(f"{SUSPEND}:refused ({one_line(fault)})")
-            return False
-        self.told.acts.append(SUSPEND)
-        self.is_suspended = True
-        return True
 
-    @property
-    def states(self) -> set[State]:
-        """Returns the states that the device may have when swtpm is started again."""
-        running = set(self.told.counted.states)
-        cycled = {replace(it, is_started=False) for it in running}
-        if self.is_suspended:
-            return running
-        return running | cycled if self.may_be_suspended else cycled
+def states_after(told: Told, start: SwtpmStart) -> set[State]:
+    """Returns the states that the device may have when swtpm is started again."""
+    running = told.counted.states
+    cycled = {replace(it, is_started=False) for it in running}
+    if f"{SUSPEND}=None" in told.acts:
+        return running
+    may_be_suspended = start.is_suspended or any(it.startswith(SUSPEND) for it in told.acts)
+    return running | cycled if may_be_suspended else cycled
 
 
 def seen(swtpm: Swtpm) -> State:
@@ -186,14 +163,14 @@ def seen(swtpm: Swtpm) -> State:
 
 
 @dataclass
-class Case(Sweep):
+class Case(Checked):
     """The folder that swtpm begins with, and the operations that it must do. `without` is the number
     of runs that left no device.
     """
 
     library: pathlib.Path
     room: pathlib.Path
-    shim: Shim
+    shim: Failing
     start: SwtpmStart
     script: Sequence[str]
     without: int = 0
@@ -202,34 +179,37 @@ class Case(Sweep):
     def label(self) -> str:
         return f"swtpm, {self.start.label}"
 
-    def tries(self, meeting: Meeting) -> tuple[str, str]:
+    def tries(self, fault: Fault) -> tuple[str, str]:
         """Returns the call that failed, and a description of what is wrong. If there is no device,
         logs the reason to standard error.
         """
         folder = self.room / "state"
         self.start.put(folder)
-        told = {**self.shim.environment(meeting), "FAILING_IN": str(folder)}
-        swtpm, again = Swtpm(self.library, folder, told), Swtpm(self.library, folder, {})
-        played = Played(self.start)
+        environment = {**self.shim.environment(fault), "FAILING_IN": str(folder)}
+        swtpm, again = Swtpm(self.library, folder, environment), Swtpm(self.library, folder, {})
+        told, start = Told(Counted([self.start.state])), self.start
         try:
-            played.play(swtpm, (BEGIN, *self.script))
+            play(swtpm, (BEGIN, *self.script), told, start.is_suspended)
             swtpm.close()
-        except Refused as fault:
-            played.told.strange.append(str(fault))
-        acts = " ".join(played.told.acts)
-        met, wrong = self.shim.met(), "; ".join(played.told.strange)
+        except Refused as refusal:
+            told.strange.append(str(refusal))
+        met, acts, states = self.shim.met(), " ".join(told.acts), states_after(told, start)
         try:
             state = seen(again)
-        except Refused as fault:
+        except Refused as refusal:
             self.without += 1
-            if not wrong:
-                said(f"{self.label}: {meeting}, {met}: {one_line(fault)}, {again.logged}: {acts}")
-            return met, wrong
+            if not told.strange:
+                said(f"{self.label}: {fault}, {met}: {one_line(refusal)}, {again.logged}: {acts}")
+        else:
+            if state not in states:
+                told.strange.append(f"{state} is none of {sorted(states)}")
         finally:
             again.close()
-        if state not in played.states:
-            wrong = f"{wrong} {state} is none of {sorted(played.states)}"
+        wrong = "; ".join(told.strange)
         return met, wrong and f"{wrong}: {acts}"
+
+    def runs(self, share: int) -> Iterator[str]:
+        return sweep(self.tries, share)
 
     def check(self, share: int) -> tuple[int, int]:
         runs, wrongs = super().check(share)
@@ -248,7 +228,7 @@ def made(library: pathlib.Path, folder: pathlib.Path, is_suspended: bool) -> Sta
     return State(True, is_suspended, True, 2)
 
 
-def cases(library: pathlib.Path, room: pathlib.Path, shim: Shim) -> Iterator[Case]:
+def cases(library: pathlib.Path, room: pathlib.Path, shim: Failing) -> Iterator[Case]:
     kept, left = room / "kept", room / "left"
     counts, cycles = (INCREMENT, READ), (POWER, STARTUP, INCREMENT, READ)
     ended = SwtpmStart("a kept device", made(library, kept, False), kept)
@@ -259,11 +239,5 @@ def cases(library: pathlib.Path, room: pathlib.Path, shim: Shim) -> Iterator[Cas
     yield Case(library, room, shim, suspended, (*counts, SUSPEND))
 
 
-def main() -> None:
-    folder, path, share, *words = sys.argv[1:]
-    library = pathlib.Path(folder).resolve()
-    check_all(lambda room: cases(library, room, Shim(path, room)), share, *words)
-
-
 if __name__ == "__main__":
-    main()
+    check_all(cases, pathlib.Path(sys.argv[1]).resolve(), *sys.argv[2:])

@@ -21,6 +21,7 @@ import tempfile
 import threading
 import time
 
+from tests.common.interrupts import interrupting
 from tests.library.kept import extend, extended, started, value_of, Waits, within
 from tpmsim.caller import Caller
 from tpmsim.device import DeviceEnded, KeptDevice
@@ -37,40 +38,22 @@ SIGNALS, MOST_DELAY = 400, 200e-6
 HELD_SECONDS, SIGNAL_SECONDS = 0.4, 0.1
 
 
-@contextlib.contextmanager
-def interrupted(number):
-    """Raises KeyboardInterrupt when the package's device classes execute their `number`-th line.
-    Two places are not interrupted: methods __del__, whose exceptions are ignored, and the end of a
-    `with`, because no signal handler runs between its body and its end.
+class Exempt:
+    """The lines at which calls are not interrupted: methods __del__, whose exceptions are ignored,
+    and the end of a `with`, because no signal handler runs between its body and its end.
     """
-    left, entered = number, set()
 
-    def trace(frame, event, _):
-        nonlocal left
-        callers = frame.f_code, frame.f_back.f_code
-        if not callers[0].co_filename.startswith(WATCHED) or "__del__" in [
-            it.co_name for it in callers
-        ]:
-            return None
-        if event == "line":
-            place = frame, frame.f_lineno
-            is_end = place in entered
-            if (
-                linecache.getline(frame.f_code.co_filename, frame.f_lineno)
-                .lstrip()
-                .startswith("with ")
-            ):
-                entered.add(place)
-            left -= not is_end
-            if not left and not is_end:
-                raise KeyboardInterrupt
-        return trace
+    def __init__(self):
+        self.entered = set()
 
-    sys.settrace(trace)
-    try:
-        yield
-    finally:
-        sys.settrace(None)
+    def __call__(self, frame):
+        if "__del__" in (frame.f_code.co_name, frame.f_back.f_code.co_name):
+            return True
+        place = frame, frame.f_lineno
+        is_end = place in self.entered
+        if linecache.getline(frame.f_code.co_filename, frame.f_lineno).lstrip().startswith("with "):
+            self.entered.add(place)
+        return is_end
 
 
 def is_interrupted(act, number, then):
@@ -79,7 +62,7 @@ def is_interrupted(act, number, then):
     which it refers.
     """
     try:
-        with interrupted(number):
+        with interrupting(number, WATCHED, Exempt()):
             act()
     except KeyboardInterrupt:
         within(SECONDS, then)
@@ -220,16 +203,9 @@ def while_it_waits(folder):
     return f"the handler runs after the call: {is_late}; it was executed: {is_executed}"
 
 
-for name in (
-    "begin",
-    "open",
-    "execute",
-    "catch up and execute",
-    "power_cycle",
-    "save",
-    "snapshot",
-    "restore",
-):
+with tempfile.TemporaryDirectory() as folder:
+    names = list(Lines(folder).acts)
+for name in names:
     with tempfile.TemporaryDirectory() as folder:
         lines = Lines(folder)
         print(f"{name}: {lines.play(name)}", flush=True)

@@ -12,210 +12,145 @@ requested ones; or a process reports damage or waits forever. The last line cont
 status is 1 if a device is lost.
 """
 
-import json
-import os
+import contextlib
 import pathlib
 import random
 import signal
 import sys
 import tempfile
 import time
-from dataclasses import asdict, dataclass
+from collections import Counter
 
 import tpmsim.device
-from tpmsim.caller import Caller, counter
+from tests.common.interrupts import interrupting
+from tests.keeping.all_at_once import Crowd, DONE, FOLDER, value, Worker
+from tests.keeping.counted import BEGIN, DEFINE, INCREMENT, POWER, STARTUP
+from tests.keeping.hosts import does, Files, Python, Refused
+from tests.keeping.trials import made
 from tpmsim.device import BadImage, DeviceEnded, KeptDevice
-from tpmsim.standard import number
 
-PROCESSES, SECONDS, SECONDS_TO_END, COUNTER_BYTES = 3, 0.5, 20, 8
+PROCESSES, SECONDS, SECONDS_TO_END = 3, 0.5, 20
 PACKAGE = str(pathlib.Path(tpmsim.device.__file__).parent)
 MOST_INTERRUPTS, MOST_LINES, DELAYS = 3, 40, (3e-5, 5e-4)
-STARTUP = bytes.fromhex("80010000000c000001440000")
-SUCCESS, INITIALIZE = number(0, 4), number(0x100, 4)
+NO_FILES = Files()
+
+# Further reports of a process: a call, and an interrupt.
+CALL, INTERRUPT = b"c", b"i"
 
 
-@dataclass
-class Counts:
-    """The events of one process, or of all processes. `unknown` counts the interrupted increments.
+class Interrupted(Python):
+    """The Python host. KeyboardInterrupt is raised during its calls: by a tracer, or at most `left`
+    times by a timer. Between the last line of a call and the line that disables the interrupts no
+    function is called, so that no signal handler runs there.
     """
 
-    answered: int = 0
-    unknown: int = 0
-    calls: int = 0
-    interrupts: int = 0
-    lost: str = ""
-
-    def add(self, others):
-        for name in ("answered", "unknown", "calls", "interrupts"):
-            setattr(self, name, getattr(self, name) + getattr(others, name))
-        self.lost = self.lost or others.lost
-
-
-class Interrupts:
-    """Raises KeyboardInterrupt during a call, at most `left` times. Between the last line of the
-    call and the line that disables the interrupts no function is called, so that no signal handler
-    runs there.
-    """
-
-    def __init__(self, choices, counts, is_traced):
-        self.choices, self.counts, self.is_traced, self.left = choices, counts, is_traced, 0
+    def __init__(self, worker, is_traced):
+        super().__init__(NO_FILES)
+        self.worker, self.choices, self.is_traced, self.left = worker, worker.choices, is_traced, 0
         if not is_traced:
             signal.signal(signal.SIGALRM, self.alarmed)
 
     def alarmed(self, *_):
         if self.left:
             self.left -= 1
-            self.counts.interrupts += 1
+            self.worker.says(INTERRUPT)
             raise KeyboardInterrupt
 
-    def trace(self, frame, event, _):
-        if not frame.f_code.co_filename.startswith(PACKAGE):
-            return None
-        if event == "line":
-            self.left -= 1
-            if not self.left:
-                self.counts.interrupts += 1
-                raise KeyboardInterrupt
-        return self.trace
-
-    def begin(self):
-        if self.is_traced:
-            self.left = self.choices.randrange(1, MOST_LINES)
-            sys.settrace(self.trace)
-        else:
-            first, again = (self.choices.uniform(*DELAYS) for _ in range(2))
-            signal.setitimer(signal.ITIMER_REAL, first, again)
-            self.left = self.choices.randrange(MOST_INTERRUPTS + 1)
-
     def during(self, act):
-        """Returns the result of an action, or None if it is interrupted."""
-        self.counts.calls += 1
+        """Returns the result of a call. Raises Refused if it is interrupted."""
+        self.worker.says(CALL)
         try:
-            try:
-                self.begin()
-                return act()
-            finally:
-                self.left = 0
-                sys.settrace(None)
+            return self.traced(act) if self.is_traced else self.timed(act)
         except KeyboardInterrupt:
             self.left = 0
-            return None
+            raise Refused("interrupted") from None
+
+    def traced(self, act):
+        try:
+            with interrupting(self.choices.randrange(1, MOST_LINES), PACKAGE):
+                return act()
+        except KeyboardInterrupt:
+            self.worker.says(INTERRUPT)
+            raise
+
+    def timed(self, act):
+        try:
+            signal.setitimer(signal.ITIMER_REAL, *(self.choices.uniform(*DELAYS) for _ in range(2)))
+            self.left = self.choices.randrange(MOST_INTERRUPTS + 1)
+            return act()
+        finally:
+            self.left = 0
+
+    def begin(self, folder):
+        self.device = self.during(lambda: KeptDevice(folder, forces=False))
+
+    def execute(self, buffer):
+        return self.during(lambda: self.device.execute(buffer)).response
+
+    def power(self):
+        self.during(self.device.power_cycle)
 
 
-class Player:
+class Player(Worker):
     """One process that uses the device."""
 
-    def __init__(self, folder, increment, seed, is_traced):
-        self.folder, self.increment, self.device = folder, increment, None
-        self.choices, self.counts = random.Random(seed), Counts()
-        self.interrupts = Interrupts(self.choices, self.counts, is_traced)
+    def __init__(self, tell, seed, until, is_traced):
+        super().__init__(Python, NO_FILES, tell, 0, until)
+        self.choices = random.Random(seed)
+        self.host = Interrupted(self, is_traced)
 
-    def play(self):
-        until = time.monotonic() + SECONDS
-        try:
-            while time.monotonic() < until:
+    def works(self):
+        while time.monotonic() < self.until:
+            with contextlib.suppress(Refused):
                 self.step()
-        except (BadImage, DeviceEnded, OSError, ValueError, AssertionError) as fault:
-            self.counts.lost = f"{type(fault).__name__}: {fault}"
 
     def step(self):
         chance = self.choices.random()
-        if self.device and chance < 0.05:
-            self.device = None
-        if self.device is None:
-            self.device = self.interrupts.during(lambda: KeptDevice(self.folder, forces=False))
+        if chance < 0.05:
+            self.host.device = None
+        if not self.host.is_open:
+            does(self.host, BEGIN, FOLDER)
         elif chance < 0.1:
-            self.interrupts.during(self.device.power_cycle)
+            does(self.host, POWER, FOLDER)
         else:
-            self.count()
-
-    def count(self):
-        answered = self.interrupts.during(lambda: self.device.execute(self.increment))
-        code = answered.response[6:10] if answered else None
-        self.counts.unknown += code is None
-        self.counts.answered += code == SUCCESS
-        if code == INITIALIZE:
-            self.interrupts.during(lambda: self.device.execute(STARTUP))
-        else:
-            assert code in (None, SUCCESS), code.hex()
+            self.counts()
 
 
-def forked(folder, increment, seed, is_traced):
-    """Starts a process that uses the device. Returns the process, and the pipe for its counts."""
-    reads, writes = os.pipe()
-    child = os.fork()
-    if not child:
-        player = Player(folder, increment, seed, is_traced)
-        player.play()
-        os.write(writes, json.dumps(asdict(player.counts)).encode())
-        os._exit(0)
-    os.close(writes)
-    return child, reads
-
-
-def ended(child, reads, until):
-    """Returns the counts of a process. If the process does not end, it is counted as waiting
-    forever.
+def tried(seed):
+    """Tests one folder, from a new device to the final comparison. Returns its processes, and a
+    description of what is lost, or an empty string.
     """
-    while time.monotonic() < until and not os.waitid(
-        os.P_PID, child, os.WEXITED | os.WNOHANG | os.WNOWAIT
-    ):
-        time.sleep(0.01)
-    os.kill(child, signal.SIGKILL)
-    os.waitpid(child, 0)
-    with open(reads, "rb") as told:
-        text = told.read()
-    return Counts(**json.loads(text)) if text else Counts(lost="a process does not end")
-
-
-def compared(folder, caller, index, before, counts):
-    """Compares a folder's device with these counts. Returns a description of the fault, or an empty
-    text.
-    """
+    made(NO_FILES, pathlib.Path(FOLDER), (STARTUP, DEFINE, INCREMENT))
+    before, begun = value(NO_FILES), time.monotonic()
+    crowd = Crowd(
+        lambda number, pipe: Player(pipe, f"{seed} {number}", begun + SECONDS, seed % 2 == 0)
+    )
+    for _ in range(PROCESSES):
+        crowd.begins()
+    while crowd.pids and time.monotonic() < begun + SECONDS_TO_END:
+        crowd.hears(0.01)
+    crowd.end_all()
     try:
-        with KeptDevice(folder) as caller.device:
-            caller.device.power_cycle()
-            caller.start_up()
-            data = caller.send(caller.reading(index, COUNTER_BYTES))["data"]
-    except (BadImage, DeviceEnded) as fault:
-        return f"{type(fault).__name__}: {fault}"
-    more = int.from_bytes(data, "big") - before
-    if counts.answered <= more <= counts.answered + counts.unknown:
-        return ""
-    return f"{more} increments, where {counts.answered} were answered, and {counts.unknown} not"
-
-
-def tried(folder, seed, is_traced):
-    """Tests one folder, from a new device to the final comparison."""
-    with KeptDevice(folder) as device:
-        caller = Caller(device)
-        caller.start_up()
-        index = caller.define(counter())
-        increment = caller.incrementing(index).buffer()
-        caller.send(caller.incrementing(index))
-        before = int.from_bytes(caller.send(caller.reading(index, COUNTER_BYTES))["data"], "big")
-    until, counts = time.monotonic() + SECONDS_TO_END, Counts()
-    seeds = [f"{seed} {it}" for it in range(PROCESSES)]
-    processes = [forked(folder, increment, it, is_traced) for it in seeds]
-    for process in processes:
-        counts.add(ended(*process, until))
-    # If a process does not end, its counts are unknown, and it may still hold the lock.
-    counts.lost = counts.lost or compared(folder, caller, index, before, counts)
-    return counts
+        with KeptDevice(FOLDER) as device:
+            device.power_cycle()
+        return crowd, crowd.wrong(value(NO_FILES) - before)
+    except (BadImage, DeviceEnded, Refused) as fault:
+        return crowd, f"{type(fault).__name__}: {fault}"
 
 
 def main():
     folders, first = (int(it) for it in (*sys.argv[1:], "1")[:2])
-    counts, lost = Counts(), 0
+    reports, lost = Counter(), 0
     for seed in range(first, first + folders):
-        with tempfile.TemporaryDirectory() as folder:
-            of_one = tried(folder, seed, is_traced=seed % 2 == 0)
-        if of_one.lost:
+        with tempfile.TemporaryDirectory() as folder, contextlib.chdir(folder):
+            crowd, wrong = tried(seed)
+        if wrong:
             lost += 1
-            print(f"seed {seed}: {of_one.lost}", flush=True)
-        counts.add(of_one)
-    print(f"{folders} folders, {counts.calls} calls, {counts.interrupts} interrupts, ", end="")
-    print(f"{counts.answered} increments answered: {lost} devices lost")
+            print(f"seed {seed}: {wrong}", flush=True)
+        reports.update(crowd.reports)
+    calls, interrupts, answered = (f"{reports[ord(it)]}" for it in (CALL, INTERRUPT, DONE))
+    print(f"{folders} folders, {calls} calls, {interrupts} interrupts, ", end="")
+    print(f"{answered} increments answered: {lost} devices lost")
     sys.exit(lost > 0)
 
 

@@ -1,11 +1,14 @@
-/* Replaces the functions of the C library with which a host (a program or module that keeps a
- * device in a folder) accesses the folder, the clock, random bytes and memory. One call, chosen by
- * its number, has one of the faults below. LD_PRELOAD loads this library. The environment variable
- * FAILING is `NUMBER ACT ERROR REPORT`. A program with a host in the same process calls
- * failing_begins instead, and failing_goes_on before and after the calls that count. The name of
- * the call with the fault is written to the file REPORT. If FAILING_CLOCK is set, the clock jumps
- * by at most a day. If FAILING_IN is set, a call counts only if it is on a path in this folder or
- * on an open file there. */
+/* Replaces the functions of the C library with which a program or module accesses files, the clock,
+ * random bytes and memory. One call, chosen by its number, has one of the faults below. LD_PRELOAD
+ * loads this library. The environment variable FAILING is `NUMBER ACT ERROR REPORT`. A program with
+ * a host of a device in the same process calls failing_begins instead, and failing_goes_on before
+ * and after the calls that count. The name of the call with the fault is written to the file
+ * REPORT. If FAILING_CLOCK is set, the clock jumps by at most a day. If FAILING_IN is set, a call
+ * counts only if it is on a path in this folder or on an open file there.
+ *
+ * If FAILING_CALLS is set, calls on sockets, on standard input and output and on all clocks count
+ * too, and numbers do not depend on the fault. Each call appends a line to the file FAILING_CALLS:
+ * the name of the function, and of the file that it accesses. */
 #define _GNU_SOURCE
 #include <errno.h>
 #include <fcntl.h>
@@ -16,13 +19,15 @@
 #include <stdlib.h>
 #include <string.h>
 #include <sys/random.h>
+#include <sys/socket.h>
 #include <sys/stat.h>
 #include <sys/syscall.h>
 #include <time.h>
 #include <unistd.h>
 
 /* FAILS_ON: this call and all later calls of the same function fail. STORMS: this call and two
- * later calls that can be interrupted fail with EINTR. */
+ * later calls that can be interrupted fail with EINTR. AWAITS: this call first waits until the file
+ * REPORT exists. */
 enum act {
     PASSES,
     FAILS,
@@ -32,17 +37,19 @@ enum act {
     DOES_HALF,
     IS_KILLED,
     DOES_AND_IS_KILLED,
-    DOES_HALF_AND_IS_KILLED
+    DOES_HALF_AND_IS_KILLED,
+    AWAITS
 };
 
-enum kind { OTHER = 0, MOVES = 1, WAITS = 2, CLOSES = 4, IS_MEMORY = 8 };
-enum { STORM = 3, JUMP_SECONDS = 86400 };
+/* Calls of the kind OUTER count only if FAILING_CALLS is set. */
+enum kind { OTHER = 0, MOVES = 1, WAITS = 2, CLOSES = 4, IS_MEMORY = 8, OUTER = 16 };
+enum { STORM = 3, JUMP_SECONDS = 86400, WAIT_MICROSECONDS = 1000 };
 
 static enum act act;
 static int error, is_on, jumps;
 static long number, counted;
 static char report[512], met[32], object[64];
-static const char *within;
+static const char *within, *calls;
 /* The address range of a loaded object. Only allocations by this object count. */
 static char *object_begins, *object_ends;
 
@@ -89,15 +96,17 @@ __attribute__((constructor)) static void begins(void) {
     int how, with;
     jumps = getenv("FAILING_CLOCK") != NULL;
     within = getenv("FAILING_IN");
+    calls = getenv("FAILING_CALLS");
     if (!told || sscanf(told, "%ld %d %d %511s", &at, &how, &with, path) != 4) return;
     failing_begins(at, how, with, path, "");
     is_on = 1;
 }
 
-static void note(const char *name, const char *of) {
+/* Appends a line with the name of a call and of the file that it accesses to a file. */
+static void note(const char *path, const char *name, const char *of) {
     char line[600];
     int size = snprintf(line, sizeof line, "%s %s\n", name, of ? of : "");
-    int file = (int)syscall(SYS_openat, AT_FDCWD, report, O_WRONLY | O_CREAT | O_APPEND, 0600);
+    int file = (int)syscall(SYS_openat, AT_FDCWD, path, O_WRONLY | O_CREAT | O_APPEND, 0600);
     if (file < 0 || syscall(SYS_write, file, line, size) != size) abort();
     syscall(SYS_close, file);
 }
@@ -108,20 +117,26 @@ static int may_meet(int kind, const void *caller) {
     if (kind & IS_MEMORY)
         return (act == FAILS || act == FAILS_ON) && error == ENOMEM &&
                (const char *)caller >= object_begins && (const char *)caller < object_ends;
+    if (calls) return !(kind & CLOSES);
+    if (kind & OUTER) return 0;
     if (halves) return kind & MOVES;
     if (act == STORMS) return kind & WAITS;
     return !(kind & CLOSES && (act == FAILS || act == FAILS_ON));
 }
 
-/* Returns the path of an open file, or "" if calls in all folders count. */
+/* Returns the path of an open file if FAILING_IN is set, or its name or kind if FAILING_CALLS is set,
+ * or else "". */
 static const char *path_of(int file) {
     static char path[512];
     char link[32];
-    if (!within) return "";
+    if (!within && !calls) return "";
+    if (calls && file < 2) return file ? "output" : "input";
     snprintf(link, sizeof link, "/proc/self/fd/%d", file);
     long size = syscall(SYS_readlinkat, AT_FDCWD, link, path, sizeof path - 1);
     path[size < 0 ? 0 : size] = 0;
-    return path;
+    if (within) return path;
+    const char *slash = strrchr(path, '/');
+    return strncmp(path, "socket:", 7) == 0 ? "connection" : slash ? slash + 1 : path;
 }
 
 static int is_within(const char *path) {
@@ -133,11 +148,14 @@ static int is_within(const char *path) {
 static enum act meets(const char *name, int kind, const char *of, const void *caller) {
     if (!is_on || act == PASSES || !may_meet(kind, caller) || !is_within(of)) return PASSES;
     long at = ++counted;
+    if (calls) note(calls, name, of);
     int again = (act == FAILS_ON && at > number && strcmp(name, met) == 0) ||
                 (act == STORMS && at > number && at < number + STORM);
     if (at != number && !again) return PASSES;
+    while (act == AWAITS && syscall(SYS_faccessat, AT_FDCWD, report, F_OK) != 0)
+        usleep(WAIT_MICROSECONDS);
     if (at == number) {
-        note(name, of);
+        note(report, name, of);
         snprintf(met, sizeof met, "%s", name);
     }
     if (act == IS_KILLED) raise(SIGKILL);
@@ -191,7 +209,7 @@ CALL_TWICE(int, stat, OTHER, path, (const char *path, struct stat *status),
            syscall(SYS_newfstatat, AT_FDCWD, path, status, 0))
 CALL_TWICE(int, lstat, OTHER, path, (const char *path, struct stat *status),
            syscall(SYS_newfstatat, AT_FDCWD, path, status, AT_SYMLINK_NOFOLLOW))
-CALL(int, statx, OTHER, path,
+CALL(int, statx, OTHER, *path ? path : path_of(folder),
      (int folder, const char *path, int flags, unsigned mask, struct statx *told),
      syscall(SYS_statx, folder, path, flags, mask, told))
 CALL(int, fsync, WAITS, path_of(file), (int file), syscall(SYS_fsync, file))
@@ -211,6 +229,8 @@ CALL(int, mkdir, OTHER, path, (const char *path, mode_t mode),
 CALL(int, mkdirat, OTHER, path, (int folder, const char *path, mode_t mode),
      syscall(SYS_mkdirat, folder, path, mode))
 CALL(int, unlink, OTHER, path, (const char *path), syscall(SYS_unlinkat, AT_FDCWD, path, 0))
+CALL(int, rmdir, OUTER, path, (const char *path),
+     syscall(SYS_unlinkat, AT_FDCWD, path, AT_REMOVEDIR))
 CALL(int, unlinkat, OTHER, path, (int folder, const char *path, int flags),
      syscall(SYS_unlinkat, folder, path, flags))
 CALL(int, remove, OTHER, path, (const char *path), syscall(SYS_unlinkat, AT_FDCWD, path, 0))
@@ -218,9 +238,9 @@ CALL(int, rename, OTHER, path, (const char *path, const char *name),
      syscall(SYS_renameat2, AT_FDCWD, path, AT_FDCWD, name, 0))
 CALL(int, renameat, OTHER, path, (int folder, const char *path, int into, const char *name),
      syscall(SYS_renameat2, folder, path, into, name, 0))
-CALL(int, link, OTHER, path, (const char *path, const char *name),
+CALL(int, link, OTHER, name, (const char *path, const char *name),
      syscall(SYS_linkat, AT_FDCWD, path, AT_FDCWD, name, 0))
-CALL(int, linkat, OTHER, path,
+CALL(int, linkat, OTHER, name,
      (int folder, const char *path, int into, const char *name, int flags),
      syscall(SYS_linkat, folder, path, into, name, flags))
 CALL(ssize_t, getrandom, MOVES | WAITS, "", (void *bytes, size_t size, unsigned flags),
@@ -228,15 +248,37 @@ CALL(ssize_t, getrandom, MOVES | WAITS, "", (void *bytes, size_t size, unsigned 
 CALL(int, madvise, OTHER, "", (void *page, size_t size, int advice),
      syscall(SYS_madvise, page, size, advice))
 
-/* Calls on the standard streams do not count, because these belong to the calling program. */
+CALL(int, socket, OUTER, "", (int domain, int type, int protocol),
+     syscall(SYS_socket, domain, type, protocol))
+CALL(int, bind, OUTER, "", (int file, const struct sockaddr *address, socklen_t size),
+     syscall(SYS_bind, file, address, size))
+CALL(int, connect, OUTER, "", (int file, const struct sockaddr *address, socklen_t size),
+     syscall(SYS_connect, file, address, size))
+CALL(int, listen, OUTER, "", (int file, int length), syscall(SYS_listen, file, length))
+CALL(int, accept4, OUTER, "",
+     (int file, struct sockaddr *address, socklen_t *size, int flags),
+     syscall(SYS_accept4, file, address, size, flags))
+CALL(ssize_t, recv, OUTER | MOVES, path_of(file),
+     (int file, void *bytes, size_t size, int flags),
+     syscall(SYS_recvfrom, file, bytes, half(how, size), flags, NULL, NULL))
+CALL(ssize_t, send, OUTER | MOVES, path_of(file),
+     (int file, const void *bytes, size_t size, int flags),
+     syscall(SYS_sendto, file, bytes, half(how, size), flags, NULL, 0))
+
+/* The standard streams belong to the calling program. Calls on standard error never count. */
+static enum act meets_at(const char *name, int file) {
+    if (file == 2) return PASSES;
+    return meets(name, file < 2 ? MOVES | OUTER : MOVES | WAITS, path_of(file), NULL);
+}
+
 ssize_t read(int file, void *bytes, size_t size) {
-    enum act how = file < 3 ? PASSES : meets("read", MOVES | WAITS, path_of(file), NULL);
+    enum act how = meets_at("read", file);
     if (is_refused(how)) return -1;
     return after(how, syscall(SYS_read, file, bytes, half(how, size)));
 }
 
 ssize_t write(int file, const void *bytes, size_t size) {
-    enum act how = file < 3 ? PASSES : meets("write", MOVES | WAITS, path_of(file), NULL);
+    enum act how = meets_at("write", file);
     if (is_refused(how)) return -1;
     return after(how, syscall(SYS_write, file, bytes, half(how, size)));
 }
@@ -262,7 +304,7 @@ OPEN(openat, folder, (int folder, const char *path, int flags, ...))
 OPEN(openat64, folder, (int folder, const char *path, int flags, ...))
 
 int clock_gettime(clockid_t clock, struct timespec *now) {
-    enum act how = clock == CLOCK_REALTIME ? meets("clock_gettime", OTHER, "", NULL) : PASSES;
+    enum act how = meets("clock_gettime", clock == CLOCK_REALTIME ? OTHER : OUTER, "", NULL);
     if (is_refused(how)) return -1;
     long done = syscall(SYS_clock_gettime, clock, now);
     if (jumps && clock == CLOCK_REALTIME)
