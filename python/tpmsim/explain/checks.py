@@ -5,7 +5,8 @@ it.
 from tpmsim.explain import entries, own_objects, policies, sentences
 from tpmsim.explain.past import values_digest
 from tpmsim.explain.reason import Check, Look, Reason, RULES, Scene
-from tpmsim.explain.words import algorithm_words, compared_words, OPERATIONS
+from tpmsim.explain.words import algorithm_words, OPERATIONS
+from tpmsim.model.nv_commands import signed, unsigned
 from tpmsim.standard import CC, first_byte
 
 # If an entity is missing, at most this many existing entities of the same kind are listed.
@@ -80,10 +81,30 @@ def branches(look: Look) -> None:
         look.found.add("told by", it)
 
 
+# The signs of the first ten operations.
+SIGNS = ("=", "!=", ">", ">", "<", "<", ">=", ">=", "<=", "<=")
+SIGNED = (2, 4, 6, 8)
+BITSET, BITCLEAR = 10, 11
+
+
 def comparison(look: Look) -> None:
     operation = look["operation"]
     compared = compared_words(operation, look.operands["held"], look["operandB"])
     look.found.words = f"{OPERATIONS[operation]} does not hold: {compared} is false."
+
+
+def compared_words(operation: int, held: bytes, operand: bytes) -> str:
+    """Returns the comparison of TPM2_PolicyNV, such as `2 <= 1`."""
+    if operation in (0, 1):
+        return f"{held.hex() or 'empty'} {SIGNS[operation]} {operand.hex() or 'empty'}"
+    if operation == BITSET:
+        missing = unsigned(operand) & ~unsigned(held)
+        return f"{held.hex()} has all bits of {operand.hex()} set (missing: {missing:#x})"
+    if operation == BITCLEAR:
+        found = unsigned(operand) & unsigned(held)
+        return f"{held.hex()} has all bits of {operand.hex()} clear (set: {found:#x})"
+    number = signed if operation in SIGNED else unsigned
+    return f"{number(held)} {SIGNS[operation]} {number(operand)}"
 
 
 def old_nonce(look: Look) -> None:

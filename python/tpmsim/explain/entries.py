@@ -9,12 +9,11 @@ from tpmsim.explain.reason import Check, HAD, Look, Reason, Scene, SLIP, WANTED
 from tpmsim.explain.slip import Told
 from tpmsim.explain.words import bytes_words, handle_words, seconds_words
 from tpmsim.model.protection import Lockout, LOCKOUT_AUTH, MILLISECONDS, TRIES
-from tpmsim.standard import Entry, policy, trimmed
+from tpmsim.standard import Entry, policy, RS_PW, trimmed
 
 
 def locked(look: Look) -> None:
     found, lockout = look.found, look.model.lockout
-    found.at = look.scene.entry_at(look.place)
     if look.operands["protection"] == LOCKOUT_AUTH:
         left = MILLISECONDS * lockout.lockout_recovery - lockout.closed_time
         opens = f"it is enabled again in {seconds_words(left)}"
@@ -38,8 +37,9 @@ def locked(look: Look) -> None:
 
 def wrong(look: Look) -> None:
     scene, found, entry = look.scene, look.found, look.entry
-    # The HMAC or the password begins after its size field.
-    found.at = scene.entry_at(look.place) + 4 + 2 + len(entry.nonce) + 1 + 2
+    field = look.field(f"entry {look.place}/{'password' if entry.handle == RS_PW else 'hmac'}")
+    assert field is not None
+    found.at = field.at + field.front
     use = ingredients.use_of(scene, look.place)
     if use is None or entry.demand == policy.PASSWORD:
         wrong_password(scene, found, entry, look.authorized)

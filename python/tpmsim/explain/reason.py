@@ -9,8 +9,9 @@ from functools import cached_property
 from typing import Any, Callable
 
 from tpmsim.explain import dissection
+from tpmsim.explain.dissection import Field
 from tpmsim.explain.past import Past
-from tpmsim.explain.words import handle_words, kind_words
+from tpmsim.explain.words import kind_words
 from tpmsim.model.general import Command
 from tpmsim.model.machine import Model
 from tpmsim.model.nv_commands import Index
@@ -160,17 +161,6 @@ class Scene:
             return at
         return at + 4 + int.from_bytes(self.buffer[at : at + 4], "big")
 
-    def entry_at(self, place: int) -> int:
-        """Returns the offset of the entry with this number, of which the first is 1, if the
-        command's entries could be parsed.
-        """
-        at = self.area_at + 4
-        for _ in range(place - 1):
-            at += 4
-            at += 2 + int.from_bytes(self.buffer[at : at + 2], "big") + 1
-            at += 2 + int.from_bytes(self.buffer[at : at + 2], "big")
-        return at
-
 
 @dataclass
 class OfLayer(Reason):
@@ -228,14 +218,6 @@ class Look:
     def object(self) -> Object:
         return self.model.objects[self.handles[0]]
 
-    @property
-    def first(self) -> str:
-        return handle_words(self.handles[0])
-
-    @property
-    def second(self) -> str:
-        return handle_words(self.handles[1])
-
     # The refused entry, the handle that it authorizes, and the entity of this handle.
 
     @property
@@ -283,12 +265,15 @@ class Look:
                 return f"its place has {kind_words(other)}, {other:08x}"
         return self.past.gone_words(handle)
 
-    def offset(self, path: str) -> int | None:
-        """Returns the offset of a field; a path such as `entry 2/hmac` leads to it."""
-        fields, at = iter(dissection.fields_of_command(self.scene.buffer, self.scene.plain)), None
+    def field(self, path: str) -> Field | None:
+        """Returns a field of the command, to which a path such as `entry 2/hmac` leads; None if an
+        earlier field is malformed.
+        """
+        fields = iter(dissection.fields_of_command(self.scene.buffer, self.scene.plain))
+        found: Field | None = None
         for name in path.split("/"):
-            at = next((it.at for it in fields if it.name == name), None)
-        return at
+            found = next((it for it in fields if it.name == name), None)
+        return found
 
 
 Check = Callable[[Look], None]

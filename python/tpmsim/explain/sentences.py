@@ -11,7 +11,7 @@ operand `expected`. A row contains templates:
     rule                   the key in rules.json, if the row's own key is not there
 
 A template is a format string. It names operands of the refusal, parameters of the command and
-attributes of Look. After a colon it says in which words a value is printed, as in WORDS.
+attributes of Look. After a colon it says in which words a value is printed (WORDS, LOOK_WORDS).
 """
 
 import json
@@ -38,38 +38,46 @@ def numbers(those: Iterable[int]) -> str:
     return words.listed(map(str, those))
 
 
-WORDS: dict[str, Callable[[Look, Any], str]] = {
+def from_words(localities: Sequence[int]) -> str:
+    return f"from locality {numbers(localities)}" if localities else "from no locality"
+
+
+WORDS: dict[str, Callable[[Any], str]] = {
+    "access flags": lambda it: words.flag_words(it & ACCESS, nv.Attribute),
+    "algorithm": words.algorithm_words,
+    "allowed handles": lambda kind: HANDLES[kind].words,
+    "bit": lambda it: "-" if it is None else str(int(it)),
+    "bytes": words.bytes_words,
+    "command": words.command_words,
+    "digest": lambda data: data.hex() or "empty",
+    "digests": lambda those: words.listed(it.hex() or "empty" for it in those),
+    "entry attributes": words.attribute_words,
+    "from localities": from_words,
+    "handle": words.handle_words,
+    "handles": lambda count: words.plural(count, "handle"),
+    "hex": lambda data: bytes(data).hex(),
+    "index flags": lambda it: words.flag_words(it & NO_TYPE, nv.Attribute),
+    "index type": words.index_type_words,
+    "its writer": words.writer_words,
+    "kind": words.kind_words,
+    "localities": words.localities_words,
+    "numbers": lambda those: numbers(those) or "none",
+    "object flags": lambda it: words.flag_words(it, objects.Attribute),
+    "operation": lambda number: words.OPERATIONS[number],
+    "size": words.size_words,
+    "unknown command": words.not_served,
+    "words": " ".join,
+    "written": words.written_words,
+}
+
+# Words that depend on the refusal or on the earlier events.
+LOOK_WORDS: dict[str, Callable[[Look, Any], str]] = {
     ", since line": lambda look, handle: look.since(handle, ", since line"),
-    "access flags": lambda look, it: words.flag_words(it & ACCESS, nv.Attribute),
-    "algorithm": lambda look, number: words.algorithm_words(number),
-    "allowed handles": lambda look, kind: HANDLES[kind].words,
-    "bit": lambda look, it: "-" if it is None else str(int(it)),
-    "bytes": lambda look, data: words.bytes_words(data),
-    "command": lambda look, number: words.command_words(number),
-    "digest": lambda look, data: data.hex() or "empty",
-    "digests": lambda look, those: words.listed(it.hex() or "empty" for it in those),
-    "entry attributes": lambda look, it: words.attribute_words(it),
-    "from localities": lambda look, it: f"from {f'locality {numbers(it)}' if it else 'no locality'}",
-    "handle": lambda look, handle: words.handle_words(handle),
-    "handles": lambda look, count: words.plural(count, "handle"),
-    "hex": lambda look, data: bytes(data).hex(),
     "in line": lambda look, handle: look.since(handle, " in line"),
-    "index flags": lambda look, it: words.flag_words(it & NO_TYPE, nv.Attribute),
-    "index type": lambda look, number: words.index_type_words(number),
-    "its writer": lambda look, kind: words.writer_words(kind),
-    "kind": lambda look, handle: words.kind_words(handle),
     "last change": lambda look, index: look.past.last_change.get(index, "the start"),
-    "localities": lambda look, bits: words.localities_words(bits),
-    "missing": lambda look, handle: look.missing_words(handle),
-    "numbers": lambda look, those: numbers(those) or "none",
-    "object flags": lambda look, it: words.flag_words(it, objects.Attribute),
+    "missing": Look.missing_words,
     "one of": lambda look, allowed: words.one_of_words(allowed, look.operands["digits"]),
-    "operation": lambda look, number: words.OPERATIONS[number],
     "since line": lambda look, handle: look.since(handle, " since line"),
-    "size": lambda look, count: words.size_words(count),
-    "unknown command": lambda look, number: words.not_served(number),
-    "words": lambda look, those: " ".join(those),
-    "written": lambda look, it: words.written_words(it),
 }
 
 
@@ -89,8 +97,10 @@ class Template(string.Formatter):
         return getattr(self.look, name)
 
     def format_field(self, value: Any, format_spec: str) -> str:
+        if format_spec in LOOK_WORDS:
+            return LOOK_WORDS[format_spec](self.look, value)
         said = WORDS.get(format_spec)
-        return said(self.look, value) if said else str(format(value, format_spec))
+        return said(value) if said else str(format(value, format_spec))
 
 
 def say(look: Look, key: str) -> None:
@@ -99,8 +109,8 @@ def say(look: Look, key: str) -> None:
     template, found = Template(look, row), look.found
     found.rule = row.get("rule", found.rule)
     found.words = template.format(row.get("says", ""))
-    if "at" in row:
-        found.at = look.offset(template.format(row["at"]))
+    if "at" in row and (field := look.field(template.format(row["at"]))):
+        found.at = field.at
     for name, sort in (("wanted", WANTED), ("had", HAD), ("facts", PLAIN)):
         for label, value in row.get(name, {}).items():
             found.add(label, template.format(value), sort)

@@ -3,7 +3,6 @@
 import enum
 from typing import Iterable, Sequence
 
-from tpmsim.model.nv_commands import signed, unsigned
 from tpmsim.standard import CC, frames, handle_kinds, HMAC_SESSION, lines, NV, nv, PERSISTENT
 from tpmsim.standard import POLICY_SESSION, TRANSIENT
 from tpmsim.standard.command_names import command_name
@@ -39,11 +38,6 @@ OPERATIONS = (
     *("EQ", "NEQ", "SIGNED_GT", "UNSIGNED_GT", "SIGNED_LT", "UNSIGNED_LT", "SIGNED_GE"),
     *("UNSIGNED_GE", "SIGNED_LE", "UNSIGNED_LE", "BITSET", "BITCLEAR"),
 )
-
-# The signs of the first ten operations.
-SIGNS = ("=", "!=", ">", ">", "<", "<", ">=", ">=", "<=", "<=")
-SIGNED = (2, 4, 6, 8)
-BITSET, BITCLEAR = 10, 11
 
 OF_FIRST_BYTE = {
     NV: "an NV index",
@@ -137,20 +131,6 @@ def localities_words(bits: int) -> str:
 def index_type_words(kind: int) -> str:
     types = {int(it): it.name.lower() for it in nv.Type}
     return types.get(kind, f"type {kind}")
-
-
-def compared_words(operation: int, held: bytes, operand: bytes) -> str:
-    """Returns the comparison of TPM2_PolicyNV, such as `2 <= 1`."""
-    if operation in (0, 1):
-        return f"{held.hex() or 'empty'} {SIGNS[operation]} {operand.hex() or 'empty'}"
-    if operation == BITSET:
-        missing = unsigned(operand) & ~unsigned(held)
-        return f"{held.hex()} has all bits of {operand.hex()} set (missing: {missing:#x})"
-    if operation == BITCLEAR:
-        found = unsigned(operand) & unsigned(held)
-        return f"{held.hex()} has all bits of {operand.hex()} clear (set: {found:#x})"
-    number = signed if operation in SIGNED else unsigned
-    return f"{number(held)} {SIGNS[operation]} {number(operand)}"
 
 
 # The commands that write an index, by its type.
