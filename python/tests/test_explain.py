@@ -2,9 +2,11 @@
 
 import contextlib
 import io
+import itertools
 import json
 import pathlib
 import re
+import string
 import tempfile
 import unittest
 
@@ -16,7 +18,7 @@ from tpmsim.explain import main as command_line
 from tpmsim.explain.checks import CHECKS
 from tpmsim.explain.play import Play
 from tpmsim.explain.reason import RULES
-from tpmsim.explain.sentences import ROWS
+from tpmsim.explain.sentences import LOOK_WORDS, ROWS, WORDS
 from tpmsim.model.image import image
 from tpmsim.standard import CC
 
@@ -58,6 +60,16 @@ class Sentences(unittest.TestCase):
         }
         found = {*rows, *(it if it in RULES else it.partition(".")[0] for it in CHECKS)}
         self.assertEqual(checks - {"G8/AUTH_MISSING"}, found - {"G11"})
+
+    def test_templates_name_known_words(self):
+        """Each template prints its values in words that exist, or as a number."""
+        known, number = {**WORDS, **LOOK_WORDS}, re.compile(r"(#x|,|d|0\d+x|0\{digits\}x)?")
+        for key, row in ROWS.items():
+            kinds = (row.get(it, {}).values() for it in ("wrong", "wanted", "had", "facts"))
+            for template in (row.get("says", ""), *itertools.chain(*kinds)):
+                for _, name, words, _ in string.Formatter().parse(template):
+                    is_known = name is None or words in known or number.fullmatch(words)
+                    self.assertTrue(is_known, (key, template))
 
 
 class Logs(unittest.TestCase):
