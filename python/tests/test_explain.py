@@ -2,8 +2,11 @@
 
 import contextlib
 import io
+import itertools
 import json
 import pathlib
+import re
+import string
 import tempfile
 import unittest
 
@@ -12,10 +15,10 @@ from explained_logs import EXAMPLE, LOCKED, MOVED, TOP, events_of, lines_with
 from tpmsim.caller import area, BY_OWNER, BY_POLICY, Caller
 from tpmsim.device import ModelDevice
 from tpmsim.explain import main as command_line
-from tpmsim.explain.own import CHECKS
-from tpmsim.explain.sentences import ROWS
+from tpmsim.explain.checks import CHECKS
 from tpmsim.explain.play import Play
 from tpmsim.explain.reason import RULES
+from tpmsim.explain.sentences import LOOK_WORDS, ROWS, WORDS
 from tpmsim.model.image import image
 from tpmsim.standard import CC
 
@@ -44,9 +47,29 @@ class Sentences(unittest.TestCase):
             anchors = {it.partition("#")[2] for _, it, _ in table_rules.sections_of(page)}
             self.assertIn(anchor, anchors, link)
 
-    def test_each_own_check_has_its_numbers(self):
-        own = {it for it in RULES if it.partition("/")[0] in CC.__members__ and "/A" in it}
-        self.assertEqual(own, {*CHECKS, *(it.partition(".")[0] for it in ROWS)})
+    def test_each_check_has_its_numbers(self):
+        """Each check has a row of templates, or a function that explains it. The check G11 has a row
+        for each kind of wrong field, and no entity can cause G8/AUTH_MISSING.
+        """
+        general = re.compile(r"G\d+(/\w+(\.\d)?)?|M|condition/\d")
+        checks = {it for it in RULES if general.fullmatch(it) and not it.startswith("G11")}
+        checks |= {it for it in RULES if it.partition("/")[0] in CC.__members__ and "/A" in it}
+        rows = {
+            row.get("rule", key if key in RULES else key.partition(".")[0])
+            for key, row in ROWS.items()
+        }
+        found = {*rows, *(it if it in RULES else it.partition(".")[0] for it in CHECKS)}
+        self.assertEqual(checks - {"G8/AUTH_MISSING"}, found - {"G11"})
+
+    def test_templates_name_known_words(self):
+        """Each template prints its values in words that exist, or as a number."""
+        known, number = {**WORDS, **LOOK_WORDS}, re.compile(r"(#x|,|d|0\d+x|0\{digits\}x)?")
+        for key, row in ROWS.items():
+            kinds = (row.get(it, {}).values() for it in ("wrong", "wanted", "had", "facts"))
+            for template in (row.get("says", ""), *itertools.chain(*kinds)):
+                for _, name, words, _ in string.Formatter().parse(template):
+                    is_known = name is None or words in known or number.fullmatch(words)
+                    self.assertTrue(is_known, (key, template))
 
 
 class Logs(unittest.TestCase):

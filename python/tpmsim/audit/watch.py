@@ -4,7 +4,7 @@ from dataclasses import dataclass, field
 from functools import cached_property
 from typing import Iterator
 
-from tpmsim.explain.play import Event, OF_ENTRIES, Watched
+from tpmsim.explain.play import Event, Watched
 from tpmsim.explain.words import handle_words
 from tpmsim.model import nv_commands
 from tpmsim.model.general import Command
@@ -116,7 +116,7 @@ class Seen:
 
 
 def is_of_entry(check: str, refused: str | None) -> bool:
-    return check in OF_ENTRIES and refused != OF_PARAMETERS
+    return check in ("G9", "G10") and refused != OF_PARAMETERS
 
 
 class Watch(Watched):

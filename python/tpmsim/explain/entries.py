@@ -1,54 +1,20 @@
-"""Why an entry is refused: because of the entity that it should authorize, because of a lockout, or
-because the entry is wrong (G9, G10).
-"""
+"""Why an entry is refused because of a lockout, or because it is wrong (G9, G10)."""
 
 from typing import Iterator
 
-from tpmsim.explain import ingredients, policies, slips
+from tpmsim.explain import ingredients, slips
 from tpmsim.explain.forms import forms_of, mistypings
 from tpmsim.explain.ingredients import Use
-from tpmsim.explain.policies import unavailable
-from tpmsim.explain.reason import HAD, Reason, Scene, SLIP, WANTED
+from tpmsim.explain.reason import Check, HAD, Look, Reason, Scene, SLIP, WANTED
 from tpmsim.explain.slip import Told
 from tpmsim.explain.words import bytes_words, handle_words, seconds_words
-from tpmsim.model.protection import LOCKOUT_AUTH, MILLISECONDS, TRIES
-from tpmsim.standard import Entry, is_policy, policy, trimmed
-
-Place = tuple[int, Entry, int | None]
+from tpmsim.model.protection import Lockout, LOCKOUT_AUTH, MILLISECONDS, TRIES
+from tpmsim.standard import Entry, policy, RS_PW, trimmed
 
 
-def reason(scene: Scene) -> Reason:
-    if scene.name == "INSUFFICIENT":
-        words = "The first parameter, which a session is to decrypt, is cut."
-        return Reason("G10/INSUFFICIENT", words, at=scene.parameters_at)
-    place, entry, handle = refused_place(scene)
-    of_policy = handle is not None and is_policy(entry.handle)
-    if of_policy and scene.name not in ("LOCKOUT", "AUTH_FAIL", "BAD_AUTH"):
-        use = ingredients.use_of(scene, place)
-        assert use is not None
-        return policies.reason(use)
-    if scene.name == "AUTH_UNAVAILABLE":
-        assert handle is not None
-        return unavailable(scene, handle)
-    return (locked if scene.name == "LOCKOUT" else wrong)(scene, place, entry, handle)
-
-
-def refused_place(scene: Scene) -> Place:
-    """Returns the refused entry: the one that the response code names, or else the first one that
-    the check refuses.
-    """
-    places, model = scene.command.places, scene.model
-    if scene.place:
-        return places[scene.place - 1]
-    if scene.name == "LOCKOUT":
-        return next(it for it in places if model.lockout.refuses(model.touched(it[1], it[2])))
-    return places[0]
-
-
-def locked(scene: Scene, place: int, entry: Entry, handle: int | None) -> Reason:
-    model, lockout = scene.model, scene.model.lockout
-    found = Reason("tries", "", at=scene.entry_at(place))
-    if model.touched(entry, handle) == LOCKOUT_AUTH:
+def locked(look: Look) -> None:
+    found, lockout = look.found, look.model.lockout
+    if look.operands["protection"] == LOCKOUT_AUTH:
         left = MILLISECONDS * lockout.lockout_recovery - lockout.closed_time
         opens = f"it is enabled again in {seconds_words(left)}"
         until = opens if lockout.lockout_recovery else "a TPM Reset enables it again"
@@ -61,29 +27,28 @@ def locked(scene: Scene, place: int, entry: Entry, handle: int | None) -> Reason
         if not lockout.max_tries:
             opens = "With a maxTries of 0 that is always so."
         tries = f"{lockout.failed_tries} failed tries >= maxTries {lockout.max_tries}"
+        found.rule = "tries"
         found.words = f"Protected entities are locked out: {tries}. {opens}"
-        recent = scene.past.tries[-lockout.failed_tries :] if lockout.failed_tries else []
+        recent = look.past.tries[-lockout.failed_tries :] if lockout.failed_tries else []
         found.add("failed tries", ", ".join(f"line {it}" for it in recent) or "before the log")
-    is_right = model.accepts(scene.command, place, entry, handle)
+    is_right = look.model.accepts(look.scene.command, look.place, look.entry, look.handle)
     found.add("the entry itself", f"{'right' if is_right else 'wrong'}, and not looked at")
-    return found
 
 
-def wrong(scene: Scene, place: int, entry: Entry, handle: int | None) -> Reason:
-    # The HMAC or the password begins after its size field.
-    at = scene.entry_at(place) + 4 + 2 + len(entry.nonce) + 1 + 2
-    found = Reason(f"{scene.check}/{scene.name}", "", at=at)
-    use = ingredients.use_of(scene, place)
+def wrong(look: Look) -> None:
+    scene, found, entry = look.scene, look.found, look.entry
+    field = look.field(f"entry {look.place}/{'password' if entry.handle == RS_PW else 'hmac'}")
+    assert field is not None
+    found.at = field.at + field.front
+    use = ingredients.use_of(scene, look.place)
     if use is None or entry.demand == policy.PASSWORD:
-        assert handle is not None
-        wrong_password(scene, found, entry, handle)
+        wrong_password(scene, found, entry, look.authorized)
         if use is not None:
             as_hmac(use, found)
-        name_password(scene, found, entry, handle)
+        name_password(scene, found, entry, look.authorized)
     else:
         wrong_hmac(use, found)
-    found.words += " " + counted_words(scene, entry, handle)
-    return found
+    found.words += " " + counted_words(look.operands["protection"], look.model.lockout)
 
 
 def wrong_hmac(use: Use, found: Reason) -> None:
@@ -171,12 +136,10 @@ def as_hmac(use: Use, found: Reason) -> None:
         found.slip("HMAC in place of a password", words)
 
 
-def counted_words(scene: Scene, entry: Entry, handle: int | None) -> str:
-    model, lockout = scene.model, scene.model.lockout
-    touched = model.touched(entry, handle)
-    if touched == LOCKOUT_AUTH:
+def counted_words(protection: str | None, lockout: Lockout) -> str:
+    if protection == LOCKOUT_AUTH:
         return "It disabled lockoutAuth."
-    if touched != TRIES:
+    if protection != TRIES:
         return "It was no attempt on a protected value, and counts as no failed try."
     if not lockout.recovery_time:
         return "It counts as no failed try, because recoveryTime is 0."
@@ -188,7 +151,11 @@ def counted_words(scene: Scene, entry: Entry, handle: int | None) -> str:
 
 
 def is_try(scene: Scene) -> bool:
-    if not scene.refused.startswith("AUTH_FAIL/s") or not scene.model.lockout.recovery_time:
-        return False
-    _, entry, handle = refused_place(scene)
-    return scene.model.touched(entry, handle) == TRIES
+    is_failed = scene.refused.startswith("AUTH_FAIL/s") and scene.model.lockout.recovery_time != 0
+    return is_failed and scene.operands["protection"] == TRIES
+
+
+CHECKS: dict[str, Check] = {
+    **dict.fromkeys(("G9/LOCKOUT", "G10/LOCKOUT"), locked),
+    **dict.fromkeys(("G9/AUTH_FAIL", "G9/BAD_AUTH", "G10/AUTH_FAIL", "G10/BAD_AUTH"), wrong),
+}

@@ -1,6 +1,6 @@
-"""Other forms of a value that a caller may have used instead of the value, as a table: the name of
-each form, its description, and the conversion of a value to it. If a conversion returns an empty
-value, the form does not apply.
+"""Other forms of a value or a Name that a caller may have used instead of it, as tables: the name
+of each form, its description, and the conversion to it. If a conversion returns an empty value, the
+form does not apply.
 """
 
 import base64
@@ -71,6 +71,24 @@ ALONE = (
     Form("without its hex", "as the bytes that it is the hex of", of_hex),
     Form("out of UTF-16", "out of its UTF-16", of_wide),
     Form("without its size", "without the size in front", of_sized),
+)
+
+
+def of_digest(turn: Callable[[bytes], bytes]) -> Callable[[bytes], bytes]:
+    """Returns a form that applies only to Names that contain a digest, and not to Names that are
+    handles.
+    """
+    return lambda name: turn(name) if len(name) > 4 else b""
+
+
+# Forms of the Names in cpHash.
+NAME_FORMS = (
+    Form("Name with its size", "with its two bytes of size in front", sized),
+    Form(
+        "Name without nameAlg", "without the two bytes of its nameAlg", of_digest(lambda it: it[2:])
+    ),
+    Form("Name cut", "cut to 20 bytes", of_digest(lambda it: it[:20])),
+    Form("Name as hex", "as the text of its hex", of_digest(lambda it: it.hex().encode())),
 )
 
 

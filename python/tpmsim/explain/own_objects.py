@@ -1,6 +1,4 @@
-"""Explains refusals by the checks that are specific to a command on objects, with the values
-involved.
-"""
+"""Explains further why a command on objects is refused."""
 
 from tpmsim.explain import ingredients
 from tpmsim.explain.reason import Check, Look
@@ -9,12 +7,7 @@ from tpmsim.model import object_rules
 from tpmsim.model.general import Refusal
 from tpmsim.model.parameters import Parameters
 from tpmsim.model.persistent import is_persistent
-from tpmsim.standard import aes, digest_bytes, Fields, Short, trimmed
-from tpmsim.standard.objects import Public
-
-
-def template(look: Look) -> Public:
-    return Public.read(look["inPublic"])
+from tpmsim.standard import aes, Fields, Short, trimmed
 
 
 def misread(look: Look) -> None:
@@ -26,40 +19,24 @@ def misread(look: Look) -> None:
             value, _ = parameters.structure(object_rules.read_sensitive_create)
         except Refusal:
             continue
-        if len(trimmed(value)) <= digest_bytes(template(look).name_algorithm):
+        if len(trimmed(value)) <= look.operands["most"]:
             look.found.slip(other.name, other.words)
             return
 
 
-def integrity(look: Look) -> None:
-    private, name, held = look["inPrivate"], template(look).name, look.object
-    fields = Fields(private)
-    try:
-        given = fields.sized()
-    except Short:
-        look.say("The integrity of inPrivate is cut.", "inPrivate")
-        return
-    wanted = object_rules.integrity(held, fields.data, name)
-    if given == wanted:
-        right = "The integrity is right, and what it protects is no private area of this kind."
-        look.say(right, "inPrivate")
-        inner(look, fields)
-        return
-    why = "the two areas belong to different objects, to another parent, or one of them was changed"
-    makes = f"The integrity of inPrivate is not the one that {look.first} makes for this inPublic"
-    look.say(f"{makes}: {why}.", "inPrivate")
-    look.found.compare(wanted.hex(), given.hex(), "integrity")
-    look.found.add("Name of inPublic", name.hex())
+def another_parent(look: Look) -> None:
+    """Names another parent that protected the private area."""
+    protected, name = look.operands["protected"], look.operands["public"].name
     for handle, it in look.model.objects.items():
-        if it is not held and object_rules.integrity(it, fields.data, name) == given:
+        if object_rules.integrity(it, protected, name) == look.operands["given"]:
             begun = look.past.begun.get(handle, 0)
             since = f"{handle_words(handle)}, which has existed since line {begun}"
             look.found.slip("another parent", f"it is right under {since}")
 
 
-def inner(look: Look, fields: Fields) -> None:
+def inner(look: Look) -> None:
     try:
-        iv = fields.sized()
+        iv = Fields(look.operands["protected"]).sized()
     except Short:
         look.found.add("iv", "cut")
         return
@@ -74,5 +51,6 @@ def no_place(look: Look) -> None:
 CHECKS: dict[str, Check] = {
     **dict.fromkeys(("CreatePrimary/A4", "Create/A5"), misread),
     **dict.fromkeys(("CreatePrimary/A7", "Load/A6"), no_place),
-    "Load/A5": integrity,
+    "Load/A5.other": another_parent,
+    "Load/A5.content": inner,
 }

@@ -1,17 +1,14 @@
 """Finds the byte at which the parameters of a command are wrong, and what was expected there (G11).
 """
 
-from typing import Any, Callable, Sequence
-
-from tpmsim.explain import dissection, ingredients
+from tpmsim.explain import dissection, ingredients, sentences
 from tpmsim.explain.dissection import Field
-from tpmsim.explain.reason import Reason, RULES, Scene
-from tpmsim.explain.words import algorithm_words, size_words
+from tpmsim.explain.reason import Look, Reason, RULES, Scene
 from tpmsim.faults import TpmsimError
 from tpmsim.model.general import Refusal
 from tpmsim.model.machine import ROWS
 from tpmsim.model.parameters import Parameters, Request
-from tpmsim.standard import CC, nv, objects
+from tpmsim.standard import CC
 
 
 class Whole(TpmsimError):
@@ -38,53 +35,15 @@ def is_well_formed(scene: Scene, plain: bytes) -> bool:
     return True
 
 
-def one_of_words(allowed: Sequence[int], size: int) -> str:
-    if len(allowed) > 4:
-        return f"{allowed[0]:0{2 * size}x} to {allowed[-1]:0{2 * size}x}"
-    spelled = [(f"{it:0{2 * size}x}", algorithm_words(it)) for it in allowed]
-    is_named = size == 2
-    return " or ".join(f"{it} ({name})" if is_named and name != it else it for it, name in spelled)
-
-
-# For each value of a refusal's operand `expected`: what was expected and what was found, in words.
-Operands = dict[str, Any]
-BOTH: dict[str, Callable[[Operands], tuple[str, str]]] = {
-    "bytes": lambda it: (size_words(it["count"]), size_words(it["left"])),
-    "one of": lambda it: (
-        one_of_words(it["allowed"], it["size"]),
-        f"{it['value']:0{2 * it['size']}x}",
-    ),
-    "size": lambda it: (
-        f"a size of at most {it['most']:,}",
-        f"{it['size']:04x}, which is {it['size']:,}",
-    ),
-    "count": lambda it: (
-        f"a count of at most {it['most']}",
-        f"{it['count']:08x}, which is {it['count']:,}",
-    ),
-    "least": lambda it: (
-        f"a count of at least {it['least']}",
-        f"{it['count']:08x}, which is {it['count']}",
-    ),
-    "structure": lambda it: ("the end of the structure", f"{size_words(it['left'])} more"),
-    "end": lambda it: ("the end of the command", f"{size_words(it['left'])} more"),
-}
-
-
 def reason(scene: Scene) -> Reason:
-    assert scene.plain is not None
-    operands = scene.operands
-    at = scene.parameters_at + operands["at"]
+    at = scene.parameters_at + scene.operands["at"]
     field = field_at(scene, at)
-    found = Reason(rule_of(scene, field), "", at=at)
-    if operands["expected"] in BOTH:
-        wanted, had = BOTH[operands["expected"]](operands)
-    else:
-        first, size = operands["last"]
-        wanted, had = wanted_by_code(scene, field), scene.plain[first : first + size].hex()
+    found = Reason(rule_of(scene, field), "")
+    sentences.say(Look(scene, found), f"G11.{scene.operands['expected']}")
+    wanted, had = (it.value for it in found.facts)
     place = place_words(scene, field)
     found.words = f"At byte {at} (0x{at:x}){place}: wanted {wanted}, and there is {had}."
-    found.compare(wanted, had)
+    found.at = at
     misread(scene, found)
     return found
 
@@ -106,17 +65,6 @@ def place_words(scene: Scene, field: Field | None) -> str:
         return of
     is_whole = place and parameters[place - 1].name == field.name
     return of.replace(" of", ",", 1) if is_whole else f", {field.name}{of}"
-
-
-def wanted_by_code(scene: Scene, field: Field | None) -> str:
-    """Returns what the parser of a field expected, judging from the response code of the refusal.
-    """
-    if scene.name == "RESERVED_BITS":
-        named = nv.NAMED if scene.code == CC.NV_DefineSpace else objects.NAMED
-        return f"no bit but those of {named:08x}"
-    if scene.code == CC.EvictControl:
-        return "a handle that begins with 81"
-    return "a handle that begins with 01" if field and field.name == "nvIndex" else "another value"
 
 
 def rule_of(scene: Scene, field: Field | None) -> str:

@@ -6,7 +6,7 @@ from dataclasses import dataclass, field
 from typing import Any, Callable, Iterator
 
 from tpmsim import records
-from tpmsim.explain import accepted, dissection, entries, general, ingredients, own, parameters
+from tpmsim.explain import accepted, checks, dissection, entries, ingredients, parameters
 from tpmsim.explain.contexts import Contexts
 from tpmsim.explain.dissection import Field
 from tpmsim.explain.past import Past
@@ -23,7 +23,6 @@ from tpmsim.records.marks import sum_of
 from tpmsim.standard import HEADER_BYTES, lines, policy
 
 CODE_DIGITS = 8
-OF_ENTRIES = "G9", "G10"
 
 
 @dataclass(frozen=True)
@@ -150,11 +149,7 @@ class Answers:
 
 
 def reason_of(scene: Scene) -> Reason:
-    if scene.check in general.CHECKS:
-        return general.CHECKS[scene.check](scene)
-    if scene.check in OF_ENTRIES:
-        return entries.reason(scene)
-    return parameters.reason(scene) if scene.check == "G11" else own.reason(scene)
+    return parameters.reason(scene) if scene.check == "G11" else checks.reason(scene)
 
 
 class Watched:

@@ -1,44 +1,13 @@
-"""Finds which condition of a policy session does not hold, and why its digest differs."""
+"""Finds why the digest of a policy session differs, and what else its conditions depend on."""
 
 from typing import Sequence
 
-from tpmsim.explain import policy_slips
+from tpmsim.explain import ingredients, policy_slips
 from tpmsim.explain.ingredients import Use
 from tpmsim.explain.past import Banks, Made, Moved, Step
-from tpmsim.explain.reason import HAD, Reason, Scene, WANTED
-from tpmsim.explain.words import algorithm_words, command_words, handle_words, listed
-from tpmsim.explain.words import localities_words
-from tpmsim.model import nv_commands
-from tpmsim.standard import CC, digest_bytes, Fact
-
-
-def unavailable(scene: Scene, handle: int) -> Reason:
-    name, said = scene.code.name, handle_words(handle)
-    if handle in scene.model.objects:
-        its = scene.model.objects[handle].public.auth_policy.hex() or "empty"
-        lacks = "no userWithAuth, so that no password and no HMAC session authorizes it"
-        return Reason("G9/AUTH_UNAVAILABLE.1", f"{said} has {lacks}; its policy is {its}.")
-    public = scene.model.indices[handle].public
-    lacks = "AUTHREAD" if scene.code.has(Fact.READS_NV) else "AUTHWRITE"
-    words = f"{said} has no {lacks}, so that its authValue does not authorize {name}."
-    if scene.code.has(Fact.ADMIN):
-        words = f"{name} takes a policy session alone, which names it by its command code."
-    found = Reason("G9/AUTH_UNAVAILABLE.2", words)
-    found.add("attributes", " ".join(public.means))
-    found.add("authPolicy", public.auth_policy.hex() or "empty")
-    return found
-
-
-def policy_lacks(use: Use) -> str:
-    handle, model, code = use.authorized, use.scene.model, use.code
-    said = handle_words(handle)
-    if handle not in model.objects and handle not in model.indices:
-        return f"{said} has no policy: a password or an HMAC session authorizes it."
-    index = model.indices.get(handle)
-    if index is not None and not nv_commands.takes_policy(index.public, code):
-        lacks = "POLICYREAD" if code.has(Fact.READS_NV) else "POLICYWRITE"
-        return f"{said} has no {lacks}; its attributes are {' '.join(index.public.means)}."
-    return f"The authPolicy of {said} is empty."
+from tpmsim.explain.reason import Check, HAD, Look, Reason, WANTED
+from tpmsim.explain.words import algorithm_words, handle_words, listed
+from tpmsim.standard import CC, digest_bytes
 
 
 def difference(use: Use, wanted: bytes, found: Reason) -> str:
@@ -185,90 +154,48 @@ def together(told: Sequence[str]) -> str:
 MOST_MOVED = 4
 
 
-def reason(use: Use) -> Reason:
-    number = use.scene.operands["condition"]
-    found = Reason(f"condition/{number}", "", at=use.scene.entry_at(use.place))
-    CONDITIONS[number - 1](use, found)
-    told = use.scene.past.told_words(use.entry.handle)
-    for it in told if number not in (1, 2) else []:
-        found.add("told by", it)
-    return found
-
-
-def kind(use: Use, found: Reason) -> None:
-    found.words = f"{use.entry.handle:08x} is a trial session, which authorizes nothing."
-
-
-def entity(use: Use, found: Reason) -> None:
-    found.words = policy_lacks(use)
-
-
-def pcrs(use: Use, found: Reason) -> None:
-    told, now = use.session.policy.update_counter, use.scene.model.update_counter
-    past = use.scene.past
-    line = (past.lines_told(use.entry.handle, CC.PolicyPCR) or [0])[0]
-    moved = past.moved_since(line)
-    by = moved_words(moved) if moved else "a power cycle" if line else "what came before the log"
-    since = f"PolicyPCR in line {line}" if line else "its PolicyPCR, before the log,"
-    found.words = f"After {since} PCRs have moved: by {by}."
-    found.add("update counter recorded", str(told), WANTED)
-    found.add("update counter now", str(now), HAD)
-
-
 def moved_words(moved: list[Moved]) -> str:
     more = [f"{len(moved) - MOST_MOVED:,} more"] if len(moved) > MOST_MOVED else []
     return listed([*(it.words for it in moved[:MOST_MOVED]), *more])
 
 
-def code_named(use: Use, found: Reason) -> None:
-    told = use.session.policy.code or 0
-    found.words = f"The policy is for {command_words(told)}, and this is {use.code.name}."
-    found.add("command code recorded", f"{told:08x}", WANTED)
-    found.add("command code", f"{int(use.code):08x}", HAD)
+# What the conditions add to their sentences.
 
 
-def cp_hash(use: Use, found: Reason) -> None:
-    told, command = use.session.policy, use.command
-    if told.cp_hash is None or use.code.has(Fact.ADMIN) and told.code is None:
-        found.words = f"{use.code.name} needs a policy that names it by PolicyCommandCode."
-        return
-    found.words = "The policy is for one command alone, of another cpHash."
-    found.add("cpHash recorded", told.cp_hash.hex(), WANTED)
-    found.add("cpHash of the command", use.scene.operands["cp_hash"].hex(), HAD)
-    for handle, name in zip(command.handles, use.scene.model.names(command)):
-        found.add(f"Name of {handle_words(handle)}", name.hex())
-    found.add("parameters", command.parameters.hex() or "none")
+def assertions(look: Look) -> None:
+    for it in look.past.told_words(look.entry.handle):
+        look.found.add("told by", it)
 
 
-def written(use: Use, found: Reason) -> None:
-    told, now = use.session.policy.nv_written, use.scene.operands["written"]
-    said, wanted = handle_words(use.authorized), "written" if told else "not written"
-    is_now = "no NV index" if now is None else "written" if now else "not written"
-    found.words = f"The policy is for an NV index that is {wanted}, and {said} is {is_now}."
-    found.add("written value recorded", str(int(bool(told))), WANTED)
-    found.add("WRITTEN now", "-" if now is None else str(int(now)), HAD)
+def pcrs(look: Look) -> None:
+    line = (look.past.lines_told(look.entry.handle, CC.PolicyPCR) or [0])[0]
+    moved = look.past.moved_since(line)
+    by = moved_words(moved) if moved else "a power cycle" if line else "what came before the log"
+    since = f"PolicyPCR in line {line}" if line else "its PolicyPCR, before the log,"
+    look.found.words = f"After {since} PCRs have moved: by {by}."
+    assertions(look)
 
 
-def locality(use: Use, found: Reason) -> None:
-    now, allowed = use.scene.locality, localities_words(use.session.policy.localities)
-    found.words = f"The command comes from locality {now}; the policy allows {allowed}."
-    found.add("localities allowed", allowed, WANTED)
-    found.add("locality", str(now), HAD)
+def cp_hash(look: Look) -> None:
+    command = look.scene.command
+    for handle, name in zip(command.handles, look.model.names(command)):
+        look.found.add(f"Name of {handle_words(handle)}", name.hex())
+    look.found.add("parameters", command.parameters.hex() or "none")
+    assertions(look)
 
 
-def digests(use: Use, found: Reason) -> None:
-    owner = use.scene.operands["entity"]
-    said, session = handle_words(use.authorized), use.session
-    if session.algorithm != owner.name_algorithm:
-        own, wanted = (algorithm_words(it) for it in (session.algorithm, owner.name_algorithm))
-        found.words = f"The session's hash is {own}, and the nameAlg of {said} is {wanted}."
-        return
-    handle = f"{use.entry.handle:08x}"
-    found.words = f"The policy digest of session {handle} is not the authPolicy of {said}."
-    found.add("authPolicy wanted", owner.auth_policy.hex(), WANTED)
-    found.add("policy digest had", session.policy.digest.hex(), HAD)
-    words = difference(use, owner.auth_policy, found)
-    found.words += f" {words}" if words else ""
+def digests(look: Look) -> None:
+    use = ingredients.use_of(look.scene, look.place)
+    assert use is not None
+    words = difference(use, look.operands["wanted"], look.found)
+    look.found.words += f" {words}" if words else ""
+    assertions(look)
 
 
-CONDITIONS = kind, entity, pcrs, code_named, cp_hash, written, locality, digests
+CHECKS: dict[str, Check] = {
+    "condition/3": pcrs,
+    "condition/5.cpHash": cp_hash,
+    "condition/8.digest": digests,
+    **dict.fromkeys(("condition/4", "condition/5.code", "condition/6"), assertions),
+    **dict.fromkeys(("condition/7", "condition/8.hash"), assertions),
+}

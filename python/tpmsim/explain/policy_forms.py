@@ -1,4 +1,6 @@
-"""A table of wrong ways to assemble the text that is hashed for an assertion."""
+"""A table of wrong ways to assemble the text that is hashed for an assertion. The descriptions are
+in slips.json.
+"""
 
 from dataclasses import dataclass
 from typing import Any, Callable, Iterator
@@ -6,21 +8,24 @@ from typing import Any, Callable, Iterator
 from tpmsim.explain.ingredients import Use
 from tpmsim.explain.past import Step
 from tpmsim.explain.policy_values import turned, Turned
-from tpmsim.explain.slip import other_hash
+from tpmsim.explain.slip import other_hash, SLIPS
 from tpmsim.explain.words import algorithm_words
 from tpmsim.policies.written import Update
 from tpmsim.standard import CC, digest, digest_bytes, number, sized
 
 
+# A function from the previous digest to the next, which returns None if it does not apply to this
+# assertion.
+TextLink = Callable[[Step, Update, int, bytes], bytes | None]
+
+
 @dataclass(frozen=True)
 class Text:
-    """A row of the table: a name, a description, and a function from the previous digest to the
-    next, which returns None if the row does not apply to this assertion.
-    """
+    """A row of the table: a name, a description, and a function between digests."""
 
     name: str
     words: str
-    link: Callable[[Step, Update, int, bytes], bytes | None]
+    link: TextLink
 
 
 def pcr_text(parts: Callable[[int, bytes, bytes], bytes | None]) -> Any:
@@ -72,72 +77,31 @@ def unhashed_arguments(algorithm: int, update: Update, old: bytes) -> bytes | No
     return digest(algorithm, old + number(update.code, 4) + b"".join(update.apart) + name)
 
 
-TEXTS = (
-    Text(
-        "PCR digest before the selection",
-        "the digest of the PCRs before their selection",
-        pcr_text(lambda algorithm, selection, given: given + selection),
+LINKS: dict[str, TextLink] = {
+    "PCR digest before the selection": pcr_text(
+        lambda algorithm, selection, given: given + selection
     ),
-    Text(
-        "PCR digest with its size",
-        "the digest of the PCRs with its two bytes of size",
-        pcr_text(lambda algorithm, selection, given: selection + sized(given)),
+    "PCR digest with its size": pcr_text(
+        lambda algorithm, selection, given: selection + sized(given)
     ),
-    Text(
-        "selection left out",
-        "no selection before the digest of the PCRs",
-        pcr_text(lambda algorithm, selection, given: given),
+    "selection left out": pcr_text(lambda algorithm, selection, given: given),
+    "PCR digest left out": pcr_text(lambda algorithm, selection, given: selection),
+    "code of PolicyPassword": plain_text(by_password),
+    "policyRef in one hash": plain_text(without_reference),
+    "PolicyOR after a digest": plain_text(old_before_or),
+    "PolicyOR without its zeros": plain_text(or_without_zeros),
+    "PolicyNV's arguments not hashed": plain_text(unhashed_arguments),
+    "policy without its code": plain_text(
+        lambda algorithm, it, old: digest(algorithm, old + it.about)
     ),
-    Text(
-        "PCR digest left out",
-        "no digest of the PCRs",
-        pcr_text(lambda algorithm, selection, given: selection),
+    "policy's code first": plain_text(
+        lambda algorithm, it, old: digest(algorithm, number(it.code, 4) + old + it.about)
     ),
-    Text(
-        "code of PolicyPassword",
-        "the command code of PolicyPassword instead of PolicyAuthValue's",
-        plain_text(by_password),
+    "policy's code in two bytes": plain_text(
+        lambda algorithm, it, old: digest(algorithm, old + number(it.code, 2) + it.about)
     ),
-    Text(
-        "policyRef in one hash",
-        "policyRef in the first hash instead of a second one",
-        plain_text(without_reference),
-    ),
-    Text(
-        "PolicyOR after a digest",
-        "the digest before it instead of zeros",
-        plain_text(old_before_or),
-    ),
-    Text(
-        "PolicyOR without its zeros",
-        "nothing before its code instead of zeros",
-        plain_text(or_without_zeros),
-    ),
-    Text(
-        "PolicyNV's arguments not hashed",
-        "its arguments instead of their hash",
-        plain_text(unhashed_arguments),
-    ),
-    Text(
-        "policy without its code",
-        "no command code",
-        plain_text(lambda algorithm, it, old: digest(algorithm, old + it.about)),
-    ),
-    Text(
-        "policy's code first",
-        "the command code first, and then the digest before it,",
-        plain_text(
-            lambda algorithm, it, old: digest(algorithm, number(it.code, 4) + old + it.about)
-        ),
-    ),
-    Text(
-        "policy's code in two bytes",
-        "the command code in two bytes instead of four",
-        plain_text(
-            lambda algorithm, it, old: digest(algorithm, old + number(it.code, 2) + it.about)
-        ),
-    ),
-)
+}
+TEXTS = [Text(name, SLIPS["policy"][name], link) for name, link in LINKS.items()]
 
 
 def of_texts(use: Use, place: int, step: Step) -> Iterator[Turned]:

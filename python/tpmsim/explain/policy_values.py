@@ -8,8 +8,8 @@ from dataclasses import dataclass
 from itertools import islice, permutations
 from typing import Any, Callable, Iterator, Sequence
 
+from tpmsim.explain.forms import NAME_FORMS
 from tpmsim.explain.ingredients import Use
-from tpmsim.explain.name_forms import NAME_FORMS
 from tpmsim.explain.past import Banks, Step, values_digest
 from tpmsim.explain.slip import other_hash, Told
 from tpmsim.explain.slip_hashes import public_names

@@ -9,15 +9,17 @@ from functools import cached_property
 from typing import Any, Callable
 
 from tpmsim.explain import dissection
+from tpmsim.explain.dissection import Field
 from tpmsim.explain.past import Past
-from tpmsim.explain.words import handle_words
+from tpmsim.explain.words import kind_words
 from tpmsim.model.general import Command
 from tpmsim.model.machine import Model
 from tpmsim.model.nv_commands import Index
 from tpmsim.model.object_rules import Object
 from tpmsim.model.policy_state import Session
 from tpmsim.model.sequence_sessions import SessionUse
-from tpmsim.standard import CC, frames, HEADER_BYTES, is_policy, NUMBERED, nv, values
+from tpmsim.standard import CC, Entry, frames, HEADER_BYTES, is_policy, is_session, NUMBERED, nv
+from tpmsim.standard import values
 
 # The sentence for each check, and its location in docs/table. tests/table_rules.py writes the file.
 RULES_FILE = pathlib.Path(__file__).with_name("rules.json")
@@ -26,6 +28,8 @@ RULES: dict[str, list[str]] = json.loads(RULES_FILE.read_text("utf-8"))
 # Whether a fact is what was expected, what was found instead, or neither.
 WANTED, HAD, PLAIN = "wanted", "had", ""
 
+# The slot of a session, in its handle.
+PLACE_BITS = 0xFF_FFFF
 
 SLIP = "slip"
 
@@ -157,17 +161,6 @@ class Scene:
             return at
         return at + 4 + int.from_bytes(self.buffer[at : at + 4], "big")
 
-    def entry_at(self, place: int) -> int:
-        """Returns the offset of the entry with this number, of which the first is 1, if the
-        command's entries could be parsed.
-        """
-        at = self.area_at + 4
-        for _ in range(place - 1):
-            at += 4
-            at += 2 + int.from_bytes(self.buffer[at : at + 2], "big") + 1
-            at += 2 + int.from_bytes(self.buffer[at : at + 2], "big")
-        return at
-
 
 @dataclass
 class OfLayer(Reason):
@@ -185,17 +178,25 @@ class OfLayer(Reason):
 
 
 class Look:
-    """A command that passed the checks of its parameters, and the reason found so far."""
+    """A refused command, and the reason found so far."""
 
     def __init__(self, scene: Scene, found: Reason) -> None:
         self.scene, self.found, self.past = scene, found, scene.past
-        self.model: Model = scene.model
-        self.handles, self.code = scene.command.handles, scene.code
+        self.model, self.operands = scene.model, scene.operands
+
+    @property
+    def handles(self) -> list[int]:
+        return self.scene.handles
+
+    @property
+    def code(self) -> CC:
+        return self.scene.code
 
     @cached_property
     def values(self) -> dict[str, Any]:
-        assert self.scene.plain is not None
-        return values.read_all(self.code.parameters, self.scene.plain)
+        """Returns the command's parameters; empty if the device did not read all of them."""
+        is_read = self.scene.plain is not None and self.scene.check != "G11"
+        return values.read_all(self.code.parameters, self.scene.plain or b"") if is_read else {}
 
     def __getitem__(self, name: str) -> Any:
         return self.values[name]
@@ -217,13 +218,28 @@ class Look:
     def object(self) -> Object:
         return self.model.objects[self.handles[0]]
 
-    @property
-    def first(self) -> str:
-        return handle_words(self.handles[0])
+    # The refused entry, the handle that it authorizes, and the entity of this handle.
 
     @property
-    def second(self) -> str:
-        return handle_words(self.handles[1])
+    def place(self) -> int:
+        return int(self.operands["place"])
+
+    @property
+    def entry(self) -> Entry:
+        return self.scene.command.places[self.place - 1][1]
+
+    @property
+    def handle(self) -> int | None:
+        return self.scene.command.places[self.place - 1][2]
+
+    @property
+    def authorized(self) -> int:
+        assert self.handle is not None
+        return self.handle
+
+    @property
+    def held(self) -> Object | Index | None:
+        return self.model.held(self.authorized)
 
     @property
     def recorded(self) -> str:
@@ -242,12 +258,22 @@ class Look:
         line = self.past.begun.get(handle, 0)
         return f"{words} {line}" if line else ""
 
-    def say(self, words: str, at: str = "") -> None:
-        """Sets the reason for the refusal, and the wrong field of the decrypted parameters."""
-        self.found.words = words
-        if at:
-            fields = dissection.fields_of_command(self.scene.buffer, self.scene.plain)
-            self.found.at = next((it.at for it in fields if it.name == at), None)
+    def missing_words(self, handle: int) -> str:
+        """Returns why there is no entity with a handle."""
+        for other in self.model.sessions if is_session(handle) else []:
+            if other & PLACE_BITS == handle & PLACE_BITS and other != handle:
+                return f"its place has {kind_words(other)}, {other:08x}"
+        return self.past.gone_words(handle)
+
+    def field(self, path: str) -> Field | None:
+        """Returns a field of the command, to which a path such as `entry 2/hmac` leads; None if an
+        earlier field is malformed.
+        """
+        fields = iter(dissection.fields_of_command(self.scene.buffer, self.scene.plain))
+        found: Field | None = None
+        for name in path.split("/"):
+            found = next((it for it in fields if it.name == name), None)
+        return found
 
 
 Check = Callable[[Look], None]

@@ -4,6 +4,8 @@ hash or an HMAC.
 
 from __future__ import annotations
 
+import json
+import pathlib
 from dataclasses import dataclass, field
 from typing import Any, Callable, Mapping, NamedTuple
 
@@ -40,12 +42,28 @@ class Slip:
         return right._replace(**self.changes)
 
 
+# A change of the correct ingredients, or of the correct parts of KDFa.
+Turn = Callable[[Any], Changes]
+
+
 class Row(NamedTuple):
-    """A mistake in a table, which changes the correct ingredients, or the correct parts of KDFa."""
+    """A mistake in a table."""
 
     name: str
     words: str
-    turn: Callable[[Any], Changes]
+    turn: Turn
+
+
+# The descriptions of the mistakes in each table, by name.
+FILE = pathlib.Path(__file__).with_name("slips.json")
+SLIPS: dict[str, dict[str, str]] = json.loads(FILE.read_text("utf-8"))
+
+
+def rows(table: str, turns: Mapping[str, Turn]) -> list[Row]:
+    """Returns the mistakes of a table. If several have the same name, a dot and a word that
+    distinguishes them follow the name in `turns` and in slips.json.
+    """
+    return [Row(key.partition(".")[0], SLIPS[table][key], turn) for key, turn in turns.items()]
 
 
 def other_hash(own: int) -> int:

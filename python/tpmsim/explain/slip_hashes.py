@@ -7,8 +7,8 @@ from itertools import product
 from typing import Any, Iterator, Sequence
 
 from tpmsim.explain import ingredients
+from tpmsim.explain.forms import NAME_FORMS
 from tpmsim.explain.ingredients import Use
-from tpmsim.explain.name_forms import NAME_FORMS
 from tpmsim.explain.slip import other_hash, Slip
 from tpmsim.explain.words import ALGORITHMS, handle_words
 from tpmsim.model.machine import Model

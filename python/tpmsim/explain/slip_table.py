@@ -1,11 +1,11 @@
-"""The common mistakes in the parts of an HMAC, as a table: each has a name, a description, and a
-change of the ingredients.
+"""The common mistakes in the parts of an HMAC, as a table: each has a name, and a change of the
+ingredients. Their descriptions are in slips.json.
 """
 
 from typing import Callable, Iterator
 
 from tpmsim.explain.ingredients import Ingredients
-from tpmsim.explain.slip import Changes, other_hash, other_words, Row, Slip
+from tpmsim.explain.slip import other_hash, other_words, rows, Slip, Turn
 from tpmsim.standard import digest, number, sized
 from tpmsim.standard.sessions import mac
 
@@ -47,7 +47,7 @@ def mac_of_hash(algorithm: int, key: bytes, message: bytes) -> bytes:
     return mac(algorithm, key, digest(algorithm, message))
 
 
-def by_other(*names: str) -> Callable[[Ingredients], Changes]:
+def by_other(*names: str) -> Turn:
     return lambda it: {name: other_hash(it.algorithm) for name in names}
 
 
@@ -69,200 +69,57 @@ def without_size(parameters: bytes) -> bytes:
     return parameters[2:] if 0 < size <= len(parameters) - 2 else parameters
 
 
-ORDER = "the HMAC is over cpHash, nonceCaller, nonceTPM and the attributes, in this order"
-
-ROWS = (
+TURNS: dict[str, Turn] = {
     # Mistakes with the two nonces.
-    Row(
-        "nonces swapped",
-        "nonceTPM was put before nonceCaller, which is a response's order; a command has nonceCaller "
-        "first",
-        lambda it: {"newer": it.older, "older": it.newer},
-    ),
-    Row(
-        "nonces with their sizes",
-        "the nonces have their two bytes of size in front; the HMAC has none",
-        lambda it: {"newer": sized(it.newer), "older": sized(it.older)},
-    ),
-    Row(
-        "nonceCaller with its size",
-        "nonceCaller has its two bytes of size in front; the HMAC has none",
-        lambda it: {"newer": sized(it.newer)},
-    ),
-    Row(
-        "nonceTPM with its size",
-        "nonceTPM has its two bytes of size in front; the HMAC has none",
-        lambda it: {"older": sized(it.older)},
-    ),
-    Row("nonceCaller left out", "nonceCaller was left out of the HMAC", lambda it: {"newer": b""}),
-    Row("nonceTPM left out", "nonceTPM was left out of the HMAC", lambda it: {"older": b""}),
-    Row(
-        "nonces left out",
-        "both nonces were left out of the HMAC",
-        lambda it: {"newer": b"", "older": b""},
-    ),
-    Row(
-        "zeros as nonceCaller",
-        "nonceCaller was zeros, and not the one that the entry has",
-        lambda it: {"newer": bytes(len(it.newer))},
-    ),
+    "nonces swapped": lambda it: {"newer": it.older, "older": it.newer},
+    "nonces with their sizes": lambda it: {"newer": sized(it.newer), "older": sized(it.older)},
+    "nonceCaller with its size": lambda it: {"newer": sized(it.newer)},
+    "nonceTPM with its size": lambda it: {"older": sized(it.older)},
+    "nonceCaller left out": lambda it: {"newer": b""},
+    "nonceTPM left out": lambda it: {"older": b""},
+    "nonces left out": lambda it: {"newer": b"", "older": b""},
+    "zeros as nonceCaller": lambda it: {"newer": bytes(len(it.newer))},
     # Mistakes with the attributes.
-    Row(
-        "attributes left out",
-        "the attributes were left out of the HMAC, where they are the last byte",
-        lambda it: {"attributes": b""},
-    ),
-    Row(
-        "attributes in four bytes",
-        "the HMAC has the attributes in four bytes; they are one byte",
-        lambda it: {"attributes": bytes(3) + it.attributes},
-    ),
-    Row(
-        "attributes before the nonces",
-        f"the attributes come before the nonces; {ORDER}",
-        lambda it: {"message_of": attributes_first},
-    ),
-    Row(
-        "cpHash after the rest",
-        f"cpHash comes after all else; {ORDER}",
-        lambda it: {"message_of": cp_hash_last},
-    ),
+    "attributes left out": lambda it: {"attributes": b""},
+    "attributes in four bytes": lambda it: {"attributes": bytes(3) + it.attributes},
+    "attributes before the nonces": lambda it: {"message_of": attributes_first},
+    "cpHash after the rest": lambda it: {"message_of": cp_hash_last},
     # Mistakes with the key.
-    Row(
-        "session key left out",
-        "the session key was left out: a bound session has one",
-        lambda it: {"session_key": b""},
-    ),
-    Row(
-        "key in another order",
-        "the authValue comes before the session key in the key; the session key is first",
-        lambda it: {"key_of": value_first},
-    ),
+    "session key left out": lambda it: {"session_key": b""},
+    "key in another order": lambda it: {"key_of": value_first},
     # Mistakes with cpHash.
-    Row(
-        "response's hash",
-        "the parameters were hashed as a response's: 00000000 before the command code, and no Names",
-        lambda it: {"code": bytes(4) + it.code, "names": ()},
-    ),
-    Row(
-        "command code left out", "the command code was left out of cpHash", lambda it: {"code": b""}
-    ),
-    Row(
-        "command code in two bytes",
-        "cpHash has the command code in two bytes; it has four",
-        lambda it: {"code": it.code[2:]},
-    ),
-    Row(
-        "command code little-endian",
-        "cpHash has the command code with its lowest byte first; its highest is first",
-        lambda it: {"code": it.code[::-1]},
-    ),
-    Row(
-        "Names left out",
-        "cpHash was made without the Names of the handles",
-        lambda it: {"names": ()},
-    ),
-    Row(
-        "Names in another order",
-        "cpHash has the Names in another order than the handles",
-        lambda it: {"names": it.names[::-1]},
-    ),
-    Row(
-        "one Name left out",
-        "cpHash has the Name of the first handle alone",
-        lambda it: {"names": it.names[:1]},
-    ),
-    Row(
-        "one Name left out",
-        "cpHash has the Name of the last handle alone",
-        lambda it: {"names": it.names[-1:]},
-    ),
-    Row(
-        "parameters left out",
-        "the parameters were left out of cpHash",
-        lambda it: {"parameters": b""},
-    ),
-    Row(
-        "parameter without its size",
-        "cpHash has the first parameter without its two bytes of size",
-        lambda it: {"parameters": without_size(it.parameters)},
-    ),
-    Row(
-        "parameters with a size",
-        "cpHash has the parameters after four bytes of their size, as a response has them",
-        lambda it: {"parameters": number(len(it.parameters), 4) + it.parameters},
-    ),
-    Row(
-        "parameters before the Names",
-        "cpHash has the parameters before the Names",
-        lambda it: {"text_of": names_last},
-    ),
-    Row(
-        "command code after the rest",
-        "cpHash has the command code at its end, and not first",
-        lambda it: {"text_of": code_last},
-    ),
-    Row(
-        "cpHash left out",
-        "cpHash was left out of the HMAC",
-        lambda it: {"cp_hash_of": lambda algorithm, text: b""},
-    ),
-    Row(
-        "cpHash not hashed",
-        "the HMAC has the text of cpHash, which was not hashed",
-        lambda it: {"cp_hash_of": lambda algorithm, text: text},
-    ),
-    Row(
-        "cpHash with its size",
-        "cpHash has its two bytes of size in front; the HMAC has none",
-        lambda it: {"cp_hash_of": then(it.cp_hash_of, sized)},
-    ),
-    Row(
-        "cpHash as hex",
-        "the HMAC has cpHash as the text of its hex",
-        lambda it: {"cp_hash_of": then(it.cp_hash_of, as_hex)},
-    ),
+    "response's hash": lambda it: {"code": bytes(4) + it.code, "names": ()},
+    "command code left out": lambda it: {"code": b""},
+    "command code in two bytes": lambda it: {"code": it.code[2:]},
+    "command code little-endian": lambda it: {"code": it.code[::-1]},
+    "Names left out": lambda it: {"names": ()},
+    "Names in another order": lambda it: {"names": it.names[::-1]},
+    "one Name left out.last": lambda it: {"names": it.names[:1]},
+    "one Name left out.first": lambda it: {"names": it.names[-1:]},
+    "parameters left out": lambda it: {"parameters": b""},
+    "parameter without its size": lambda it: {"parameters": without_size(it.parameters)},
+    "parameters with a size": lambda it: {
+        "parameters": number(len(it.parameters), 4) + it.parameters
+    },
+    "parameters before the Names": lambda it: {"text_of": names_last},
+    "command code after the rest": lambda it: {"text_of": code_last},
+    "cpHash left out": lambda it: {"cp_hash_of": lambda algorithm, text: b""},
+    "cpHash not hashed": lambda it: {"cp_hash_of": lambda algorithm, text: text},
+    "cpHash with its size": lambda it: {"cp_hash_of": then(it.cp_hash_of, sized)},
+    "cpHash as hex": lambda it: {"cp_hash_of": then(it.cp_hash_of, as_hex)},
     # Mistakes with the hash algorithms.
-    Row("wrong hash", "cpHash was made {hash}", by_other("hash_algorithm")),
-    Row("wrong hash", "the HMAC was made {hash}", by_other("algorithm")),
-    Row(
-        "wrong hash",
-        "cpHash and the HMAC were made {hash}",
-        by_other("hash_algorithm", "algorithm"),
-    ),
-    Row(
-        "hash instead of an HMAC",
-        "it is the hash of the key and the text, and no HMAC",
-        lambda it: {"mac_of": plain_hash},
-    ),
-    Row(
-        "HMAC of a hash",
-        "it is the HMAC of the hash of the text, and not of the text",
-        lambda it: {"mac_of": mac_of_hash},
-    ),
+    "wrong hash.cpHash": by_other("hash_algorithm"),
+    "wrong hash.HMAC": by_other("algorithm"),
+    "wrong hash.both": by_other("hash_algorithm", "algorithm"),
+    "hash instead of an HMAC": lambda it: {"mac_of": plain_hash},
+    "HMAC of a hash": lambda it: {"mac_of": mac_of_hash},
     # Mistakes with the nonces of other sessions.
-    Row(
-        "other nonces left out",
-        "the nonceTPM of the session that decrypts or encrypts was left out",
-        lambda it: {"others": ()},
-    ),
-    Row(
-        "other nonces in another order",
-        "the nonceTPMs of the sessions that decrypt and encrypt are in the other order",
-        lambda it: {"others": it.others[::-1]},
-    ),
-    Row(
-        "other nonces with their sizes",
-        "the nonceTPM of the session that decrypts or encrypts has its two bytes of size in front",
-        lambda it: {"others": tuple(map(sized, it.others))},
-    ),
-    Row(
-        "other nonces after the rest",
-        "the nonceTPM of the session that decrypts or encrypts comes after the attributes, and not "
-        "before them",
-        lambda it: {"message_of": others_last},
-    ),
-)
+    "other nonces left out": lambda it: {"others": ()},
+    "other nonces in another order": lambda it: {"others": it.others[::-1]},
+    "other nonces with their sizes": lambda it: {"others": tuple(map(sized, it.others))},
+    "other nonces after the rest": lambda it: {"message_of": others_last},
+}
+ROWS = rows("HMAC", TURNS)
 
 
 def of_rows(right: Ingredients) -> Iterator[Slip]:

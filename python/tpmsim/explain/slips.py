@@ -2,7 +2,7 @@
 or two.
 
 A mistake is reported only if it makes the HMAC that was sent. The tables of mistakes are in
-slip_table.py, slip_kdf.py, name_forms.py and forms.py; slip_pairs.py tries two at once.
+slip_table.py, slip_kdf.py and forms.py; slip_pairs.py tries two at once.
 """
 
 from __future__ import annotations

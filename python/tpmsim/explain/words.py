@@ -1,9 +1,9 @@
 """Numbers, handles, codes and bytes as text."""
 
 import enum
-from typing import Iterable
+from typing import Iterable, Sequence
 
-from tpmsim.standard import frames, handle_kinds, HMAC_SESSION, lines, NV, nv, PERSISTENT
+from tpmsim.standard import CC, frames, handle_kinds, HMAC_SESSION, lines, NV, nv, PERSISTENT
 from tpmsim.standard import POLICY_SESSION, TRANSIENT
 from tpmsim.standard.command_names import command_name
 
@@ -131,6 +131,34 @@ def localities_words(bits: int) -> str:
 def index_type_words(kind: int) -> str:
     types = {int(it): it.name.lower() for it in nv.Type}
     return types.get(kind, f"type {kind}")
+
+
+# The commands that write an index, by its type.
+WRITERS = {
+    int(nv.Type.ORDINARY): CC.NV_Write,
+    int(nv.Type.COUNTER): CC.NV_Increment,
+    int(nv.Type.BITS): CC.NV_SetBits,
+    int(nv.Type.EXTEND): CC.NV_Extend,
+}
+
+
+def writer_words(kind: int) -> str:
+    """Returns which command writes an index of this type; empty for an unknown type."""
+    return f"; {WRITERS[kind].name} writes it" if kind in WRITERS else ""
+
+
+def written_words(is_written: bool | None) -> str:
+    """Returns whether an entity is a written index; None means that it is no index."""
+    return "no NV index" if is_written is None else "written" if is_written else "not written"
+
+
+def one_of_words(allowed: Sequence[int], digits: int) -> str:
+    """Returns the allowed values of a number with this many digits. One of four is an algorithm."""
+    if len(allowed) > 4:
+        return f"{allowed[0]:0{digits}x} to {allowed[-1]:0{digits}x}"
+    spelled = [(f"{it:0{digits}x}", algorithm_words(it)) for it in allowed]
+    is_named = digits == 4
+    return " or ".join(f"{it} ({name})" if is_named and name != it else it for it, name in spelled)
 
 
 def seconds_words(milliseconds: int) -> str:

@@ -7,6 +7,7 @@ It shares no code with the product, and its rules are those of docs/table.
 from __future__ import annotations
 
 from dataclasses import dataclass, field
+from functools import partial
 from typing import Any, Callable
 
 from tpmsim.model import capability, general, history, nv_commands, object_commands, pcrs
@@ -219,16 +220,31 @@ class Model(
             return nv_commands.takes_auth_value(self.indices[handle].public, code)
         return True
 
+    def auth_value_lack(self, handle: int, code: CC) -> str:
+        """Returns the attribute without which a handle's authorization value does not authorize a
+        command; `ADMIN` if no attribute lets it authorize the command.
+        """
+        if handle in self.objects:
+            return "userWithAuth"
+        return "ADMIN" if code.has(Fact.ADMIN) else nv_commands.auth_value_attribute(code).name
+
     def policy_entity(self, handle: int, code: CC) -> objects.Public | nv.Public | None:
         """Returns the entity that a policy can authorize: an object or an index whose attributes
         allow it; otherwise None.
         """
         held = self.held(handle)
-        if held is None or not held.public.auth_policy:
-            return None
+        return held.public if held and not self.policy_lack(handle, code) else None
+
+    def policy_lack(self, handle: int, code: CC) -> str:
+        """Returns what a handle lacks, so that no policy can authorize a command with it: an
+        `entity`, an attribute or an `authPolicy`; empty if a policy can authorize it.
+        """
+        held = self.held(handle)
+        if held is None:
+            return "entity"
         if isinstance(held, Index) and not nv_commands.takes_policy(held.public, code):
-            return None
-        return held.public
+            return nv_commands.policy_attribute(code).name
+        return "" if held.public.auth_policy else "authPolicy"
 
     def written(self, handle: int) -> bool | None:
         """Whether an NV index is written; None for any other entity."""
@@ -294,23 +310,25 @@ class Model(
         session, code = self.sessions[entry.handle], command.code
         cp_hash, is_written = self.cp_hash(session, command), self.written(handle)
         now = cp_hash, is_written, self.update_counter, locality
-        use = policy_state.Use(code, code.has(Fact.ADMIN), *now)
+        use = policy_state.Use(code, code.has(Fact.ADMIN), *now, self.policy_lack(handle, code))
         policy_state.check_use(session, self.policy_entity(handle, command.code), use, place)
         entry.demand = session.policy.demand
 
     def authorize(self, command: Command, locality: int) -> None:
         for place, entry, handle in command.places:
             check = "G10" if handle is None else "G9"
+            refusal = partial(Refusal, check=check, place=place)
             if handle is not None and handle_kinds.is_policy(entry.handle):
                 self.check_policy(command, place, entry, handle, locality)
             elif handle is not None and not self.takes_auth_value(handle, command.code):
-                raise Refusal("AUTH_UNAVAILABLE", check)
+                case = self.auth_value_lack(handle, command.code)
+                raise refusal("AUTH_UNAVAILABLE", case=case)
             touched = self.touched(entry, handle)
             if self.lockout.refuses(touched):
-                raise Refusal("LOCKOUT", check)
+                raise refusal("LOCKOUT", protection=touched)
             if not self.accepts(command, place, entry, handle):
                 name = "AUTH_FAIL" if touched else "BAD_AUTH"
-                raise Refusal(f"{name}/s{place}", check, touched)
+                raise refusal(f"{name}/s{place}", touched=touched, protection=touched)
 
     def plain_parameters(self, command: Command) -> bytes:
         found = command.with_attribute(DECRYPT)

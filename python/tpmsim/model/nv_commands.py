@@ -52,11 +52,11 @@ class Index:
 def read_public(fields: Parameters) -> Public:
     index = fields.number(4)
     if first_byte(index) != NV:
-        raise fields.refusal("VALUE")
+        raise fields.refusal("VALUE", "first_byte", first=NV, value=index)
     name_algorithm = fields.hash()
     attributes = fields.number(4)
     if attributes & ~NAMED:
-        raise fields.refusal("RESERVED_BITS")
+        raise fields.refusal("RESERVED_BITS", "bits", named=NAMED, value=attributes)
     auth_policy = fields.sized(DIGEST_BYTES)
     return Public(index, name_algorithm, attributes, auth_policy, fields.number(2))
 
@@ -121,16 +121,20 @@ def check_definition(
 # those of the index that authorizes, whichever index the command uses.
 
 
+def auth_value_attribute(code: CC) -> Attribute:
+    return Attribute.AUTHREAD if code.has(Fact.READS_NV) else Attribute.AUTHWRITE
+
+
 def takes_auth_value(public: Public, code: CC) -> bool:
-    if code == CC.NV_ChangeAuth:
-        return False
-    return public.has(Attribute.AUTHREAD if code.has(Fact.READS_NV) else Attribute.AUTHWRITE)
+    return code != CC.NV_ChangeAuth and public.has(auth_value_attribute(code))
+
+
+def policy_attribute(code: CC) -> Attribute:
+    return Attribute.POLICYREAD if code.has(Fact.READS_NV) else Attribute.POLICYWRITE
 
 
 def takes_policy(public: Public, code: CC) -> bool:
-    if code == CC.NV_ChangeAuth:
-        return True
-    return public.has(Attribute.POLICYREAD if code.has(Fact.READS_NV) else Attribute.POLICYWRITE)
+    return code == CC.NV_ChangeAuth or public.has(policy_attribute(code))
 
 
 WRITERS = Attribute.OWNERWRITE, Attribute.PPWRITE
@@ -212,7 +216,7 @@ def check_comparison(index: Index, asker: int, operand: bytes, offset: int, oper
     check_range(index.public, offset, len(operand), "A4")
     held = index.data[offset : offset + len(operand)]
     if not OPERATIONS[operation](held, operand):
-        raise Refusal("POLICY", "A5")
+        raise Refusal("POLICY", "A5", held=held)
 
 
 class Commands(Held):

@@ -3,6 +3,7 @@
 """
 
 from dataclasses import dataclass, replace
+from functools import partial
 
 from tpmsim.model.general import Refusal
 from tpmsim.model.parameters import buffer, Parameters, structure
@@ -93,7 +94,7 @@ def read_public(fields: Parameters) -> Public:
     name_algorithm = fields.hash()
     attributes = fields.number(4)
     if attributes & ~NAMED:
-        raise fields.refusal("RESERVED_BITS")
+        raise fields.refusal("RESERVED_BITS", "bits", named=NAMED, value=attributes)
     auth_policy = fields.sized(DIGEST_BYTES)
     scheme = ALG_NULL
     if kind == SYMCIPHER:
@@ -275,21 +276,34 @@ def unwrapped(
     parent: Object, public: Public, private: bytes, block_cipher: aes.BlockCipher = encrypt_block
 ) -> Sensitive:
     """Returns the sensitive area in a private area that the parent made for this public area."""
-    name, wrong = public.name, Refusal("INTEGRITY/p1", "A5")
-    fields = Fields(private)
+    name, fields = public.name, Fields(private)
+    refusal = partial(Refusal, "INTEGRITY/p1", "A5")
     try:
         given = fields.sized()
-        if given != integrity(parent, fields.data, name):
-            raise wrong
-        iv = fields.sized()
-        if len(iv) != aes.BLOCK:
-            raise wrong
-        text = aes.cfb_decrypt(encrypting_key(parent, name), iv, fields.data, block_cipher)
-        parameters = Parameters(text)
-        sensitive = parameters.structure(read_sensitive)
-        parameters.end()
+    except Short:
+        raise refusal(case="cut") from None
+    protected, wanted = fields.data, integrity(parent, fields.data, name)
+    if given != wanted:
+        areas = {"protected": protected, "public": public}
+        raise refusal(case="other", wanted=wanted, given=given, **areas)
+    try:
+        sensitive = decrypted(parent, name, fields, block_cipher)
     except (Short, Refusal):
-        raise wrong from None
+        raise refusal(case="content", protected=protected) from None
     if sensitive.kind != public.kind:
-        raise wrong
+        raise refusal(case="content", protected=protected)
+    return sensitive
+
+
+def decrypted(
+    parent: Object, name: bytes, fields: Fields, block_cipher: aes.BlockCipher
+) -> Sensitive:
+    """Returns the sensitive area in the fields after the integrity value of a private area."""
+    iv = fields.sized()
+    if len(iv) != aes.BLOCK:
+        raise Short
+    text = aes.cfb_decrypt(encrypting_key(parent, name), iv, fields.data, block_cipher)
+    parameters = Parameters(text)
+    sensitive = parameters.structure(read_sensitive)
+    parameters.end()
     return sensitive

@@ -30,14 +30,14 @@ class Parameters:
     """A command's parameters, or the fields of a structure, parsed in order. They start at the
     offset `base`. A refusal names the parameter that is being parsed, and has the code `short` if
     there are too few bytes. Its operands are what was expected and the offset of the fault. `last`
-    is the offset and the size of the bytes that were read last.
+    is the offset of the bytes that were read last.
     """
 
     def __init__(
         self, data: bytes, place: int = 0, short: str = "INSUFFICIENT", base: int = 0
     ) -> None:
         self.fields, self.place, self.short = Fields(data), place, short
-        self.until, self.last = base + len(data), (base, 0)
+        self.until, self.last = base + len(data), base
 
     @property
     def at(self) -> int:
@@ -47,8 +47,8 @@ class Parameters:
         self.place += 1
         return self
 
-    def refusal(self, code: str, expected: str = "other", **operands: Any) -> Refusal:
-        operands = {"expected": expected, "at": self.last[0], "last": self.last, **operands}
+    def refusal(self, code: str, expected: str, **operands: Any) -> Refusal:
+        operands = {"expected": expected, "at": self.last, **operands}
         return Refusal(f"{code}/p{self.place}", "G11", None, **operands)
 
     def take(self, count: int) -> bytes:
@@ -56,7 +56,7 @@ class Parameters:
         if count > left:
             operands = dict(count=count, left=left, of_structure=self.short == "SIZE")
             raise self.refusal(self.short, "bytes", at=at, **operands)
-        self.last = at, count
+        self.last = at
         return self.fields.take(count)
 
     def number(self, size: int) -> int:
@@ -66,7 +66,7 @@ class Parameters:
         value = self.number(size)
         if value not in allowed:
             listed = allowed if isinstance(allowed, Sequence) else list(allowed)
-            raise self.refusal(code, "one of", allowed=listed, size=size, value=value)
+            raise self.refusal(code, "choice", allowed=listed, digits=2 * size, value=value)
         return value
 
     def sized(self, most: int) -> bytes:

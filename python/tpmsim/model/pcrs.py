@@ -65,8 +65,8 @@ class Commands(Held):
         """Extends the PCR in the bank of each digest. Has no effect for TPM_RH_NULL."""
         if handle == RH_NULL:
             return
-        if locality not in extended_from(handle):
-            raise Refusal("LOCALITY", "A1")
+        if locality not in (allowed := extended_from(handle)):
+            raise Refusal("LOCALITY", "A1", pcr=handle, allowed=allowed, locality=locality)
         for algorithm, value in values:
             bank = self.banks[algorithm]
             bank[handle] = digest(algorithm, bank[handle] + value)
@@ -86,8 +86,8 @@ class Commands(Held):
     @takes()
     def pcr_reset(self, request: Request) -> Answer:
         (pcr,) = request.handles
-        if request.locality not in reset_from(pcr):
-            raise Refusal("LOCALITY", "A1")
+        if request.locality not in (allowed := reset_from(pcr)):
+            raise Refusal("LOCALITY", "A1", pcr=pcr, allowed=allowed, locality=request.locality)
         for algorithm, bank in self.banks.items():
             bank[pcr] = bytes(digest_bytes(algorithm))
             self.update_counter += 1

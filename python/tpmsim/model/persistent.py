@@ -30,7 +30,7 @@ def check_hierarchy(asker: int, held: Object, removes: bool) -> None:
 def read_persistent(fields: Parameters) -> int:
     handle = fields.number(4)
     if not is_persistent(handle):
-        raise fields.refusal("VALUE")
+        raise fields.refusal("VALUE", "first_byte", first=PERSISTENT, value=handle)
     return handle
 
 

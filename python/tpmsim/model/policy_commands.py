@@ -28,9 +28,9 @@ class Commands(Held):
         session, told, algorithm = self.told_to(request)
         values_digest = digest(algorithm, self.values(selection))
         if not session.is_trial and told.update_counter not in (None, self.update_counter):
-            raise Refusal("PCR_CHANGED", "A1")
+            raise Refusal("PCR_CHANGED", "A1", told=told.update_counter, now=self.update_counter)
         if not session.is_trial and given not in (b"", values_digest):
-            raise Refusal("VALUE/p1", "A2")
+            raise Refusal("VALUE/p1", "A2", wanted=values_digest)
         about = frames.selection(*selection), given or values_digest
         told.digest = policy.after_pcr(algorithm, told.digest, *about)
         told.update_counter = self.update_counter
@@ -40,7 +40,7 @@ class Commands(Held):
     def policy_or(self, request: Request, branches: list[bytes]) -> Answer:
         session, told, algorithm = self.told_to(request)
         if not session.is_trial and told.digest not in branches:
-            raise Refusal("VALUE/p1", "A1")
+            raise Refusal("VALUE/p1", "A1", told=told.digest)
         told.digest = policy.after_or(algorithm, branches)
         return Answer()
 

@@ -5,6 +5,7 @@
 from __future__ import annotations
 
 from dataclasses import dataclass
+from functools import partial
 
 from tpmsim.model.general import Refusal
 from tpmsim.standard import digest_bytes, nv, objects, SE_TRIAL
@@ -57,7 +58,7 @@ class Session:
 @dataclass(frozen=True)
 class Use:
     """The facts about a use of a session that are compared with its policy. `written` is None if
-    the entity is not an NV index.
+    the entity is not an NV index. `lacks` says why no policy can authorize the handle, if none can.
     """
 
     code: int
@@ -66,6 +67,7 @@ class Use:
     written: bool | None
     update_counter: int
     locality: int
+    lacks: str = ""
 
 
 def check_use(
@@ -75,19 +77,28 @@ def check_use(
     handle. The operand `condition` is the number of the condition in docs/table that does not hold.
     """
     told = session.policy
+    refusal = partial(Refusal, check="G9", place=place)
     if session.is_trial:
-        raise Refusal(f"ATTRIBUTES/s{place}", "G9", condition=1)
+        raise refusal(f"ATTRIBUTES/s{place}", condition=1)
     if entity is None:
-        raise Refusal("AUTH_UNAVAILABLE", "G9", condition=2)
+        raise refusal("AUTH_UNAVAILABLE", condition=2, case=use.lacks)
     if told.update_counter not in (None, use.update_counter):
-        raise Refusal("PCR_CHANGED", "G9", condition=3)
+        raise refusal("PCR_CHANGED", condition=3, told=told.update_counter, now=use.update_counter)
     if told.code not in (None, use.code):
-        raise Refusal(f"POLICY_CC/s{place}", "G9", condition=4)
-    if use.is_admin and told.code is None or told.cp_hash not in (None, use.cp_hash):
-        raise Refusal(f"POLICY_FAIL/s{place}", "G9", condition=5, cp_hash=use.cp_hash)
+        raise refusal(f"POLICY_CC/s{place}", condition=4, told=told.code)
+    if use.is_admin and told.code is None:
+        raise refusal(f"POLICY_FAIL/s{place}", condition=5, case="code")
+    if told.cp_hash not in (None, use.cp_hash):
+        hashes = {"told": told.cp_hash, "now": use.cp_hash}
+        raise refusal(f"POLICY_FAIL/s{place}", condition=5, case="cpHash", **hashes)
     if told.nv_written not in (None, use.written):
-        raise Refusal(f"POLICY_FAIL/s{place}", "G9", condition=6, written=use.written)
+        name = f"POLICY_FAIL/s{place}"
+        raise refusal(name, condition=6, told=told.nv_written, now=use.written)
     if not told.localities >> use.locality & 1:
-        raise Refusal("LOCALITY", "G9", condition=7)
-    if (session.algorithm, told.digest) != (entity.name_algorithm, entity.auth_policy):
-        raise Refusal(f"POLICY_FAIL/s{place}", "G9", condition=8, entity=entity)
+        raise refusal("LOCALITY", condition=7, allowed=told.localities, locality=use.locality)
+    if session.algorithm != entity.name_algorithm:
+        algorithms = {"wanted": entity.name_algorithm, "had": session.algorithm}
+        raise refusal(f"POLICY_FAIL/s{place}", condition=8, case="hash", **algorithms)
+    if told.digest != entity.auth_policy:
+        digests = {"wanted": entity.auth_policy, "had": told.digest}
+        raise refusal(f"POLICY_FAIL/s{place}", condition=8, case="digest", **digests)
