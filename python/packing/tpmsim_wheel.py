@@ -133,8 +133,7 @@ def record(entries: list[Entry]) -> Entry:
 
 
 def packed_at() -> int:
-    """The time of all files of a wheel: $SOURCE_DATE_EPOCH, by default the earliest possible one.
-    """
+    """The time of all files of a wheel: $SOURCE_DATE_EPOCH, by default the earliest possible one."""
     return max(FIRST_TIME, int(os.environ.get("SOURCE_DATE_EPOCH", FIRST_TIME)))
 
 

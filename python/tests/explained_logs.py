@@ -29,8 +29,7 @@ def last(*lines):
 
 
 def explained(device, tried=()):
-    """Plays a device's trace, with values to try, and returns its last event with the explanation.
-    """
+    """Plays a device's trace, with values to try, and returns its last event with the explanation."""
     play = Play()
     play.tried = tried
     events = list(play.events("\n".join(device.trace).encode()))

@@ -44,8 +44,7 @@ def section_at(link):
 
 
 def paragraphs(text):
-    """Returns the paragraphs of a text, except the one that links to the definition and the code.
-    """
+    """Returns the paragraphs of a text, except the one that links to the definition and the code."""
     found = filter(str.strip, re.split(r"\n\n+", text))
     return [it for it in found if not it.startswith("Definition: ")]
 

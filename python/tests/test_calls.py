@@ -233,8 +233,7 @@ class Words(unittest.TestCase):
 
 
 def tpm_session(session, bind):
-    """Returns the session if its properties equal those of a session that was started with numbers.
-    """
+    """Returns the session if its properties equal those of a session that was started with numbers."""
     wanted = given.algorithm("sha1"), given.cipher("xor"), given.handle("bind", "OWNER")
     return session if wanted == (session.algorithm, session.cipher, bind) else None
 

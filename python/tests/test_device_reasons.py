@@ -22,8 +22,7 @@ SERVE = "serve --socket socket --image image --entropy /dev/urandom --locality 0
 
 
 def use(device):
-    """Authorizes with an index's value in a session, and then sends a wrong password for the index.
-    """
+    """Authorizes with an index's value in a session, and then sends a wrong password for the index."""
     tpm = Caller(device)
     tpm.start_up()
     index = tpm.define(area(attributes=BY_VALUE), auth=b"right")

@@ -322,8 +322,7 @@ TOLD_OTHERWISE = {
 
 
 def together(first, second):
-    """Returns the choices for two mistakes in one session, or None if the choices are incompatible.
-    """
+    """Returns the choices for two mistakes in one session, or None if the choices are incompatible."""
     if len({first.get("more"), second.get("more")} - {None}) > 1:
         return None
     choices = first | second

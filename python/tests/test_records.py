@@ -106,8 +106,7 @@ class Heads(unittest.TestCase):
         self.assertEqual(played(bent)[0].damages, [words])
 
     def test_a_word_in_hex(self):
-        """A comment with a hex word begins a log only if the word may be an image or a state text.
-        """
+        """A comment with a hex word begins a log only if the word may be an image or a state text."""
         for words in "# state bad", "# state deed", "# image ", "# image of the device":
             play, events = played("\n".join((words, START, words, RIGHT)).encode())
             self.assertEqual((codes(events), play.fault), (["", "18b"], ""), words)

@@ -200,8 +200,7 @@ class OverModel(Told, unittest.TestCase):
 
 
 class InFolder:
-    """Tests of devices in a folder. When a device is restored, its completing layer starts again.
-    """
+    """Tests of devices in a folder. When a device is restored, its completing layer starts again."""
 
     def assert_same(self, found, wanted):
         self.assertNotEqual(found, wanted)

@@ -73,8 +73,7 @@ def judged(text, *policies):
 
 
 def loaded_twice():
-    """Returns a log in which an object is loaded, used with its policy, flushed, and loaded again.
-    """
+    """Returns a log in which an object is loaded, used with its policy, flushed, and loaded again."""
     device = ModelDevice(seed=b"reloads")
     tpm = Caller(device, random.Random(1).randbytes)
     tpm.start_up()
@@ -141,8 +140,7 @@ class Explained(unittest.TestCase):
         self.assertEqual(event.response[10:].hex(), "03000000")
 
     def test_a_head_of_version_1(self):
-        """A head in version 1 is reported, because the layer of version 1 had different contexts.
-        """
+        """A head in version 1 is reported, because the layer of version 1 had different contexts."""
         journal = Journal().play(START)
         journal.head(2, text_of_version_1(journal.model))
         text, play = journal.play(*SESSION).text, Play()
@@ -186,8 +184,7 @@ class Explained(unittest.TestCase):
 
 class Judged(unittest.TestCase):
     def test_a_policy(self):
-        """The policy digest in the state covers the assertions that were made before the log began.
-        """
+        """The policy digest in the state covers the assertions that were made before the log began."""
         auditor, told = judged(gone_on(CODE, READ).text, POLICY)
         self.assertEqual(auditor.policies.faults(), [])
         words = "policy line 1, PolicyPCR: a line before the log asserts it, and the PCRs have these values"

@@ -49,8 +49,7 @@ def tpm_saved(request: pytest.FixtureRequest, tmp_path: Path) -> Iterator[Caller
 
 @pytest.fixture
 def tpm_of(request: pytest.FixtureRequest) -> Iterator[Callable[[Transport], Caller]]:
-    """Yields a function that makes a caller of any device, and closes the devices after the test.
-    """
+    """Yields a function that makes a caller of any device, and closes the devices after the test."""
     devices = list[Transport]()
 
     def made(device: Transport) -> Caller:

@@ -59,8 +59,7 @@ def more(random, buffer):
 
 
 def doubled(random, buffer):
-    """Returns the buffer with one part repeated. The part may be as long as a handle or an entry.
-    """
+    """Returns the buffer with one part repeated. The part may be as long as a handle or an entry."""
     at, size = random.randrange(len(buffer)), random.choice((4, 9, 9, 20))
     return buffer[: at + size] + buffer[at:]
 

@@ -227,8 +227,7 @@ def try_answers(program, good):
 
 
 def try_bytes(traces, what, put):
-    """Inserts and replaces bytes at each offset of a script's second line, and plays the scripts.
-    """
+    """Inserts and replaces bytes at each offset of a script's second line, and plays the scripts."""
     bent_lines = [
         line[:at] + put + line[at + taken :]
         for line in SCRIPT_LINES

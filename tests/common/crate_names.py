@@ -52,8 +52,7 @@ class Item:
 
 @dataclass(frozen=True)
 class Found:
-    """What a name refers to: its signature if it is a function, and its variants if it is an enum.
-    """
+    """What a name refers to: its signature if it is a function, and its variants if it is an enum."""
 
     call: Call | None
     cases: tuple[str, ...]

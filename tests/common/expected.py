@@ -27,8 +27,7 @@ OUTCOMES = {"SUCCESS", *frames.CODES}
 
 
 def wanted_of(comment):
-    """Returns the outcome that a comment names: None for a success, or the name of a response code.
-    """
+    """Returns the outcome that a comment names: None for a success, or the name of a response code."""
     named = [it for it in WANTED.findall(comment) if it[0].partition("/")[0] in OUTCOMES]
     if len(named) != 1:
         raise ValueError(f"the comment names {len(named)} outcomes:{comment}")

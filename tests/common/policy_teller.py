@@ -25,8 +25,7 @@ class PolicyTeller(Teller):
         self.script.device.tell = self.history.add
 
     def digest_of(self, session: Session) -> bytes:
-        """Returns the policy digest that results from the assertions that a session has accepted.
-        """
+        """Returns the policy digest that results from the assertions that a session has accepted."""
         return self.history.sessions.live[session.handle].policy.digest
 
     def digest_is(self, what: str, session: Session, wanted: bytes | None = None) -> None:

@@ -122,7 +122,9 @@ class ScriptCaller(PreparedCommands):
         for algorithm, hash_name in HASHES:
             for kind, name in KINDS:
                 self.script.chapter(f"A {name} session of {hash_name}.")
-                session = self.start("The session is started", algorithm=algorithm, kind=kind, **choices)
+                session = self.start(
+                    "The session is started", algorithm=algorithm, kind=kind, **choices
+                )
                 yield session
                 self.says("The session is flushed: SUCCESS", self.flush(session))
 

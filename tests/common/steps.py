@@ -84,7 +84,9 @@ class Steps(Teller):
         self.says("A persistent object, while there is none: HANDLE/h1", *map(prepare, persistent))
 
     def needs_entries(self, code: CC, handle: int, parameters: bytes = b"") -> None:
-        words = "The object has to be authorized, but there are no sessions (tag 8001): AUTH_MISSING"
+        words = (
+            "The object has to be authorized, but there are no sessions (tag 8001): AUTH_MISSING"
+        )
         self.raw(words, command(code, number(handle, 4) + parameters))
 
     # Steps for objects, sessions and indices that exist only temporarily.
@@ -114,7 +116,12 @@ class Steps(Teller):
 
     @contextlib.contextmanager
     def loaded(
-        self, what: str, parent: int, made: Made, *uses: Means, flushed: str = "The object is flushed"
+        self,
+        what: str,
+        parent: int,
+        made: Made,
+        *uses: Means,
+        flushed: str = "The object is flushed",
     ) -> Iterator[int]:
         """Loads an object below its parent, and flushes it at the end of the `with` block."""
         handle = self.load(what, parent, made, *uses)

@@ -87,7 +87,9 @@ class Teller(ScriptCaller):
 
     def undefines(self, *indices: int) -> None:
         for index in indices:
-            self.does("The index is undefined" if index == indices[0] else "", self.undefining(index))
+            self.does(
+                "The index is undefined" if index == indices[0] else "", self.undefining(index)
+            )
 
     # The events of the script.
 

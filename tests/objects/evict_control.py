@@ -59,8 +59,7 @@ def handles_and_parameter(owners):
 
 
 def in_order():
-    """Causes each refusal in turn, with commands that also have the faults of all later checks.
-    """
+    """Causes each refusal in turn, with commands that also have the faults of all later checks."""
     tpm.chapter("The checks in their order; each command has the later faults too.")
     owners = tpm.owned("An object of the owner", storage_key())
     clears = tpm.owned("An object of the owner with stClear", CLEARED)

@@ -53,8 +53,7 @@ def no_way(session, **demand):
 
 
 def after_version(old=ZEROS):
-    """Returns the digest after an assertion that the index contains at least the required version.
-    """
+    """Returns the digest after an assertion that the index contains at least the required version."""
     return policy.after_nv(SHA256, old, LEAST + number(0, 2) + number(AT_LEAST, 2), tpm.name(index))
 
 

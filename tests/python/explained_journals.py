@@ -43,8 +43,7 @@ def wrong_lines(log, lines, responses):
 
 
 def check(program, script, folder):
-    """Returns the number of explained commands of a script, and the lines with wrong explanations.
-    """
+    """Returns the number of explained commands of a script, and the lines with wrong explanations."""
     printed = ran(program, "run", "--trace", "--state", folder, str(script)).output
     lines = answered_since(printed)
     responses = lines[1::2]

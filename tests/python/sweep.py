@@ -34,8 +34,7 @@ def traced(program, path):
 
 
 def wanted_of(error):
-    """Returns the fault that the audit must find, according to the standard error of the program.
-    """
+    """Returns the fault that the audit must find, according to the standard error of the program."""
     line = error.removeprefix("tpmsim: script line ")
     words = f"script line {line} is not a line of a script; the log agrees up to it"
     return words if error else None

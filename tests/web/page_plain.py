@@ -39,8 +39,7 @@ class Watched(Model):
 
 
 def plain_of(script):
-    """Returns the decrypted first parameters of commands and of responses, by line number from 0.
-    """
+    """Returns the decrypted first parameters of commands and of responses, by line number from 0."""
     device, asked, answered = Watched(), {}, {}
     for step in steps_of(script):
         if isinstance(step, Power):

@@ -40,8 +40,7 @@ class Counts:
 
 
 class Auditor:
-    """The audit of a log, and what is known so far. `last` is the line of the log's latest event.
-    """
+    """The audit of a log, and what is known so far. `last` is the line of the log's latest event."""
 
     def __init__(self, start: Start, log: Log, policy_files: Sequence[PolicyFile] = ()) -> None:
         device, history = start.device, start.history

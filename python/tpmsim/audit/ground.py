@@ -128,8 +128,7 @@ class Grounds:
         return [Finding(False, none), shown]
 
     def pcr_words(self, use: Use) -> list[str]:
-        """Returns the values that the PCRs in the session's policy have when the session is used.
-        """
+        """Returns the values that the PCRs in the session's policy have when the session is used."""
         begun = self.sessions.live.get(use.entry.handle)
         return [self.pcrs.words(*it) for it in begun.pcrs] if begun else []
 

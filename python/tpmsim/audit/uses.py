@@ -130,8 +130,7 @@ class Uses:
         self.allowed = self.refused = self.others = 0
 
     def accept(self, seen: Seen) -> None:
-        """Raises Disagreement unless each entry of an accepted command is justified by the history.
-        """
+        """Raises Disagreement unless each entry of an accepted command is justified by the history."""
         if self.grounds.plain_parameters(seen.command) != seen.accepted.parameters:
             raise Disagreement("its parameters are others once they are decrypted")
         for use in self.grounds.uses(seen):

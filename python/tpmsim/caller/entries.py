@@ -35,8 +35,7 @@ class Session:
 
     @property
     def encrypting(self) -> Use:
-        """Returns a use of the session that has the device encrypt the response's first parameter.
-        """
+        """Returns a use of the session that has the device encrypt the response's first parameter."""
         return Use(self, CONTINUE_SESSION | ENCRYPT)
 
 

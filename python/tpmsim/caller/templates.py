@@ -87,6 +87,5 @@ def bits(index: int = FIRST, attributes: Worded = BY_OWNER | BY_VALUE, **more: A
 def extended(
     index: int = FIRST, attributes: Worded = BY_OWNER | BY_VALUE, **more: Any
 ) -> nv.Public:
-    """Returns the public area of an extend index, as long as a digest; `more` is passed to `area`.
-    """
+    """Returns the public area of an extend index, as long as a digest; `more` is passed to `area`."""
     return area(index, attributes, kind=Type.EXTEND, **more)

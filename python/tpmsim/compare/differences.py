@@ -96,8 +96,7 @@ def between(here: dict[str, Any], there: dict[str, Any]) -> Iterator[tuple[str, 
 
 @dataclass(frozen=True)
 class Cause:
-    """A known cause of differences: their pattern, the section of rev. 01.38, and what tpmsim does.
-    """
+    """A known cause of differences: their pattern, the section of rev. 01.38, and what tpmsim does."""
 
     words: str
     form: str

@@ -125,8 +125,7 @@ class Reference:
         self.layer.forget(self.model)
 
     def shown(self, command: Command, place: int, entry: Entry, handle: int | None) -> Shown:
-        """Returns why the entry of an existing session is correct, before the command is executed.
-        """
+        """Returns why the entry of an existing session is correct, before the command is executed."""
         session, value = self.model.sessions[entry.handle], self.model.auth_value(handle)
         if handle is not None and session.policy.demand == "password":
             return Shown(is_password=sessions.trimmed(entry.hmac) == value)

@@ -172,8 +172,7 @@ class Translation:
         return self.values.get(value, value)
 
     def received(self, prepared: Prepared, response: bytes) -> Received:
-        """Reads a successful response of the other TPM, and stores the new nonces of the sessions.
-        """
+        """Reads a successful response of the other TPM, and stores the new nonces of the sessions."""
         fields = Fields(response[10:])
         handle = fields.number(4) if prepared.code.answers_handle else None
         request = self.known.plain_request(prepared)

@@ -143,8 +143,7 @@ class Transport(ABC):
 
     @abstractmethod
     def execute(self, buffer: bytes) -> Answered:
-        """Executes a command and returns its response; raises DeviceEnded if there is no response.
-        """
+        """Executes a command and returns its response; raises DeviceEnded if there is no response."""
 
     def wait(self, milliseconds: int) -> None:
         """Lets milliseconds pass before the next command, at most 4,294,967,295."""

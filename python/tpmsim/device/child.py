@@ -145,8 +145,7 @@ class ChildDevice(InStep, Device):
         return self.image.read_bytes()
 
     def check_folder(self) -> None:
-        """Raises Unsupported for a device with an image, because its random seeds are unknown here.
-        """
+        """Raises Unsupported for a device with an image, because its random seeds are unknown here."""
         if self.image is not None:
             raise Unsupported("a child's device with an image has no snapshots")
 

@@ -24,8 +24,7 @@ Done = TypeVar("Done")
 
 
 class NothingReplaced(TpmsimError, MemoryError):
-    """There is not enough memory for the device in a state text; the previous device is unchanged.
-    """
+    """There is not enough memory for the device in a state text; the previous device is unchanged."""
 
 
 class Device(Transport):

@@ -304,8 +304,7 @@ class Otherwise:
 
 
 def decrypting_use(scene: Scene) -> Use | None:
-    """Returns the entry whose session decrypts, if the first parameter of the command is complete.
-    """
+    """Returns the entry whose session decrypts, if the first parameter of the command is complete."""
     found = scene.known.with_attribute(DECRYPT) if scene.known else None
     if found is None:
         return None

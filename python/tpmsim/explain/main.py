@@ -40,8 +40,7 @@ from tpmsim.records import is_state_text
 
 
 def called(installed: str, here: str) -> str:
-    """Returns the name by which a program was called: the installed name, or its path in the clone.
-    """
+    """Returns the name by which a program was called: the installed name, or its path in the clone."""
     return installed if pathlib.Path(sys.argv[0]).name == installed else here
 
 

@@ -25,8 +25,7 @@ Banks = dict[int, list[bytes]]
 
 @dataclass(frozen=True)
 class Step:
-    """An assertion in the log, with the PCRs that it selects, or the entity whose Name it contains.
-    """
+    """An assertion in the log, with the PCRs that it selects, or the entity whose Name it contains."""
 
     line: int
     said: Said

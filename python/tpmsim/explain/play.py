@@ -127,8 +127,7 @@ class Answers:
         self.left = deque((text or b"").decode("latin-1").splitlines())
 
     def power(self) -> None:
-        """Reads the line `power` of a trace. Without a trace, nothing is printed for a power cycle.
-        """
+        """Reads the line `power` of a trace. Without a trace, nothing is printed for a power cycle."""
         if self.left and self.left[0] == "power":
             self.left.popleft()
 

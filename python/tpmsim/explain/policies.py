@@ -140,8 +140,7 @@ MAKES_IT = " it would match"
 
 
 def together(told: Sequence[str]) -> str:
-    """Returns the sentence for one mistake, or for two that occur together, without its full stop.
-    """
+    """Returns the sentence for one mistake, or for two that occur together, without its full stop."""
     if len(told) == 1:
         return told[0].removesuffix(".")
     slips, _, rests = zip(*(it.rpartition(MAKES_IT) for it in told))

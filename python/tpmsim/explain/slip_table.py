@@ -63,8 +63,7 @@ def as_hex(data: bytes) -> bytes:
 
 
 def without_size(parameters: bytes) -> bytes:
-    """Returns the parameters without the size of their first buffer, if they begin with a buffer.
-    """
+    """Returns the parameters without the size of their first buffer, if they begin with a buffer."""
     size = int.from_bytes(parameters[:2], "big")
     return parameters[2:] if 0 < size <= len(parameters) - 2 else parameters
 

@@ -9,8 +9,7 @@ OFFLINE = "Whoever knows the text can test guesses of the value offline, without
 
 
 def encrypts(attributes: int) -> str:
-    """Returns what a session with these attributes does to a parameter; empty if it does nothing.
-    """
+    """Returns what a session with these attributes does to a parameter; empty if it does nothing."""
     if attributes & ENCRYPT:
         return "encrypts an answer to"
     return "decrypts a parameter of" if attributes & DECRYPT else ""

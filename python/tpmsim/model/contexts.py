@@ -134,8 +134,7 @@ def sealed(device: Model, start: int, sequence: int, content: Content) -> bytes:
 
 
 def opened(device: Model, start: int, context: bytes) -> Content:
-    """Returns what a context contains; raises Fault if the bytes are not a context of this device.
-    """
+    """Returns what a context contains; raises Fault if the bytes are not a context of this device."""
     fields = Fields(context)
     head = read_head(fields)
     given, cipher = parts_of(read_blob(fields))

@@ -40,7 +40,7 @@ def cube_root(value: int) -> int:
     low, high = 0, 1 << (value.bit_length() // 3 + 1)
     while low < high:
         middle = (low + high + 1) // 2
-        low, high = (middle, high) if middle**3 <= value else (low, middle - 1)
+        low, high = (middle, high) if middle ** 3 <= value else (low, middle - 1)
     return low
 
 

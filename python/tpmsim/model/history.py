@@ -244,8 +244,7 @@ class Sessions:
         return LiveSession(kind, algorithm, cipher, bound, key, nonce_tpm, starting)
 
     def roll(self, it: Accepted) -> None:
-        """Replaces the nonce of each entry's session, in order, with random bytes of the same size.
-        """
+        """Replaces the nonce of each entry's session, in order, with random bytes of the same size."""
         left = it.random[it.drawn :]
         for use in it.uses:
             if use.handle != RS_PW:

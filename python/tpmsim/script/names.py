@@ -48,8 +48,7 @@ class Names:
         return self.nonce(NONCE_BYTES).hex() if name == NONCE else self.values.get(name)
 
     def put(self, token: Token) -> Token:
-        """Returns a word with its names replaced by their values; raises Bad for an unknown name.
-        """
+        """Returns a word with its names replaced by their values; raises Bad for an unknown name."""
 
         def value(found: re.Match[str]) -> str:
             column = token.column + found.start()

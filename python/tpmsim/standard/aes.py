@@ -67,8 +67,7 @@ def round_keys(key: bytes) -> list[bytes]:
 
 
 def shift_rows(state: bytes) -> bytes:
-    """Returns the state after ShiftRows. Byte r + 4c is in row r and column c; row r rotates by r.
-    """
+    """Returns the state after ShiftRows. Byte r + 4c is in row r and column c; row r rotates by r."""
     return bytes(SHIFTED(state))
 
 

@@ -135,8 +135,7 @@ def read_bank(fields: Fields) -> Bank:
 
 
 def read_digest(fields: Fields) -> Digest:
-    """Reads a digest with its hash algorithm. Other TPMs also return SHA-384 and SHA-512 digests.
-    """
+    """Reads a digest with its hash algorithm. Other TPMs also return SHA-384 and SHA-512 digests."""
     algorithm = fields.number(2)
     size = {0x000C: 48, 0x000D: 64}.get(algorithm) or digest_bytes(algorithm)
     return Digest(algorithm, fields.take(size))
