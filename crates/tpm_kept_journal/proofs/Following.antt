@@ -3,7 +3,7 @@ use Rattle.std.proofs.Common.{◌≡◌, ◌<◌, ◌+◌, ◌==◌, ℕ, zero, 
 use Rattle.std.specs.List.{AllByRecursion}
 use Rattle.std.proofs.lemmas.Bool.{false≢true}
 use Rattle.std.proofs.lemmas.List.{length-take-le, take-append-drop}
-use Rattle.tpm_completion.specs.Execution.{AsksFirst, GoesOn, Completes, CompletesIf, Loads, PlacesIf, Seen, Sends, asked_after, opened_after, sent_after}
+use Rattle.tpm_completion.specs.Execution.{AsksFirst, Completes, CompletesIf, GoesOn, Loads, PlacesIf, Seen, Sends, asked_after, opened_after, sent_after}
 use Rattle.tpm_completion.specs.declared.completion.Completion.{Completion}
 use Rattle.tpm_completion.specs.declared.sending.Sent.{Sent}
 use Rattle.tpm_completion.proofs.Exactly.{exactly}
@@ -118,7 +118,7 @@ text_of sum performances = entries_text sum (map entry_in performances)
 
 -- Walking over these entries and further bytes continues with the further bytes, from the position
 -- after the entries.
-pub record GoesOn (bound : ℕ) (before : Journal) (old : Record) (performances : List Performance) (after : Journal) (new : Record)
+pub record ReadsOn (bound : ℕ) (before : Journal) (old : Record) (performances : List Performance) (after : Journal) (new : Record)
     (taken : ℕ) (left : List ℕ) : Type 0 where
   pub more : ℕ
   pub enough : length left < more
@@ -130,11 +130,11 @@ abbrev second_of : List ℕ → List ℕ
 second_of [] = []
 second_of (x ∷ xs) = xs
 
-pub goes_on : (performances : List Performance) (bound : ℕ) (before : Journal) (old : Record) (after : Journal) (new : Record) (taken : ℕ) (left : List ℕ)
+pub reads_on : (performances : List Performance) (bound : ℕ) (before : Journal) (old : Record) (after : Journal) (new : Record) (taken : ℕ) (left : List ℕ)
     → IsDeviceState (state_in before old) → AllByRecursion IsEntry (map entry_in performances) → LeadsBy false before old performances after new
     → map response_sum performances ≡ map answer_said performances → length (text_of before.sum performances ++ left) < bound
-    → GoesOn bound before old performances after new taken left
-goes_on [] bound before old after new taken left is are leads said less = record {
+    → ReadsOn bound before old performances after new taken left
+reads_on [] bound before old after new taken left is are leads said less = record {
   more = bound;
   enough = less;
   is = subst (λ (r : Record). IsDeviceState (state_in after r)) (sym leads.1) (subst (λ (j : Journal). IsDeviceState (state_in j old)) (sym leads.0) is);
@@ -145,8 +145,8 @@ goes_on [] bound before old after new taken left is are leads said less = record
       ∙ ap (λ (n : ℕ). walk bound (spot_of after new) n left) none
       );
 }
-goes_on (one ∷ performances) zero before old after new taken left is are leads said less = absurd (omega (arith, less))
-goes_on (one ∷ performances) (suc bound) before old after new taken left is are leads said less =
+reads_on (one ∷ performances) zero before old after new taken left is are leads said less = absurd (omega (arith, less))
+reads_on (one ∷ performances) (suc bound) before old after new taken left is are leads said less =
     let mid : Journal = journal_after before one.entry one.seen.layer in
     let own : List ℕ = entry_text before.sum one.entry in
     let rest : List ℕ = text_of mid.sum performances in
@@ -156,7 +156,7 @@ goes_on (one ∷ performances) (suc bound) before old after new taken left is ar
     on_seen before old one is leads.0 ∙ so_told (response_sum one == answer_said one) (spot_of mid one.seen.step.after) (eq-eqb _ _ answered) in
     let less' : length (rest ++ left) < bound =
     omega (arith, less, ap length parts, length-append own (rest ++ left), entry_text_some before.sum one.entry) in
-    let next = goes_on performances bound mid one.seen.step.after after new (taken + length own) left (next_is before old one is leads.0) are.1 leads.1
+    let next = reads_on performances bound mid one.seen.step.after after new (taken + length own) left (next_is before old one is leads.0) are.1 leads.1
     (ap second_of said) less' in
     let size : taken + length own + length rest ≡ taken + length (own ++ rest) = omega (arith, length-append own rest) in
     record {
@@ -249,11 +249,11 @@ told_by : (fault : Option FollowFault) (performances : List Performance) (before
     → EndsIn fault after.sum left → text ≡ text_of before.sum performances ++ left
     → Tells fault (walk (suc (length text)) (spot_of before old) taken text) (spot_of after new) (taken + length (text_of before.sum performances))
 told_by None performances before old after new taken left text is are leads answers ends parts =
-    let g = goes_on performances (suc (length text)) before old after new taken left is are leads answers (omega (arith, ap length parts)) in
+    let g = reads_on performances (suc (length text)) before old after new taken left is are leads answers (omega (arith, ap length parts)) in
     ap (walk (suc (length text)) (spot_of before old) taken) parts ∙ g.same
     ∙ torn_end g.more (spot_of after new) (taken + length (text_of before.sum performances)) left g.enough ends
 told_by (Some Damaged) performances before old after new taken left text is are leads answers ends parts =
-    let g = goes_on performances (suc (length text)) before old after new taken left is are leads answers (omega (arith, ap length parts)) in
+    let g = reads_on performances (suc (length text)) before old after new taken left is are leads answers (omega (arith, ap length parts)) in
     ap (walk (suc (length text)) (spot_of before old) taken) parts ∙ g.same
     ∙ damaged_end g.more (spot_of after new) (taken + length (text_of before.sum performances)) left g.enough ends
 told_by (Some Otherwise) performances before old after new taken left text is are leads answers ends parts =
