@@ -1,11 +1,11 @@
 // Package tpmsim is a TPM 2.0 in your process, for tests.
 //
-// 	tpm, err := tpmsim.Open()
-// 	if err != nil {
-// 		return err
-// 	}
-// 	defer tpm.Close()
-// 	response, err := tpm.Send(command)
+//	tpm, err := tpmsim.Open()
+//	if err != nil {
+//		return err
+//	}
+//	defer tpm.Close()
+//	response, err := tpm.Send(command)
 //
 // A TPM is implemented by libtpmsim, which is linked statically, and proved to respond as its
 // specification requires. Each test has its own TPM: TPMs share no file, lock or variable. A TPM
