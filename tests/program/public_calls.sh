@@ -134,9 +134,11 @@ turn asked.txt 's/make/hidden/'
 report_turned 'names that are not public, or were not asked for'
 
 turn page.md '/one::make.*one::made/d'
+# shellcheck disable=SC2016 # the backticks are those of the page
 turn page.md 's/`All`/`Every`/'
 turn page.md '/One.*Three/d'
 turn page.md 's/one::Thing::get/one::got/'
+# shellcheck disable=SC2016 # the backticks are those of the page
 turn page.md 's/^| .two.*$/| `one` | 41 | 42 | None. |/'
 report_turned 'another page'
 

@@ -11,7 +11,7 @@ use Rattle.tpm_containers.specs.Numbered.{number_of}
 use Rattle.tpm_containers.specs.Slots.{at_place}
 use Rattle.tpm_session.specs.Sessions.{handle_of}
 use Rattle.tpm_session.specs.declared.session.Session.{Session}
-use Rattle.tpm_types.specs.Handle.{endorsement_handle, lockout_handle, null_handle, numbered, owner_handle, password_handle, platform_handle}
+use Rattle.tpm_types.specs.Handle.{endorsement_handle, lockout_handle, null_handle, numbered_handle, owner_handle, password_handle, platform_handle}
 use Rattle.tpm_types.specs.declared.handle.Handle.{Handle}
 use Rattle.tpm_commands.specs.CommandCode.{code_number, shape_of}
 use Rattle.tpm_commands.specs.CommandFacts.{all_codes}
@@ -57,7 +57,7 @@ session_elements r = flat_map (session_element r) (numbers_below session_limit)
 -- the transient object in this slot, if the slot is taken
 abbrev pub object_element : Record → ℕ → List Element
 object_element r place =
-    let handle : Handle = numbered (number_of 0x80 place) in
+    let handle : Handle = numbered_handle (number_of 0x80 place) in
     if_there (is_some (object_at r.objects handle)) (by_itself handle.number)
 
 -- the handles of type 80: the transient objects

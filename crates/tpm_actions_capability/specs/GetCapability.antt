@@ -13,7 +13,7 @@ use Rattle.tpm_record.specs.Record.{Record}
 use Rattle.tpm_record.specs.rows.Answer.{Plain, answer_of}
 use Rattle.tpm_record.specs.rows.Refusals.{parameter_refusal}
 use Rattle.tpm_record.specs.rows.Request.{Request}
-use Rattle.tpm_record.specs.rows.Rows.{Success, all_read, parameter, unchanged}
+use Rattle.tpm_record.specs.rows.Rows.{Success, all_read, parameter, unchanged_success}
 use Rattle.tpm_actions_capability.specs.Element.{listing}
 use Rattle.tpm_actions_capability.specs.Elements.{command_elements, index_elements, object_elements, pcr_elements, permanent_elements, persistent_elements, property_elements, session_elements}
 use Rattle.tpm_actions_capability.specs.declared.element.Element.{Element}
@@ -83,7 +83,7 @@ get_capability_row r q = do
   p ← capability_parameters q.parameters
   capability ← capability_of p.capability
   text ← told_of r p capability
-  Ok (unchanged r (answer_of (Plain text)))
+  Ok (unchanged_success r (answer_of (Plain text)))
 
 -- The code wrote the bytes or elements that the definition returns, or it returned the same refusal
 -- as the definition.

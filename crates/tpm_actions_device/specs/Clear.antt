@@ -6,7 +6,7 @@ use Rattle.tpm_bytes.specs.Reading.{◌>>=◌, refused_if}
 use Rattle.tpm_lockout.specs.Lockout.{LockoutState}
 use Rattle.tpm_lockout.specs.Recovery.{with_closed}
 use Rattle.tpm_lockout.specs.Tries.{with_tries}
-use Rattle.tpm_nv.specs.Clear.{cleared}
+use Rattle.tpm_nv.specs.Clear.{contents_after_clear}
 use Rattle.tpm_pcr.specs.Changes.{clear_counted}
 use Rattle.tpm_pcr.specs.Values.{BankValues}
 use Rattle.tpm_types.specs.Rc.{plain}
@@ -55,6 +55,6 @@ clear_row r q = do
       fixed = cleared_fixed banks q.random r.fixed;
       objects = cleared_objects r.objects;
       persistent = cleared_persistent r.persistent;
-      nv = cleared r.nv;
+      nv = contents_after_clear r.nv;
     };
   })

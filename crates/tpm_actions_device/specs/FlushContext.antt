@@ -3,10 +3,10 @@ use Rattle.tpm_types.specs.declared.action_check.ActionCheck.TheVariants as acti
 use Rattle.std.specs.Prelude.{◌||◌, not, Bool, true, false, ℕ, List, is_some, Result, Ok}
 use Rattle.std.specs.Int.{w32}
 use Rattle.tpm_bytes.specs.Reading.{◌>>=◌, number_at, or_fault, refused_if}
-use Rattle.tpm_session.specs.Sessions.{flushed, session_at}
+use Rattle.tpm_session.specs.Sessions.{session_at, slots_without_session}
 use Rattle.tpm_types.specs.declared.handle.Handle.{Handle}
 use Rattle.tpm_types.specs.declared.rc.ResponseCode.TheVariants as code
-use Rattle.tpm_types.specs.Handle.{is_session, is_transient, numbered}
+use Rattle.tpm_types.specs.Handle.{is_session, is_transient, numbered_handle}
 use Rattle.tpm_types.specs.Rc.{plain}
 use Rattle.tpm_record.specs.Objects.{object_at, without_object}
 use Rattle.tpm_record.specs.Record.{Record}
@@ -27,14 +27,14 @@ is_loaded r handle = is_some (session_at r.sessions handle) || is_some (object_a
 
 -- the record without the session (if `of_session`) or transient object with this handle
 abbrev pub flushed_from : Record → Handle → (of_session : Bool) → Record
-flushed_from r handle true = record r { sessions = flushed r.sessions handle }
+flushed_from r handle true = record r { sessions = slots_without_session r.sessions handle }
 flushed_from r handle false = record r { objects = without_object r.objects handle }
 
 -- the parameter flushHandle
 abbrev pub flushed_handle : List ℕ → Result Handle Refused
 flushed_handle text = do
   number ← only (or_fault (number_at w32 text) (plain code.Insufficient))
-  Ok (numbered number)
+  Ok (numbered_handle number)
 
 -- the row of TPM2_FlushContext. Parameter: flushHandle. Refused by check A1 if flushHandle is not
 -- the handle of a session or a transient object; by A2 if no session or object with this handle is

@@ -8,7 +8,7 @@ use Rattle.tpm_record.specs.Record.{Record}
 use Rattle.tpm_types.specs.declared.refused.Refused.{Refused}
 use Rattle.tpm_record.specs.rows.Answer.{AnswerParts, Sized}
 use Rattle.tpm_record.specs.rows.Request.{Request}
-use Rattle.tpm_record.specs.rows.Rows.{Success, only, unchanged}
+use Rattle.tpm_record.specs.rows.Rows.{Success, only, unchanged_success}
 
 -- an answer that contains the first `count` of the event's random bytes, as a sized buffer
 abbrev pub random_answer : ℕ → List ℕ → AnswerParts
@@ -20,4 +20,4 @@ random_answer count random =
 unfoldable pub get_random_row : Record → Request → Result Success Refused
 get_random_row r q = do
   requested ← only (or_fault (number_at w16 q.parameters) (plain code.Insufficient))
-  Ok (unchanged r (random_answer (min requested 32) q.random))
+  Ok (unchanged_success r (random_answer (min requested 32) q.random))

@@ -9,7 +9,7 @@ use Rattle.tpm_record.specs.Record.{Record}
 use Rattle.tpm_types.specs.declared.refused.Refused.{Refused}
 use Rattle.tpm_record.specs.rows.Request.{Request, first_handle}
 use Rattle.tpm_actions_device.specs.PcrChange.{with_banks}
-use Rattle.tpm_actions_device.specs.PcrExtend.{extended}
+use Rattle.tpm_actions_device.specs.PcrExtend.{extended_banks}
 use Rattle.tpm_record.specs.rows.Answer.{Plain, answer_of}
 use Rattle.tpm_record.specs.rows.Rows.{Success, only}
 
@@ -19,7 +19,7 @@ unfoldable pub pcr_event_row : Record → Request → Result Success Refused
 pcr_event_row r q = do
   handle ← first_handle q.handles
   event ← only (buffer_at data_limit q.parameters)
-  banks ← extended handle q.locality (event_digests event) r.fixed.banks
+  banks ← extended_banks handle q.locality (event_digests event) r.fixed.banks
   Ok (record {
     answer = answer_of (Plain (digest_values_text (event_digests event)));
     after = with_banks r banks;

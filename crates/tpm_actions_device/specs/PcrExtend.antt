@@ -15,14 +15,15 @@ use Rattle.tpm_record.specs.rows.Answer.{nothing}
 use Rattle.tpm_record.specs.rows.Rows.{Success, only}
 
 -- the banks after a PCR is extended from this locality with each digest in turn
-abbrev pub extended : Handle → (locality : ℕ) → List DigestValue
+abbrev pub extended_banks : Handle → (locality : ℕ) → List DigestValue
     → BankValues → Result BankValues Refused
-extended handle locality digests = on_pcr (pcr_of handle) (λ pcr. extend_of pcr locality digests)
+extended_banks handle locality digests =
+    on_pcr (pcr_of handle) (λ pcr. extend_of pcr locality digests)
 
 -- the row of TPM2_PCR_Extend. Handle: pcrHandle, with authorization. Parameter: digests
 unfoldable pub pcr_extend_row : Record → Request → Result Success Refused
 pcr_extend_row r q = do
   handle ← first_handle q.handles
   digests ← only (digest_values_at q.parameters)
-  banks ← extended handle q.locality digests r.fixed.banks
+  banks ← extended_banks handle q.locality digests r.fixed.banks
   Ok (record { answer = nothing; after = with_banks r banks })

@@ -11,7 +11,7 @@ use Rattle.tpm_record.specs.Record.{Record}
 use Rattle.tpm_types.specs.declared.refused.Refused.{Refused}
 use Rattle.tpm_record.specs.rows.Request.{Request}
 use Rattle.tpm_record.specs.rows.Answer.{Plain, answer_of}
-use Rattle.tpm_record.specs.rows.Rows.{Success, only, unchanged}
+use Rattle.tpm_record.specs.rows.Rows.{Success, only, unchanged_success}
 
 -- the encoded update counter modulo 2^32, a selection of the first eight selected PCRs, and their
 -- values
@@ -26,4 +26,4 @@ reading_text banks selection =
 unfoldable pub pcr_read_row : Record → Request → Result Success Refused
 pcr_read_row r q = do
   selection ← only (selection_at q.parameters)
-  Ok (unchanged r (answer_of (Plain (reading_text r.fixed.banks selection))))
+  Ok (unchanged_success r (answer_of (Plain (reading_text r.fixed.banks selection))))

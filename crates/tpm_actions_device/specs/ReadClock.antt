@@ -8,7 +8,7 @@ use Rattle.tpm_record.specs.Record.{Record}
 use Rattle.tpm_record.specs.declared.fixed.Fixed.{Fixed}
 use Rattle.tpm_record.specs.rows.Answer.{Plain, answer_of}
 use Rattle.tpm_record.specs.rows.Request.{Request}
-use Rattle.tpm_record.specs.rows.Rows.{Success, all_read, unchanged}
+use Rattle.tpm_record.specs.rows.Rows.{Success, all_read, unchanged_success}
 
 -- the answer of TPM2_ReadClock: Time; Clock; the numbers of resets and restarts; and the field
 -- safe, which is always yes because Clock never goes back
@@ -24,4 +24,4 @@ time_text f =
 unfoldable pub read_clock_row : Record → Request → Result Success Refused
 read_clock_row r q = do
   ended ← all_read q.parameters
-  Ok (unchanged r (answer_of (Plain (time_text r.fixed))))
+  Ok (unchanged_success r (answer_of (Plain (time_text r.fixed))))

@@ -6,11 +6,11 @@ use Rattle.tpm_types.specs.declared.refused.Refused.{Refused}
 use Rattle.tpm_record.specs.Record.{Record}
 use Rattle.tpm_record.specs.rows.Answer.{nothing}
 use Rattle.tpm_record.specs.rows.Request.{Request}
-use Rattle.tpm_record.specs.rows.Rows.{Success, only, unchanged}
+use Rattle.tpm_record.specs.rows.Rows.{Success, only, unchanged_success}
 
 -- the row of TPM2_SelfTest. Parameter: fullTest. All tests have already passed, so the command
 -- does nothing
 unfoldable pub self_test_row : Record → Request → Result Success Refused
 self_test_row r q = do
   full_test ← only (yes_no_at q.parameters)
-  Ok (unchanged r nothing)
+  Ok (unchanged_success r nothing)

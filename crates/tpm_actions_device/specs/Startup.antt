@@ -3,7 +3,7 @@ use Rattle.tpm_types.specs.declared.action_check.ActionCheck.TheVariants as acti
 use Rattle.std.specs.Prelude.{ℕ, ◌+◌, ◌-◌, ◌^◌, ◌==◌, min, true, false, List, [], take, drop, if◌then◌else◌, Result, Ok, Err}
 use Rattle.tpm_lockout.specs.Lockout.{LockoutState}
 use Rattle.tpm_lockout.specs.Recovery.{with_closed}
-use Rattle.tpm_nv.specs.Startup.{started}
+use Rattle.tpm_nv.specs.Startup.{contents_after_startup}
 use Rattle.tpm_bytes.specs.Reading.{◌>>=◌}
 use Rattle.tpm_types.specs.declared.rc.ResponseCode.TheVariants as code
 use Rattle.tpm_types.specs.declared.startup_type.StartupType.{StartupType}
@@ -92,8 +92,9 @@ resume_fixed f = record (begun_with (restored_from f.saved f.banks) f) {
 -- the record after a startup; a startup with CLEAR changes NV indices, and a TPM Resume does not
 abbrev pub started_record : Start → Record → List ℕ → Record
 started_record Reset r random =
-    record r { fixed = reset_fixed r.fixed random; nv = started r.nv }
-started_record Restart r random = record r { fixed = restart_fixed r.fixed; nv = started r.nv }
+    record r { fixed = reset_fixed r.fixed random; nv = contents_after_startup r.nv }
+started_record Restart r random =
+    record r { fixed = restart_fixed r.fixed; nv = contents_after_startup r.nv }
 started_record Resume r random = record r { fixed = resume_fixed r.fixed }
 
 -- the number of random bytes that a startup draws; only a TPM Reset draws some, for a seed and a

@@ -4,14 +4,14 @@ use Rattle.tpm_bytes.specs.Reading.{◌>>=◌}
 use Rattle.tpm_name.specs.ObjectName.{object_name}
 use Rattle.tpm_object.specs.declared.areas.Created.{Created}
 use Rattle.tpm_object.specs.declared.object.Object.{Object}
-use Rattle.tpm_object.specs.Areas.{created}
+use Rattle.tpm_object.specs.Areas.{created_areas}
 use Rattle.tpm_object.specs.Creation.{drawn_by}
 use Rattle.tpm_object.specs.PrivateArea.{private_text}
 use Rattle.tpm_record.specs.Record.{Record}
 use Rattle.tpm_types.specs.declared.refused.Refused.{Refused}
 use Rattle.tpm_record.specs.rows.Request.{Request, first_handle}
 use Rattle.tpm_record.specs.rows.Answer.{AnswerParts, SizedFirst}
-use Rattle.tpm_record.specs.rows.Rows.{Success, unchanged}
+use Rattle.tpm_record.specs.rows.Rows.{Success, unchanged_success}
 use Rattle.tpm_actions_object.specs.Checks.{given_passes, public_passes}
 use Rattle.tpm_actions_object.specs.Creation.{Parameters, creation_text, object_parent, parameters_in}
 use Rattle.tpm_actions_object.specs.Loaded.{is_fixed, parent_passes, loaded_at}
@@ -40,4 +40,4 @@ create_row r q = do
   a1 ← parent_passes parent
   t ← public_passes 1 (is_fixed parent) p.template
   c ← given_passes 4 p.given p.template
-  Ok (unchanged r (create_answer r q parent p (created p.template p.given q.random)))
+  Ok (unchanged_success r (create_answer r q parent p (created_areas p.template p.given q.random)))

@@ -27,8 +27,8 @@ abbrev pub named_hierarchy : Handle → Result HierarchyHandle Refused
 named_hierarchy handle = ok_or (hierarchy_of handle) handle_refusal
 
 -- the primary object, derived from the hierarchy's seed
-abbrev pub derived : Record → HierarchyHandle → Parameters → Object
-derived r hierarchy p =
+abbrev pub primary_from_seed : Record → HierarchyHandle → Parameters → Object
+primary_from_seed r hierarchy p =
     primary_object hierarchy (secrets_of r.fixed.hierarchies hierarchy).seed p.template p.given
 
 -- the answer of TPM2_CreatePrimary: the object's handle, the data about its creation, and its
@@ -53,7 +53,7 @@ create_primary_row r q = do
   t ← public_passes 0 true p.template
   c ← given_passes 3 p.given p.template
   place ← place_for action.Seventh r
-  let object : Object = derived r hierarchy p
+  let object : Object = primary_from_seed r hierarchy p
   Ok (record {
     answer = primary_answer r q hierarchy p place object;
     after = record r { objects = with_object r.objects place object };

@@ -67,25 +67,27 @@ eviction_passes by_platform removes object wanted = do
 
 -- the persistent objects, except the one with this handle. Refused by check A4 if persistentHandle
 -- is a different handle
-abbrev pub removed : Entries Object → Handle → Handle → Result (Entries Object) Refused
-removed objects handle wanted = do
+abbrev pub remaining_objects : Entries Object → Handle → Handle → Result (Entries Object) Refused
+remaining_objects objects handle wanted = do
   a4 ← refused_if (not (wanted.number == handle.number))
       (action_refusal action.Fourth (at (place.Handle 2) (plain code.Handle)))
   Ok (without_persistent objects handle)
 
 -- the persistent objects after a transient object is copied to this handle. Refused by check A5 if
 -- the handle is taken; by A6 if no further object can be stored
-abbrev pub copied : Entries Object → Object → Handle → Result (Entries Object) Refused
-copied objects object wanted = do
+abbrev pub objects_with_copy : Entries Object → Object → Handle → Result (Entries Object) Refused
+objects_with_copy objects object wanted = do
   a5 ← refused_if (is_some (persistent_at objects wanted)) (action_refusal action.Fifth (plain code.NvDefined))
   a6 ← refused_if (nat_le persistent_limit (length objects)) (action_refusal action.Sixth (plain code.NvSpace))
   Ok (with_persistent objects wanted object)
 
 -- the persistent objects after an eviction, which removes a persistent object or copies a transient
 -- object
-abbrev pub evicted : Entries Object → Handle → Object → Handle → Result (Entries Object) Refused
-evicted objects handle object wanted =
-    if is_persistent handle then removed objects handle wanted else copied objects object wanted
+abbrev pub objects_after_eviction : Entries Object → Handle → Object → Handle
+    → Result (Entries Object) Refused
+objects_after_eviction objects handle object wanted =
+    if is_persistent handle then remaining_objects objects handle wanted
+    else objects_with_copy objects object wanted
 
 -- the row of TPM2_EvictControl. Handles: auth (the owner or the platform) and objectHandle.
 -- Parameter: persistentHandle. Refused by A1 to A6, the checks of an eviction
@@ -97,7 +99,7 @@ evict_control_row r q = do
   wanted ← only (persistent_handle_at q.parameters)
   passed ← eviction_passes
       (auth.number == platform_handle.number) (is_persistent handle) object wanted
-  persistent ← evicted r.persistent handle object wanted
+  persistent ← objects_after_eviction r.persistent handle object wanted
   Ok (record { answer = nothing; after = record r { persistent = persistent } })
 
 -- The code changed the persistent objects or refused the command, as the definition says. If memory

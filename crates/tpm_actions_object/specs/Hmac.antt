@@ -20,7 +20,7 @@ use Rattle.tpm_record.specs.Record.{Record}
 use Rattle.tpm_types.specs.declared.refused.Refused.{Refused}
 use Rattle.tpm_record.specs.rows.Request.{Request, first_handle}
 use Rattle.tpm_record.specs.rows.Answer.{Sized, answer_of}
-use Rattle.tpm_record.specs.rows.Rows.{Success, all_read, parameter, unchanged}
+use Rattle.tpm_record.specs.rows.Rows.{Success, all_read, parameter, unchanged_success}
 use Rattle.tpm_record.specs.rows.Refusals.{action_refusal}
 use Rattle.tpm_actions_object.specs.Loaded.{loaded_at}
 
@@ -68,4 +68,4 @@ hmac_row r q = do
       (action_refusal action.Third (at (place.Handle 1) (plain code.Key)))
   hash ← ok_or (chosen_hash scheme p.hash)
       (action_refusal action.Fourth (at (place.Parameter 2) (plain code.Value)))
-  Ok (unchanged r (answer_of (Sized (hmac_of hash object.sensitive p.buffer))))
+  Ok (unchanged_success r (answer_of (Sized (hmac_of hash object.sensitive p.buffer))))

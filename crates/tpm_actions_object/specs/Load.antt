@@ -5,7 +5,7 @@ use Rattle.tpm_bytes.specs.Reading.{◌>>=◌, or_fault}
 use Rattle.tpm_name.specs.ObjectName.{object_name}
 use Rattle.tpm_object.specs.declared.object.Object.{Object}
 use Rattle.tpm_object.specs.Object.{loaded_object}
-use Rattle.tpm_object.specs.PrivateArea.{unwrapped}
+use Rattle.tpm_object.specs.PrivateArea.{unwrapped_sensitive}
 use Rattle.tpm_types_object.specs.declared.public.Public.{Public}
 use Rattle.tpm_types.specs.declared.rc.ResponseCode.TheVariants as code
 use Rattle.tpm_types_object.specs.declared.sensitive.Sensitive.{Sensitive}
@@ -26,7 +26,8 @@ use Rattle.tpm_actions_object.specs.Loaded.{is_fixed, parent_passes, loaded_at, 
 -- area for this public area
 abbrev pub sensitive_of : Object → Public → List ℕ → Result Sensitive Refused
 sensitive_of parent public private =
-    or_fault (unwrapped parent public private) (parameter_refusal action.Fifth 1 code.Integrity)
+    or_fault (unwrapped_sensitive parent public private)
+    (parameter_refusal action.Fifth 1 code.Integrity)
 
 -- the loaded object, a child of this parent in the same hierarchy
 abbrev pub loaded_below : Object → Public → Sensitive → Object

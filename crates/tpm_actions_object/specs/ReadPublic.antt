@@ -9,7 +9,7 @@ use Rattle.tpm_record.specs.Record.{Record}
 use Rattle.tpm_types.specs.declared.refused.Refused.{Refused}
 use Rattle.tpm_record.specs.rows.Request.{Request, first_handle}
 use Rattle.tpm_record.specs.rows.Answer.{Body, SizedFirst, answer_of}
-use Rattle.tpm_record.specs.rows.Rows.{Success, all_read, unchanged}
+use Rattle.tpm_record.specs.rows.Rows.{Success, all_read, unchanged_success}
 use Rattle.tpm_actions_object.specs.Loaded.{loaded_at}
 
 -- the answer of TPM2_ReadPublic: an object's public area, its Name and its qualified Name
@@ -24,4 +24,4 @@ read_public_row r q = do
   handle ← first_handle q.handles
   object ← loaded_at r handle
   ended ← all_read q.parameters
-  Ok (unchanged r (answer_of (public_body object)))
+  Ok (unchanged_success r (answer_of (public_body object)))

@@ -12,7 +12,7 @@ use Rattle.tpm_record.specs.Record.{Record}
 use Rattle.tpm_types.specs.declared.refused.Refused.{Refused}
 use Rattle.tpm_record.specs.rows.Request.{Request, first_handle}
 use Rattle.tpm_record.specs.rows.Answer.{Sized, answer_of}
-use Rattle.tpm_record.specs.rows.Rows.{Success, all_read, unchanged}
+use Rattle.tpm_record.specs.rows.Rows.{Success, all_read, unchanged_success}
 use Rattle.tpm_record.specs.rows.Refusals.{action_refusal}
 use Rattle.tpm_actions_object.specs.Loaded.{loaded_at}
 
@@ -27,4 +27,4 @@ unseal_row r q = do
       (action_refusal action.First (at (place.Handle 1) (plain code.Type)))
   a2 ← refused_if (has object.public.attributes attribute.Sign)
       (action_refusal action.Second (at (place.Handle 1) (plain code.Attributes)))
-  Ok (unchanged r (answer_of (Sized object.sensitive)))
+  Ok (unchanged_success r (answer_of (Sized object.sensitive)))

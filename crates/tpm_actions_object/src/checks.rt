@@ -66,10 +66,7 @@ pub fn public_passes(before: u8, public: &Public, parent_is_fixed: bool) -> Resu
     requires { before ≤ 4 }
     ensures { result ≡ public_passes before parent_is_fixed public.now }
 {
-    match check_template(public, parent_is_fixed) {
-        Ok(()) => Ok(()),
-        Err(fault) => Err(template_refusal(before, fault)),
-    }
+    check_template(public, parent_is_fixed).map_err(|fault| template_refusal(before, fault))
 }
 
 /// Checks inSensitive against the template.
@@ -77,8 +74,5 @@ pub fn given_passes(before: u8, given: &SensitiveCreate, template: &Public) -> R
     requires { before ≤ 4 }
     ensures { result ≡ given_passes before (sensitive_values_of given.now) template.now }
 {
-    match check_creation(given, template) {
-        Ok(()) => Ok(()),
-        Err(fault) => Err(creation_refusal(before, fault)),
-    }
+    check_creation(given, template).map_err(|fault| creation_refusal(before, fault))
 }

@@ -8,7 +8,7 @@ ghost use Rattle.tpm_types.specs.PersistentHandle.{persistent_handle_at};
 ghost use Rattle.tpm_record.specs.rows.Answer.{IsEmpty};
 ghost use Rattle.tpm_record.specs.rows.Request.{request_of, second_handle};
 ghost use Rattle.tpm_record.specs.rows.Rows.{Acts, ActsIfRoom, only};
-ghost use Rattle.tpm_actions_object.specs.EvictControl.{Evicts, copied, evict_control_row, eviction_passes, is_of, is_of_platform, may_evict, may_name, removed};
+ghost use Rattle.tpm_actions_object.specs.EvictControl.{Evicts, evict_control_row, eviction_passes, is_of, is_of_platform, may_evict, may_name, objects_with_copy, remaining_objects};
 
 use crate::loaded::loaded;
 use tpm_bytes::Cursor;
@@ -103,7 +103,7 @@ fn check_eviction(
 
 /// Removes a persistent object. The parameter persistentHandle must equal the object's handle.
 fn remove<K: Keep>(keep: &mut K, handle: Handle, wanted: Handle) -> Result<(), Refused>
-    ensures { Evicts false (removed (K.record_of keep.old).persistent handle wanted)
+    ensures { Evicts false (remaining_objects (K.record_of keep.old).persistent handle wanted)
         (K.record_of keep.old) result (K.record_of keep.new) }
 {
     if wanted != handle {
@@ -120,7 +120,8 @@ fn remove<K: Keep>(keep: &mut K, handle: Handle, wanted: Handle) -> Result<(), R
 fn put<K: Keep>(keep: &mut K, object: Object, wanted: Handle) -> Result<(), Refused>
     requires named { is_persistent wanted ≡ true }
     requires owned { can_persist object.hierarchy ≡ true }
-    ensures { Evicts K.can_refuse (copied (K.record_of keep.old).persistent object wanted)
+    ensures { Evicts K.can_refuse
+        (objects_with_copy (K.record_of keep.old).persistent object wanted)
         (K.record_of keep.old) result (K.record_of keep.new) }
 {
     match keep.persistent_mut().add(wanted, object) {

@@ -22,7 +22,8 @@ use Rattle.tpm_actions_policy.specs.PolicyNv.{Parameters, compared}
 -- written
 abbrev HasItsSize : NvIndex → Type 0
 HasItsSize index =
-    length index.bytes ≡ (if has index.public.attributes attribute.Written then index.public.data_size else 0)
+    length index.bytes ≡ (if has index.public.attributes attribute.Written
+    then index.public.data_size else 0)
 
 sized_by : (e : ℕ × NvIndex) (others : Option NvIndex) (index : NvIndex) (is_first : Bool)
     → IsIndex e.0 e.1 → (others ≡ Some index → HasItsSize index)
@@ -41,8 +42,10 @@ found_sized (e ∷ es) key index are found =
 written_of : (index : NvIndex) (done : Unit {0}) → readable index ≡ Ok done
     → has index.public.attributes attribute.Written ≡ true
 written_of index done is =
-    let unlocked = bind_ok (refused_if (index_has index attribute.ReadLocked) fault.Locked) _ done is in
-    let unwritten : not (index_has index attribute.Written) ≡ false = passed _ fault.Uninitialized done unlocked.2 in
+    let unlocked = bind_ok (refused_if (index_has index attribute.ReadLocked) fault.Locked) _ done
+    is in
+    let unwritten : not (index_has index attribute.Written) ≡ false =
+    passed _ fault.Uninitialized done unlocked.2 in
     not_false _ unwritten
   where
     not_false : (b : Bool) → not b ≡ false → b ≡ true
@@ -60,10 +63,15 @@ unfolding read_at
 read_whole contents handle offset size bytes is read =
     let index = bind_ok (index_or_fault contents handle fault.Undefined) _ bytes read in
     let there = bind_ok (readable index.0) _ bytes index.2 in
-    let inside = bind_ok (refused_if (nat_lt index.0.public.data_size (offset + size)) fault.PastData) _ bytes there.2 in
-    let fits : offset + size ≤ index.0.public.data_size = ltb-false _ _ (passed _ fault.PastData inside.0 inside.1) in
-    let found : index_at contents handle ≡ Some index.0 = ok_or_ok (index_at contents handle) fault.Undefined index.0 index.1 in
-    let sized : HasItsSize index.0 = found_sized contents.indices handle.number index.0 is.indices found in
+    let inside =
+    bind_ok (refused_if (nat_lt index.0.public.data_size (offset + size)) fault.PastData) _
+    bytes there.2 in
+    let fits : offset + size ≤ index.0.public.data_size =
+    ltb-false _ _ (passed _ fault.PastData inside.0 inside.1) in
+    let found : index_at contents handle ≡ Some index.0 =
+    ok_or_ok (index_at contents handle) fault.Undefined index.0 index.1 in
+    let sized : HasItsSize index.0 =
+    found_sized contents.indices handle.number index.0 is.indices found in
     let written = written_of index.0 there.0 there.1 in
     let whole : length index.0.bytes ≡ index.0.public.data_size =
     sized ∙ ap (λ (w : Bool). if w then index.0.public.data_size else 0) written in

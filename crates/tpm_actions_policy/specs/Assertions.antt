@@ -4,7 +4,7 @@
 use Rattle.std.specs.Prelude.{◌≡◌, Bool, true, false, List, [], Option, Result, Ok, Err, ok_or}
 use Rattle.std.specs.Borrow.{Bor}
 use Rattle.tpm_bytes.specs.Reading.{◌>>=◌}
-use Rattle.tpm_policy.specs.Assertion.{Assertion, asserted}
+use Rattle.tpm_policy.specs.Assertion.{Assertion, asserted_policy}
 use Rattle.tpm_policy.specs.State.{Policy}
 use Rattle.tpm_types.specs.SessionType.{is_trial}
 use Rattle.tpm_session.specs.declared.session.Session.{Session}
@@ -79,7 +79,7 @@ policy_session sessions handle = ok_or (session_at sessions handle) handle_refus
 -- same check
 abbrev pub policy_after : (Session → Assertion) → Session → Result Policy Refused
 policy_after assertion s =
-    or_refusal fault_refusal (asserted s.hash (is_trial s.kind) (assertion s) s.policy)
+    or_refusal fault_refusal (asserted_policy s.hash (is_trial s.kind) (assertion s) s.policy)
 
 -- the sessions after an assertion on the session with this handle; only this session's policy
 -- changes

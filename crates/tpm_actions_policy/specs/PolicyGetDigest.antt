@@ -5,7 +5,7 @@ use Rattle.tpm_record.specs.Record.{Record}
 use Rattle.tpm_types.specs.declared.refused.Refused.{Refused}
 use Rattle.tpm_record.specs.rows.Answer.{Sized, answer_of}
 use Rattle.tpm_record.specs.rows.Request.{Request, first_handle}
-use Rattle.tpm_record.specs.rows.Rows.{Success, all_read, unchanged}
+use Rattle.tpm_record.specs.rows.Rows.{Success, all_read, unchanged_success}
 use Rattle.tpm_actions_policy.specs.Assertions.{policy_session}
 
 -- the row of TPM2_PolicyGetDigest. Parameters: none. Answer: the session's policy digest
@@ -14,4 +14,4 @@ policy_get_digest_row r q = do
   handle ← first_handle q.handles
   ended ← all_read q.parameters
   s ← policy_session r.sessions handle
-  Ok (unchanged r (answer_of (Sized s.policy.digest)))
+  Ok (unchanged_success r (answer_of (Sized s.policy.digest)))

@@ -3,7 +3,7 @@
 
 ghost use Rattle.tpm_bytes.specs.Reading.{Gives};
 ghost use Rattle.std.specs.Prelude.{◌≡◌, Err};
-ghost use Rattle.tpm_policy.specs.Assertion.{Asserts, asserted};
+ghost use Rattle.tpm_policy.specs.Assertion.{Asserts, asserted_policy};
 ghost use Rattle.tpm_types.specs.SessionType.{is_trial};
 ghost use Rattle.tpm_actions_policy.specs.AssertionParameters.{assertion_of};
 ghost use Rattle.tpm_actions_policy.specs.Assertions.{IsMade};
@@ -42,7 +42,7 @@ impl AssertionParameters<'_> {
         policy: &mut PolicyState,
     ) -> Result<(), ActionFault>
         ensures { Asserts
-            (asserted session.now.hash (is_trial session.now.kind)
+            (asserted_policy session.now.hash (is_trial session.now.kind)
             (assertion_of (K.record_of keep.now) self.now session.now) policy.old)
             policy.old result policy.new }
     {

@@ -3,7 +3,7 @@
 
 ghost use Rattle.std.specs.Prelude.{◌≡◌, ◌≤◌, length};
 ghost use Rattle.tpm_policy.specs.Assertion as assertion;
-ghost use Rattle.tpm_policy.specs.Assertion.{Asserts, asserted, compared_bytes};
+ghost use Rattle.tpm_policy.specs.Assertion.{Asserts, asserted_policy, compared_bytes};
 ghost use Rattle.tpm_types.specs.SessionType.{is_trial};
 ghost use Rattle.tpm_actions_policy.specs.PolicyNv.{compared, nv_parts_of};
 
@@ -50,7 +50,7 @@ impl ComparedIndex<'_> {
         policy: &mut PolicyState,
     ) -> Result<(), ActionFault>
         ensures { Asserts
-            (asserted session.now.hash (is_trial session.now.kind)
+            (asserted_policy session.now.hash (is_trial session.now.kind)
             (assertion.Nv (nv_parts_of (K.record_of keep.now) self.now.target (nv_asked self.now)))
             policy.old)
             policy.old result policy.new }

@@ -8,7 +8,7 @@ ghost use Rattle.tpm_record.specs.rows.Answer.{IsEmpty};
 ghost use Rattle.tpm_record.specs.rows.Request.{request_of};
 ghost use Rattle.tpm_record.specs.rows.Rows.{Acts};
 ghost use Rattle.tpm_policy.specs.Assertion as assertion;
-ghost use Rattle.tpm_policy.specs.Assertion.{Asserts, asserted};
+ghost use Rattle.tpm_policy.specs.Assertion.{Asserts, asserted_policy};
 ghost use Rattle.tpm_types.specs.SessionType.{is_trial};
 ghost use Rattle.tpm_record.specs.Entity.{name_of};
 ghost use Rattle.tpm_actions_policy.specs.AssertionParameters.{secret_asked};
@@ -47,7 +47,7 @@ impl ShownSecret<'_> {
         policy: &mut PolicyState,
     ) -> Result<(), ActionFault>
         ensures { Asserts
-            (asserted session.now.hash (is_trial session.now.kind)
+            (asserted_policy session.now.hash (is_trial session.now.kind)
             (assertion.Secret (secret_of (secret_asked self.now)
             (name_of (K.record_of keep.now) self.now.entity) session.now)) policy.old)
             policy.old result policy.new }

@@ -32,8 +32,10 @@ columns_made g p q r s = refl
 -- A function g can be applied to the state after SubBytes and ShiftRows one column at a time: v, w,
 -- x and y are the results for the four columns.
 columns_words : (g : List ℕ → List ℕ) (state a b c d : List ℕ) (v w x y : ℕ) → length state ≡ 4
-    → a ≡ to_le_bytes w32 (slice_index_or state 0 0) → b ≡ to_le_bytes w32 (slice_index_or state 1 0)
-    → c ≡ to_le_bytes w32 (slice_index_or state 2 0) → d ≡ to_le_bytes w32 (slice_index_or state 3 0)
+    → a ≡ to_le_bytes w32 (slice_index_or state 0 0)
+    → b ≡ to_le_bytes w32 (slice_index_or state 1 0)
+    → c ≡ to_le_bytes w32 (slice_index_or state 2 0)
+    → d ≡ to_le_bytes w32 (slice_index_or state 3 0)
     → to_le_bytes w32 v ≡ g (sub_bytes (shifted_column a b c d))
     → to_le_bytes w32 w ≡ g (sub_bytes (shifted_column b c d a))
     → to_le_bytes w32 x ≡ g (sub_bytes (shifted_column c d a b))
@@ -42,7 +44,8 @@ columns_words : (g : List ℕ → List ℕ) (state a b c d : List ℕ) (v w x y 
 columns_words g state a b c d v w x y size is_a is_b is_c is_d is_v is_w is_x is_y =
     let made = λ (a' b' c' d' : List ℕ).
     g (sub_bytes (shifted_column a' b' c' d')) ++ (g (sub_bytes (shifted_column b' c' d' a'))
-    ++ (g (sub_bytes (shifted_column c' d' a' b')) ++ g (sub_bytes (shifted_column d' a' b' c')))) in
+    ++ (g (sub_bytes (shifted_column c' d' a' b'))
+    ++ g (sub_bytes (shifted_column d' a' b' c')))) in
     let parts : bytes_of (v ∷ w ∷ x ∷ y ∷ []) ≡ made a b c d =
     λ i. is_v i ++ (is_w i ++ (is_x i ++ is_y i)) in
     parts ∙ (λ i. made (is_a i) (is_b i) (is_c i) (is_d i))
@@ -52,8 +55,10 @@ columns_words g state a b c d v w x y size is_a is_b is_c is_d is_v is_w is_x is
 
 -- The words of four mixed columns are the state after SubBytes, ShiftRows and MixColumns.
 pub mixed_words : (state a b c d : List ℕ) (v w x y : ℕ) → length state ≡ 4
-    → a ≡ to_le_bytes w32 (slice_index_or state 0 0) → b ≡ to_le_bytes w32 (slice_index_or state 1 0)
-    → c ≡ to_le_bytes w32 (slice_index_or state 2 0) → d ≡ to_le_bytes w32 (slice_index_or state 3 0)
+    → a ≡ to_le_bytes w32 (slice_index_or state 0 0)
+    → b ≡ to_le_bytes w32 (slice_index_or state 1 0)
+    → c ≡ to_le_bytes w32 (slice_index_or state 2 0)
+    → d ≡ to_le_bytes w32 (slice_index_or state 3 0)
     → to_le_bytes w32 v ≡ mix_column (sub_bytes (shifted_column a b c d))
     → to_le_bytes w32 w ≡ mix_column (sub_bytes (shifted_column b c d a))
     → to_le_bytes w32 x ≡ mix_column (sub_bytes (shifted_column c d a b))
@@ -63,22 +68,26 @@ mixed_words state a b c d v w x y size is_a is_b is_c is_d is_v is_w is_x is_y =
     columns_words mix_column state a b c d v w x y size is_a is_b is_c is_d is_v is_w is_x is_y
     ∙ sym (words_mixed (shift_rows (sub_bytes (bytes_of state))))
 
-words_shifted : (state : List ℕ) → columns_by (λ column. column) (shift_rows state) ≡ shift_rows state
+words_shifted : (state : List ℕ) → columns_by (λ column. column) (shift_rows state)
+    ≡ shift_rows state
 unfolding shift_rows
 words_shifted state = refl
 
 -- The words of four columns that are not mixed, as in the last round, are the state after SubBytes
 -- and ShiftRows.
 pub shifted_words : (state a b c d : List ℕ) (v w x y : ℕ) → length state ≡ 4
-    → a ≡ to_le_bytes w32 (slice_index_or state 0 0) → b ≡ to_le_bytes w32 (slice_index_or state 1 0)
-    → c ≡ to_le_bytes w32 (slice_index_or state 2 0) → d ≡ to_le_bytes w32 (slice_index_or state 3 0)
+    → a ≡ to_le_bytes w32 (slice_index_or state 0 0)
+    → b ≡ to_le_bytes w32 (slice_index_or state 1 0)
+    → c ≡ to_le_bytes w32 (slice_index_or state 2 0)
+    → d ≡ to_le_bytes w32 (slice_index_or state 3 0)
     → to_le_bytes w32 v ≡ sub_bytes (shifted_column a b c d)
     → to_le_bytes w32 w ≡ sub_bytes (shifted_column b c d a)
     → to_le_bytes w32 x ≡ sub_bytes (shifted_column c d a b)
     → to_le_bytes w32 y ≡ sub_bytes (shifted_column d a b c)
     → bytes_of (v ∷ w ∷ x ∷ y ∷ []) ≡ shift_rows (sub_bytes (bytes_of state))
 shifted_words state a b c d v w x y size is_a is_b is_c is_d is_v is_w is_x is_y =
-    columns_words (λ column. column) state a b c d v w x y size is_a is_b is_c is_d is_v is_w is_x is_y
+    columns_words (λ column. column) state a b c d v w x y size is_a is_b is_c is_d is_v is_w is_x
+    is_y
     ∙ words_shifted (sub_bytes (bytes_of state))
 
 constant_values : ROUND_CONSTANTS ≡ map (times_power 1) (range_with_len 0 10)
@@ -101,7 +110,8 @@ turned bytes =
 -- Rotating and substituting the bytes of a word, and XORing them with the round's constant, yields
 -- the scheduled word.
 pub scheduled_sum : (n word sum constant added : ℕ) (bytes : List ℕ) → bytes ≡ to_le_bytes w32 word
-    → to_le_bytes w32 sum ≡ turned bytes → added ≡ constant → constant < 256 → constant ≡ times_power 1 (n - 1)
+    → to_le_bytes w32 sum ≡ turned bytes → added ≡ constant → constant < 256
+    → constant ≡ times_power 1 (n - 1)
     → to_le_bytes w32 (bit_xor sum added) ≡ scheduled_word n (to_le_bytes w32 word)
 unfolding scheduled_word
 scheduled_sum n word sum constant added bytes is_bytes is_sum is_added small of_round =
@@ -113,7 +123,8 @@ scheduled_sum n word sum constant added bytes is_bytes is_sum is_added small of_
 -- The next round key, computed from the four words of a round key, matches the standard.
 next_of_four : (n p q r s added : ℕ) → to_le_bytes w32 added ≡ scheduled_word n (to_le_bytes w32 s)
     → let first = bit_xor p added in let second = bit_xor q first in let third = bit_xor r second in
-    bytes_of (first ∷ second ∷ third ∷ bit_xor s third ∷ []) ≡ next_round_key n (bytes_of (p ∷ q ∷ r ∷ s ∷ []))
+    bytes_of (first ∷ second ∷ third ∷ bit_xor s third ∷ [])
+    ≡ next_round_key n (bytes_of (p ∷ q ∷ r ∷ s ∷ []))
 unfolding next_round_key
 next_of_four n p q r s added is_added =
     let first : ℕ = bit_xor p added in
@@ -131,7 +142,8 @@ pub next_words : (n added : ℕ) (key : List ℕ) → length key ≡ 4
     → let first = bit_xor (slice_index_or key 0 0) added in
     let second = bit_xor (slice_index_or key 1 0) first in
     let third = bit_xor (slice_index_or key 2 0) second in
-    bytes_of (first ∷ second ∷ third ∷ bit_xor (slice_index_or key 3 0) third ∷ []) ≡ next_round_key n (bytes_of key)
+    bytes_of (first ∷ second ∷ third ∷ bit_xor (slice_index_or key 3 0) third ∷ [])
+    ≡ next_round_key n (bytes_of key)
 next_words n added key size is_added =
     next_of_four n _ _ _ _ added is_added
     ∙ sym (ap (λ (words : List ℕ). next_round_key n (bytes_of words)) (four_words key size))

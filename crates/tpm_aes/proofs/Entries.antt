@@ -111,7 +111,8 @@ mixed_sum a b c d = simp (times_zero_two, times_zero_three, xor_zero_r) refl
 
 -- If four words are the mixed columns of single bytes, their XOR is the mixed column of these four
 -- bytes.
-pub mixed_word : (v w x y a b c d : ℕ) → to_le_bytes w32 v ≡ mixed_0 a → to_le_bytes w32 w ≡ mixed_1 b
+pub mixed_word : (v w x y a b c d : ℕ) → to_le_bytes w32 v ≡ mixed_0 a
+    → to_le_bytes w32 w ≡ mixed_1 b
     → to_le_bytes w32 x ≡ mixed_2 c → to_le_bytes w32 y ≡ mixed_3 d
     → to_le_bytes w32 (bit_xor (bit_xor (bit_xor v w) x) y) ≡ mix_column (a ∷ b ∷ c ∷ d ∷ [])
 mixed_word v w x y a b c d is_a is_b is_c is_d =

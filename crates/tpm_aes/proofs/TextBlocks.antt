@@ -25,7 +25,8 @@ unfolding pieces_to
 pieces_to-zero piece = refl
 
 -- The first n + 1 pieces, concatenated, are the first n pieces followed by piece n.
-pub pieces_to-suc : (piece : ℕ → List ℕ) (n : ℕ) → pieces_to piece (suc n) ≡ pieces_to piece n ++ piece n
+pub pieces_to-suc : (piece : ℕ → List ℕ) (n : ℕ)
+    → pieces_to piece (suc n) ≡ pieces_to piece n ++ piece n
 unfolding pieces_to
 pieces_to-suc piece n =
     let number : 0 + n ≡ n = omega arith in
@@ -34,7 +35,8 @@ pieces_to-suc piece n =
     ∙ ap (λ (xs : List ℕ). pieces_to piece n ++ xs) (append-nil (piece (0 + n)) ∙ ap piece number)
 
 -- Like `pieces_to-suc`, but with `n + 1` instead of `suc n`.
-pub pieces_to-add-one : (piece : ℕ → List ℕ) (n : ℕ) → pieces_to piece (n + 1) ≡ pieces_to piece n ++ piece n
+pub pieces_to-add-one : (piece : ℕ → List ℕ) (n : ℕ)
+    → pieces_to piece (n + 1) ≡ pieces_to piece n ++ piece n
 pieces_to-add-one piece n = ap (pieces_to piece) (add-one n) ∙ pieces_to-suc piece n
 
 -- The blocks before block i are replaced by pieces of the same sizes.
@@ -47,7 +49,8 @@ pub done_to_none : (piece : ℕ → List ℕ) (text : List ℕ) → IsDoneTo pie
 done_to_none piece text =
     record { size = refl; value = rw (pieces_to-zero piece) refl }
 
-length-done : (piece : ℕ → List ℕ) (old now : List ℕ) (i : ℕ) → IsDoneTo piece old now i → 16 * i ≤ length old
+length-done : (piece : ℕ → List ℕ) (old now : List ℕ) (i : ℕ) → IsDoneTo piece old now i
+    → 16 * i ≤ length old
     → length (pieces_to piece i) ≡ 16 * i
 length-done piece old now i done within =
     omega (arith, done.size, simp (length-append, length-drop) at (ap length done.value))
@@ -57,7 +60,8 @@ rest_left : (piece : ℕ → List ℕ) (old now : List ℕ) (i start : ℕ) → 
     → start ≡ 16 * i → start ≤ length old → drop start now ≡ drop (16 * i) old
 rest_left piece old now i start done at within =
     ap (drop start) done.value
-    ∙ drop_at (pieces_to piece i) (drop (16 * i) old) start (length-done piece old now i done (omega arith) ∙ sym at)
+    ∙ drop_at (pieces_to piece i) (drop (16 * i) old) start
+    (length-done piece old now i done (omega arith) ∙ sym at)
 
 -- Removing block i from the bytes that start with it leaves the bytes that start with block i + 1.
 drop_block : (old : List ℕ) (i size : ℕ) → 16 * i ≤ length old → size ≡ min 16 (length old - 16 * i)
@@ -74,7 +78,8 @@ drop_block old i size within is_size =
     ]
 
 -- The block that is replaced next is still unchanged.
-pub block_left : (piece : ℕ → List ℕ) (old now : List ℕ) (i start end : ℕ) → IsDoneTo piece old now i
+pub block_left : (piece : ℕ → List ℕ) (old now : List ℕ) (i start end : ℕ)
+    → IsDoneTo piece old now i
     → start ≡ 16 * i → start ≤ length old → end ≡ start + min 16 (length old - start)
     → take (end - start) (drop start now) ≡ block_at old i
 block_left piece old now i start end done at within stop =
@@ -85,7 +90,8 @@ block_left piece old now i start end done at within stop =
 
 -- If the first i blocks have been replaced, and block i is then replaced by its piece, the first i
 -- + 1 blocks have been replaced.
-pub done_to_more : (piece : ℕ → List ℕ) (old now new part : List ℕ) (i start end : ℕ) → IsDoneTo piece old now i
+pub done_to_more : (piece : ℕ → List ℕ) (old now new part : List ℕ) (i start end : ℕ)
+    → IsDoneTo piece old now i
     → start ≡ 16 * i → start ≤ length old → end ≡ start + min 16 (length old - start)
     → part ≡ piece i → length part ≡ end - start
     → new ≡ take start now ++ (part ++ drop (end - start) (drop start now))
@@ -94,7 +100,8 @@ done_to_more piece old now new part i start end done at within stop is_piece siz
     let count : end - start ≡ min 16 (length old - 16 * i) = omega arith in
     let front : take start now ≡ pieces_to piece i =
     ap (take start) done.value
-    ∙ take_at (pieces_to piece i) (drop (16 * i) old) start (length-done piece old now i done (omega arith) ∙ sym at) in
+    ∙ take_at (pieces_to piece i) (drop (16 * i) old) start
+    (length-done piece old now i done (omega arith) ∙ sym at) in
     let rest : drop (end - start) (drop start now) ≡ drop (16 * (i + 1)) old =
     ap (drop (end - start)) (rest_left piece old now i start done at within)
     ∙ drop_block old i (end - start) (omega arith) count in
@@ -118,8 +125,10 @@ pub block_count-inside : (text : List ℕ) (i : ℕ) → i < block_count text �
 block_count-inside text i low = omega arith
 
 -- A block is sixteen bytes long, or as long as the rest of the list if that is shorter.
-pub length-block_at : (text : List ℕ) (i : ℕ) → length (block_at text i) ≡ min 16 (length text - 16 * i)
-length-block_at text i = length-take 16 (drop (16 * i) text) ∙ ap (min 16) (length-drop (16 * i) text)
+pub length-block_at : (text : List ℕ) (i : ℕ)
+    → length (block_at text i) ≡ min 16 (length text - 16 * i)
+length-block_at text i = length-take 16 (drop (16 * i) text)
+    ∙ ap (min 16) (length-drop (16 * i) text)
 
 -- no byte of the list lies past its last block
 pub block_count-covers : (text : List ℕ) → length text ≤ 16 * block_count text
@@ -129,6 +138,7 @@ block_count-covers text = omega (arith, (div_ceil_times (length text) 16 (omega 
 pub done_to_all : (piece : ℕ → List ℕ) (old now : List ℕ) (i : ℕ) → IsDoneTo piece old now i
     → i ≡ block_count old → now ≡ pieces_to piece (block_count old)
 done_to_all piece old now i done last =
-    let none : drop (16 * i) old ≡ [] = drop_all (16 * i) old (omega (arith, block_count-covers old)) in
+    let none : drop (16 * i) old ≡ [] =
+    drop_all (16 * i) old (omega (arith, block_count-covers old)) in
     done.value ∙ ap (λ (xs : List ℕ). pieces_to piece i ++ xs) none ∙ append-nil (pieces_to piece i)
     ∙ ap (pieces_to piece) last

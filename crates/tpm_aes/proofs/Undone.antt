@@ -33,11 +33,17 @@ length-aes_of : (key block : List ℕ) → length (aes_of key block) ≡ 16
 unfolding aes_of
 length-aes_of key block =
     let state : List ℕ = shift_rows (sub_bytes (state_after key block 9)) in
-    length-xor_of-whole state (round_key key 10) (omega (arith, length-shift_rows (sub_bytes (state_after key block 9)), length-round_key key 9))
+    length-xor_of-whole state (round_key key 10)
+    (omega (
+      arith,
+      length-shift_rows (sub_bytes (state_after key block 9)),
+      length-round_key key 9,
+    ))
     ∙ length-shift_rows (sub_bytes (state_after key block 9))
 
 -- XORing a block with a key stream preserves its size
-length-streamed : (key feedback text : List ℕ) (i : ℕ) → length (xor_of (block_at text i) (aes_of key feedback)) ≡ length (block_at text i)
+length-streamed : (key feedback text : List ℕ) (i : ℕ)
+    → length (xor_of (block_at text i) (aes_of key feedback)) ≡ length (block_at text i)
 length-streamed key feedback text i =
     length-xor_of-whole (block_at text i) (aes_of key feedback)
     (omega (arith, length-block_at text i, length-aes_of key feedback))
@@ -65,11 +71,14 @@ xor_of-twice : (xs ys : List ℕ) → length (xor_of xs ys) ≡ length xs → xo
 xor_of-twice [] ys whole = refl
 xor_of-twice (x ∷ xs) [] whole = absurd (omega arith)
 xor_of-twice (x ∷ xs) (y ∷ ys) whole =
-    let byte : bit_xor (bit_xor x y) y ≡ x = xor_assoc x y y ∙ ap (bit_xor x) (xor_self y) ∙ xor_zero_r x in
-    ap (λ (k : ℕ). k ∷ xor_of (xor_of xs ys) ys) byte ∙ ap (λ (t : List ℕ). x ∷ t) (xor_of-twice xs ys (omega arith))
+    let byte : bit_xor (bit_xor x y) y ≡ x = xor_assoc x y y ∙ ap (bit_xor x) (xor_self y)
+    ∙ xor_zero_r x in
+    ap (λ (k : ℕ). k ∷ xor_of (xor_of xs ys) ys) byte
+    ∙ ap (λ (t : List ℕ). x ∷ t) (xor_of-twice xs ys (omega arith))
 
 -- If all pieces before the last are full blocks, block i of the concatenated pieces is piece i.
-block_at-pieces_to : (piece : ℕ → List ℕ) (n : ℕ) → ((i : ℕ) → i < n → length (pieces_to piece i) ≡ 16 * i)
+block_at-pieces_to : (piece : ℕ → List ℕ) (n : ℕ)
+    → ((i : ℕ) → i < n → length (pieces_to piece i) ≡ 16 * i)
     → ((i : ℕ) → length (piece i) ≤ 16) → (i : ℕ) → i < n → block_at (pieces_to piece n) i ≡ piece i
 block_at-pieces_to piece zero whole short i low = absurd (omega arith)
 block_at-pieces_to piece (suc n) whole short i low =
@@ -79,7 +88,8 @@ block_at-pieces_to piece (suc n) whole short i low =
     ∙ elim (cases_lt i n) [
       | inl lower ↦
           ap (take 16) (drop-append-le (16 * i) before (piece n) (omega arith))
-          ∙ take-append-le 16 (drop (16 * i) before) (piece n) (omega (arith, length-drop (16 * i) before))
+          ∙ take-append-le 16 (drop (16 * i) before) (piece n)
+          (omega (arith, length-drop (16 * i) before))
           ∙ block_at-pieces_to piece n (λ j h. whole j (omega arith)) short i lower
       | inr higher ↦
           let same : n ≡ i = omega arith in
@@ -96,10 +106,12 @@ block_at-joined piece text like =
     (λ i. omega (arith, like i, length-block_at text i))
 
 -- Equal pieces have equal concatenations.
-pieces_to-same : (f g : ℕ → List ℕ) (n : ℕ) → ((i : ℕ) → i < n → f i ≡ g i) → pieces_to f n ≡ pieces_to g n
+pieces_to-same : (f g : ℕ → List ℕ) (n : ℕ) → ((i : ℕ) → i < n → f i ≡ g i)
+    → pieces_to f n ≡ pieces_to g n
 pieces_to-same f g zero each = pieces_to-zero f ∙ sym (pieces_to-zero g)
 pieces_to-same f g (suc n) each =
-    pieces_to-suc f n ∙ ap (λ (xs : List ℕ). xs ++ f n) (pieces_to-same f g n (λ i h. each i (omega arith)))
+    pieces_to-suc f n ∙ ap (λ (xs : List ℕ). xs ++ f n)
+    (pieces_to-same f g n (λ i h. each i (omega arith)))
     ∙ ap (λ (xs : List ℕ). pieces_to g n ++ xs) (each n (omega arith)) ∙ sym (pieces_to-suc g n)
 
 -- The first n blocks of a list, concatenated, are the first bytes of the list.
@@ -107,7 +119,8 @@ pieces_to-block_at : (text : List ℕ) (n : ℕ) → pieces_to (block_at text) n
 pieces_to-block_at text zero = pieces_to-zero (block_at text)
 pieces_to-block_at text (suc n) =
     let more : 16 * n + 16 ≡ 16 * suc n = omega arith in
-    pieces_to-suc (block_at text) n ∙ ap (λ (xs : List ℕ). xs ++ block_at text n) (pieces_to-block_at text n)
+    pieces_to-suc (block_at text) n
+    ∙ ap (λ (xs : List ℕ). xs ++ block_at text n) (pieces_to-block_at text n)
     ∙ sym (take-add (16 * n) 16 text) ∙ ap (λ (k : ℕ). take k text) more
 
 -- if the pieces are the blocks of a list, their concatenation is the list
@@ -117,7 +130,8 @@ joined_again : (piece : ℕ → List ℕ) (text other : List ℕ) → length oth
 joined_again piece text other whole each =
     ap (λ (n : ℕ). pieces_to piece (n / 16 + min 1 (n % 16))) whole
     ∙ pieces_to-same piece (block_at text) (block_count text) each
-    ∙ pieces_to-block_at text (block_count text) ∙ take_all (16 * block_count text) text (block_count-covers text)
+    ∙ pieces_to-block_at text (block_count text)
+    ∙ take_all (16 * block_count text) text (block_count-covers text)
 
 -- ---- encryption
 
@@ -147,12 +161,15 @@ block_before-cipher key iv text cipher (suc i) each =
 
 length-cipher_piece : (key iv text : List ℕ) → AreLikeBlocks (cipher_piece key iv text) text
 length-cipher_piece key iv text i =
-    ap length (cipher_block_more key iv text i) ∙ length-streamed key (cipher_block key iv text i) text i
+    ap length (cipher_block_more key iv text i)
+    ∙ length-streamed key (cipher_block key iv text i) text i
 
 -- a ciphertext is as long as its plaintext
-pub length-cfb_encrypt_of : (key iv text : List ℕ) → length (cfb_encrypt_of key iv text) ≡ length text
+pub length-cfb_encrypt_of : (key iv text : List ℕ)
+    → length (cfb_encrypt_of key iv text) ≡ length text
 unfolding pieces_to
-length-cfb_encrypt_of key iv text = length-joined (cipher_piece key iv text) text (length-cipher_piece key iv text)
+length-cfb_encrypt_of key iv text =
+    length-joined (cipher_piece key iv text) text (length-cipher_piece key iv text)
 
 -- decryption undoes encryption
 pub cfb_undone : (key iv text : List ℕ) → cfb_decrypt_of key iv (cfb_encrypt_of key iv text) ≡ text
@@ -164,10 +181,12 @@ cfb_undone key iv text =
     let each : (i : ℕ) → i < block_count text → plain_block key iv cipher i ≡ block_at text i =
     λ i low.
     let stream : List ℕ = aes_of key (cipher_block key iv text i) in
-    ap (λ (b : List ℕ). xor_of b (aes_of key (block_before iv cipher i))) (at i low ∙ cipher_block_more key iv text i)
+    ap (λ (b : List ℕ). xor_of b (aes_of key (block_before iv cipher i)))
+    (at i low ∙ cipher_block_more key iv text i)
     ∙ ap (λ (b : List ℕ). xor_of (xor_of (block_at text i) stream) (aes_of key b))
     (block_before-cipher key iv text cipher i (λ j h. at j (omega arith)))
-    ∙ xor_of-twice (block_at text i) stream (length-streamed key (cipher_block key iv text i) text i) in
+    ∙ xor_of-twice (block_at text i) stream
+    (length-streamed key (cipher_block key iv text i) text i) in
     joined_again (plain_block key iv cipher) text cipher (length-cfb_encrypt_of key iv text) each
 
 -- ---- decryption
@@ -176,9 +195,11 @@ length-plain_block : (key iv cipher : List ℕ) → AreLikeBlocks (plain_block k
 length-plain_block key iv cipher i = length-streamed key (block_before iv cipher i) cipher i
 
 -- a decrypted plaintext is as long as its ciphertext
-pub length-cfb_decrypt_of : (key iv cipher : List ℕ) → length (cfb_decrypt_of key iv cipher) ≡ length cipher
+pub length-cfb_decrypt_of : (key iv cipher : List ℕ)
+    → length (cfb_decrypt_of key iv cipher) ≡ length cipher
 unfolding pieces_to
-length-cfb_decrypt_of key iv cipher = length-joined (plain_block key iv cipher) cipher (length-plain_block key iv cipher)
+length-cfb_decrypt_of key iv cipher =
+    length-joined (plain_block key iv cipher) cipher (length-plain_block key iv cipher)
 
 -- If the blocks of a plaintext are the decrypted blocks of a ciphertext, encrypting them yields the
 -- blocks of the ciphertext.
@@ -191,10 +212,12 @@ encrypted_again key iv cipher text n at (suc i) low =
     ∙ ap (λ (b : List ℕ). xor_of b (aes_of key (cipher_block key iv text i))) (at i (omega arith))
     ∙ ap (λ (b : List ℕ). xor_of (plain_block key iv cipher i) (aes_of key b))
     (encrypted_again key iv cipher text n at i (omega arith))
-    ∙ xor_of-twice (block_at cipher i) (aes_of key (block_before iv cipher i)) (length-plain_block key iv cipher i)
+    ∙ xor_of-twice (block_at cipher i) (aes_of key (block_before iv cipher i))
+    (length-plain_block key iv cipher i)
 
 -- encryption undoes decryption
-pub cfb_redone : (key iv cipher : List ℕ) → cfb_encrypt_of key iv (cfb_decrypt_of key iv cipher) ≡ cipher
+pub cfb_redone : (key iv cipher : List ℕ) → cfb_encrypt_of key iv (cfb_decrypt_of key iv cipher)
+    ≡ cipher
 unfolding pieces_to
 cfb_redone key iv cipher =
     let text : List ℕ = cfb_decrypt_of key iv cipher in
@@ -202,5 +225,6 @@ cfb_redone key iv cipher =
     block_at-joined (plain_block key iv cipher) cipher (length-plain_block key iv cipher) in
     let each : (i : ℕ) → i < block_count cipher → cipher_piece key iv text i ≡ block_at cipher i =
     λ i low.
-    ap (cipher_block key iv text) (add-one i) ∙ encrypted_again key iv cipher text (block_count cipher) at (suc i) (omega arith) in
+    ap (cipher_block key iv text) (add-one i)
+    ∙ encrypted_again key iv cipher text (block_count cipher) at (suc i) (omega arith) in
     joined_again (cipher_piece key iv text) cipher text (length-cfb_decrypt_of key iv cipher) each

@@ -15,12 +15,14 @@ pub bytes-xor : (a b : ℕ)
 bytes-xor a b = rw (xor_mod a b 8, byte-xor a b 8, byte-xor a b 16, byte-xor a b 24) refl
 
 -- XORing two lists of words XORs their bytes.
-pub bytes_of-xor_of : (xs ys : List ℕ) → bytes_of (xor_of xs ys) ≡ xor_of (bytes_of xs) (bytes_of ys)
+pub bytes_of-xor_of : (xs ys : List ℕ) → bytes_of (xor_of xs ys)
+    ≡ xor_of (bytes_of xs) (bytes_of ys)
 bytes_of-xor_of [] ys = refl
 bytes_of-xor_of (x ∷ xs) [] = refl
 bytes_of-xor_of (x ∷ xs) (y ∷ ys) =
     ap (λ (bytes : List ℕ). bytes ++ bytes_of (xor_of xs ys)) (bytes-xor x y)
-    ∙ ap (λ (bytes : List ℕ). xor_of (to_le_bytes w32 x) (to_le_bytes w32 y) ++ bytes) (bytes_of-xor_of xs ys)
+    ∙ ap (λ (bytes : List ℕ). xor_of (to_le_bytes w32 x) (to_le_bytes w32 y) ++ bytes)
+    (bytes_of-xor_of xs ys)
 
 -- the first four words of a list
 abbrev pub by_index : List ℕ → List ℕ
@@ -37,7 +39,8 @@ pub bytes_of-sums : (xs ys : List ℕ) → length xs ≡ 4 → length ys ≡ 4
     → bytes_of (xor_of (by_index xs) (by_index ys)) ≡ xor_of (bytes_of xs) (bytes_of ys)
 bytes_of-sums xs ys x4 y4 =
     bytes_of-xor_of (by_index xs) (by_index ys)
-    ∙ sym (ap₂ (λ (vs ws : List ℕ). xor_of (bytes_of vs) (bytes_of ws)) (four_words xs x4) (four_words ys y4))
+    ∙ sym (ap₂ (λ (vs ws : List ℕ). xor_of (bytes_of vs) (bytes_of ws)) (four_words xs x4)
+    (four_words ys y4))
 
 -- If a word is below 256, its first byte is the word's value, and its other bytes are zeros.
 pub bytes-byte : (a : ℕ) → a < 256 → to_le_bytes w32 a ≡ a ∷ 0 ∷ 0 ∷ 0 ∷ []
@@ -64,7 +67,8 @@ get_or-xored_front (x ∷ xs) (y ∷ ys) (suc i) within fits =
 -- If the first i bytes have been XORed, and byte i (counted from 0) is then XORed, the first i + 1
 -- bytes have been XORed.
 set-xored_front : (old other : List ℕ) (i : ℕ) → i < length old → length old ≤ length other
-    → slice_set (xored_front old other i) i (bit_xor (slice_index_or old i 0) (slice_index_or other i 0))
+    → slice_set (xored_front old other i) i
+    (bit_xor (slice_index_or old i 0) (slice_index_or other i 0))
     ≡ xored_front old other (suc i)
 set-xored_front [] other i within fits = absurd (omega arith)
 set-xored_front (x ∷ xs) [] i within fits = absurd (omega arith)
@@ -75,9 +79,11 @@ set-xored_front (x ∷ xs) (y ∷ ys) (suc i) within fits =
 -- Like `set-xored_front`, but reads byte i from the list that is being changed.
 pub xored_more : (old other bytes : List ℕ) (i : ℕ) → i < length old → length old ≤ length other
     → bytes ≡ xored_front old other i
-    → slice_set bytes i (bit_xor (slice_index_or bytes i 0) (slice_index_or other i 0)) ≡ xored_front old other (i + 1)
+    → slice_set bytes i (bit_xor (slice_index_or bytes i 0) (slice_index_or other i 0))
+    ≡ xored_front old other (i + 1)
 xored_more old other bytes i within fits so_far =
-    rw (so_far, get_or-xored_front old other i within fits, add-one i) (set-xored_front old other i within fits)
+    rw (so_far, get_or-xored_front old other i within fits, add-one i)
+    (set-xored_front old other i within fits)
 
 -- If n is the length of the list, XORing the first n bytes XORs the whole list.
 pub xored_all : (old other : List ℕ) (n : ℕ) → n ≡ length old → length old ≤ length other

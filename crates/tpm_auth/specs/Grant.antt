@@ -25,7 +25,7 @@ use Rattle.tpm_record.specs.Entity.{is_available, protection_of}
 use Rattle.tpm_record.specs.Record.{Record}
 use Rattle.tpm_auth.specs.Comparison.{check_of, failure, is_password_of, may_be_tried}
 use Rattle.tpm_auth.specs.Entries.{decrypts, entries_pass, reference_of, session_of}
-use Rattle.tpm_types.specs.Refused.{checked, refusal}
+use Rattle.tpm_types.specs.Refused.{checked_result, refusal}
 use Rattle.tpm_auth.specs.SessionGrant.{granted_value, session_grant}
 use Rattle.tpm_types.specs.declared.check.Check.TheVariants as check
 use Rattle.tpm_auth.specs.declared.grant.Grants.{Grants}
@@ -105,7 +105,7 @@ grants_pass state command locality before (entry ∷ entries) = do
 -- entries, and whether the parameter that a session decrypts is complete
 unfoldable pub authorize : Record → Whole → (locality : ℕ) → Result (List (Option Grant)) Refused
 authorize r c locality = do
-  own ← checked check.Entries (entries_pass r c.code [] c.entries)
+  own ← checked_result check.Entries (entries_pass r c.code [] c.entries)
   enough ← refused_if (nat_lt (length c.entries) (authorized_handles c.code))
       (refusal check.Entries (plain code.AuthMissing))
   grants ← grants_pass r c locality [] c.entries

@@ -27,7 +27,7 @@ use Rattle.tpm_record.specs.Entity.{auth_value_of, is_available, name_of, policy
 use Rattle.tpm_record.specs.Record.{Record}
 use Rattle.tpm_auth.specs.Comparison.{check_of, failure, is_password_of, may_be_tried}
 use Rattle.tpm_auth.specs.Entries.{decrypts, encrypts, session_of}
-use Rattle.tpm_types.specs.Refused.{checked, refusal}
+use Rattle.tpm_types.specs.Refused.{checked_result, refusal}
 use Rattle.tpm_types.specs.declared.check.Check.TheVariants as check
 use Rattle.tpm_types.specs.declared.refused.Refused.{Refused}
 use Rattle.tpm_auth.specs.declared.session_grant.Grant.{Grant}
@@ -179,7 +179,7 @@ by_value r c n handle = do
 -- does not allow the handle to be used; a trial session authorizes nothing
 abbrev pub by_policy : Record → Whole → (locality n : ℕ) → Handle → Session → Result Demand Refused
 by_policy state command locality number handle session =
-    checked check.Authorization
+    checked_result check.Authorization
     (use_passes session.policy (use_of state command locality number handle session))
 
 abbrev pub demand_by : SessionType
@@ -191,9 +191,9 @@ demand_by type.Policy state command locality number handle session =
 demand_by type.Trial state command locality number handle session =
     by_policy state command locality number handle session
 
-unfoldable pub demanded : Record
+unfoldable pub demand_of_session : Record
     → Whole → (locality n : ℕ) → Handle → Session → Result Demand Refused
-demanded state command locality number handle session =
+demand_of_session state command locality number handle session =
     demand_by session.kind state command locality number handle session
 
 -- the check of entry n's password or HMAC. If the entity whose authorization value the entry uses
@@ -214,6 +214,6 @@ unfoldable pub session_grant : Record
 session_grant state command locality number None entry session =
     comparison state command number None entry session
 session_grant state command locality number (Some handle) entry session = do
-  demand ← demanded state command locality number handle session
+  demand ← demand_of_session state command locality number handle session
   comparison state command number (Some (record { handle = handle; demand = demand })) entry
       session

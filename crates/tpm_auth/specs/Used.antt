@@ -12,7 +12,7 @@ use Rattle.tpm_record.specs.Record.{Record}
 use Rattle.tpm_record.specs.Resolved.{AreFound, IsFound}
 use Rattle.tpm_record.specs.declared.entity.Resolved.{Resolved}
 use Rattle.tpm_auth.specs.Entries.{session_of}
-use Rattle.tpm_auth.specs.SessionGrant.{demanded, takes_value}
+use Rattle.tpm_auth.specs.SessionGrant.{demand_of_session, takes_value}
 use Rattle.tpm_auth.specs.declared.session_grant.Grant.{Grant}
 use Rattle.tpm_auth.specs.declared.used.Granted.{Granted}
 use Rattle.tpm_auth.specs.declared.used.Sent.{Sent}
@@ -34,11 +34,11 @@ abbrev pub asked_grant : Record
     → Whole → (locality n : ℕ) → Option Handle → Session → Result (Option Grant) Refused
 asked_grant state command locality number None session = Ok None
 asked_grant state command locality number (Some handle) session = do
-  demand ← demanded state command locality number handle session
+  demand ← demand_of_session state command locality number handle session
   Ok (Some (record { handle = handle; demand = demand }))
 
-abbrev pub grant_asked : Option Granted → Option Grant
-grant_asked granted = option_map grant_by granted
+abbrev pub grant_if_any : Option Granted → Option Grant
+grant_if_any granted = option_map grant_by granted
 
 -- The entity that an entry of this session authorizes was found in the record, and the code
 -- determined whether the HMAC key includes its authorization value.

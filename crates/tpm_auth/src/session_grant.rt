@@ -13,9 +13,9 @@ ghost use Rattle.tpm_record.specs.Entity.{entity_policy, entity_seen};
 ghost use Rattle.tpm_session.specs.ParameterHash.{parameter_hash_of};
 ghost use Rattle.tpm_auth.specs.Comparison.{is_locked_out};
 ghost use Rattle.tpm_auth.specs.EmptyHmac.{EmptyHmacHasNoKey};
-ghost use Rattle.tpm_auth.specs.SessionGrant.{binding_protection, by_policy, demanded, entry_protection, granted_value, hashed_command, or_protection, session_grant, takes_value, use_of};
+ghost use Rattle.tpm_auth.specs.SessionGrant.{binding_protection, by_policy, demand_of_session, entry_protection, granted_value, hashed_command, or_protection, session_grant, takes_value, use_of};
 ghost use Rattle.tpm_record.specs.Resolved.{IsFound};
-ghost use Rattle.tpm_auth.specs.Used.{IsToGrant, IsUsed, asked_grant, grant_asked, grant_by, used_handle};
+ghost use Rattle.tpm_auth.specs.Used.{IsToGrant, IsUsed, asked_grant, grant_by, grant_if_any, used_handle};
 
 use crate::cache::{Cache, LatestName};
 use crate::comparison::{check_of, failure, is_locked_out, lockout_refusal};
@@ -170,7 +170,7 @@ fn policy_demand<K: Keep>(
 
 /// If the session can authorize this handle, returns what its policy requires in the entry. An HMAC
 /// session requires nothing in addition to its HMAC.
-#[tactic(auto, unfolding(crate::specs::SessionGrant::demanded, tpm_record::specs::Entity::is_available))]
+#[tactic(auto, unfolding(crate::specs::SessionGrant::demand_of_session, tpm_record::specs::Entity::is_available))]
 fn demand_of<K: Keep>(
     keep: &K,
     sent: &Sent,
@@ -182,7 +182,8 @@ fn demand_of<K: Keep>(
     requires hashed { hashes.old
         ≡ hashed_command (K.record_of keep.now) (whole_of sent.now.command.now) }
     requires found { IsFound (K.record_of keep.now) resolved.now }
-    ensures value { result ≡ demanded (K.record_of keep.now) (whole_of sent.now.command.now)
+    ensures value { result ≡ demand_of_session (K.record_of keep.now)
+        (whole_of sent.now.command.now)
         (locality_number sent.now.locality) by.now.number resolved.now.handle
         by.now.session.now }
     ensures same { hashes.new ≡ hashes.old }
@@ -234,7 +235,7 @@ fn granted_to<'a, K: Keep>(
     requires hashed { hashes.old
         ≡ hashed_command (K.record_of keep.now) (whole_of sent.now.command.now) }
     requires used { ForSome used (IsUsed (K.record_of keep.now)) }
-    ensures value { Gives grant_asked (asked_grant (K.record_of keep.now)
+    ensures value { Gives grant_if_any (asked_grant (K.record_of keep.now)
         (whole_of sent.now.command.now) (locality_number sent.now.locality) by.now.number
         (option_map used_handle used.entry) by.now.session.now) result }
     ensures found { IfOk result (λ granted.

@@ -14,8 +14,8 @@ pub record Marks : Type 0 where
   pub room : ℕ
 
 -- the marks of a device before its first read or write
-abbrev pub unmarked : Marks
-unmarked = record { failed = false; ended = false; reads = 0; room = 0 }
+abbrev pub first_marks : Marks
+first_marks = record { failed = false; ended = false; reads = 0; room = 0 }
 
 abbrev pub marks_of : {D : Type 0} → Tap D → Marks
 marks_of tap = record {

@@ -78,10 +78,7 @@ impl<const N: usize> Sink<N> {
     pub fn put(&mut self, bytes: &[u8]) -> Result<(), Full>
         ensures { Puts N bytes.now self.old result self.new }
     {
-        match self.bytes.try_extend_from_slice(bytes) {
-            Ok(()) => Ok(()),
-            Err(_) => Err(Full),
-        }
+        self.bytes.try_extend_from_slice(bytes).map_err(|_| Full)
     }
 
     pub fn put_u8(&mut self, number: u8) -> Result<(), Full>

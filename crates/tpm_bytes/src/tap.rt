@@ -4,7 +4,7 @@
 ghost use Rattle.std.specs.Prelude.{◌≡◌, OnErr, OnOk, length, true};
 ghost use Rattle.std.specs.Io.{ReadsAtMost, WritesAtMost};
 ghost use Rattle.std.specs.Io.KnownBytes.{Appends, Keeps, ReadConsumes, WriteAppends};
-ghost use Rattle.tpm_bytes.specs.Tap.{AppendsFront, after_read, after_write, device_of, marks_of, unmarked};
+ghost use Rattle.tpm_bytes.specs.Tap.{AppendsFront, after_read, after_write, device_of, first_marks, marks_of};
 
 use std::io;
 use std::io::{Read, Write};
@@ -27,7 +27,7 @@ pub struct Tap<D> {
 impl<D> Tap<D> {
     pub fn new(device: D) -> Tap<D>
         ensures device { device_of result ≡ device }
-        ensures marks { marks_of result ≡ unmarked }
+        ensures marks { marks_of result ≡ first_marks }
     {
         Tap {
             device,

@@ -10,24 +10,34 @@ use Rattle.tpm_commands.specs.CommandCode.{code_named, code_number}
 use Rattle.tpm_commands.specs.CommandFacts.{all_codes}
 
 -- If a search finds a value, the value passes the test.
-pub found_passes : {X : Type 0} (test : X → Bool) (xs : List X) → IfSome (find test xs) (λ x. test x ≡ true)
+pub found_passes : {X : Type 0} (test : X → Bool) (xs : List X)
+    → IfSome (find test xs) (λ x. test x ≡ true)
 found_passes test [] = tt
 found_passes test (x ∷ xs) = chosen (test x) refl (found_passes test xs)
   where
-    chosen : (b : Bool) → test x ≡ b → IfSome (find test xs) (λ y. test y ≡ true) → IfSome (cond b (Some x) (find test xs)) (λ y. test y ≡ true)
+    chosen : (b : Bool) → test x ≡ b → IfSome (find test xs) (λ y. test y ≡ true)
+        → IfSome (cond b (Some x) (find test xs)) (λ y. test y ≡ true)
     chosen true is others = is
     chosen false is others = others
 
-numbered : (number : ℕ) (found : Option CommandCode) → IfSome found (λ code. (code_number code == number) ≡ true) → IfSome found (λ code. code_number code ≡ number)
+numbered : (number : ℕ) (found : Option CommandCode)
+    → IfSome found (λ code. (code_number code == number) ≡ true)
+    → IfSome found (λ code. code_number code ≡ number)
 numbered number (Some code) is = eqb-true _ _ is
 numbered number None is = tt
 
-pub code_named-number : (number : ℕ) → IfSome (code_named number) (λ code. code_number code ≡ number)
+pub code_named-number : (number : ℕ)
+    → IfSome (code_named number) (λ code. code_number code ≡ number)
 unfolding code_named
-code_named-number number = numbered number (code_named number) (found_passes (λ code. code_number code == number) all_codes)
+code_named-number number =
+    numbered number (code_named number)
+    (found_passes (λ code. code_number code == number) all_codes)
 
-pub code_named-is : (number : ℕ) (code : CommandCode) → code_named number ≡ Some code → number ≡ code_number code
-code_named-is number code e = sym (subst (λ (found : Option CommandCode). IfSome found (λ code. code_number code ≡ number)) e (code_named-number number))
+pub code_named-is : (number : ℕ) (code : CommandCode) → code_named number ≡ Some code
+    → number ≡ code_number code
+code_named-is number code e =
+    sym (subst (λ (found : Option CommandCode). IfSome found (λ code. code_number code ≡ number)) e
+    (code_named-number number))
 
 -- ---- proofs whose last clause covers every command that has no clause of its own
 

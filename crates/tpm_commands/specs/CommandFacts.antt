@@ -13,7 +13,7 @@ use Rattle.tpm_commands.specs.declared.shape.ParameterKind.TheVariants as parame
 use Rattle.tpm_commands.specs.Part.{Part, Nothing, Sessions, Objects, SessionsAndObjects, Persistent, NvData}
 use Rattle.tpm_commands.specs.Part.{NvCounter, NvAuthValue, NvDefined, NvUndefined, AuthValues, Lockout, Banks}
 use Rattle.tpm_commands.specs.Part.{Beginning, Saved, DisableClear, Cleared}
-use Rattle.tpm_commands.specs.Shape.{Facts, admin, shape_with, unauthorized, user}
+use Rattle.tpm_commands.specs.Shape.{Facts, admin, rule_without_role, shape_with, user}
 
 pub record CommandFacts : Type 0 where
   pub number : ℕ
@@ -64,7 +64,7 @@ on_object parameters = answering (shape_with (user kind.Object ∷ []) parameter
 
 -- the shape of a command whose only handle names a policy session
 abbrev pub on_policy : List ParameterKind → Facts
-on_policy parameters = shape_with (unauthorized kind.PolicySession ∷ []) parameters
+on_policy parameters = shape_with (rule_without_role kind.PolicySession ∷ []) parameters
 
 -- the shape of a command that lockoutAuth authorizes. Its handle is lockHandle
 abbrev pub on_lockout : List ParameterKind → Facts
@@ -77,7 +77,7 @@ on_clear parameters = shape_with (user kind.Clear ∷ []) parameters
 -- the shape of a command on an NV index. Its handles are authHandle, which is authorized, and
 -- nvIndex
 abbrev pub on_nv : List ParameterKind → Facts
-on_nv parameters = shape_with (user kind.NvAuth ∷ unauthorized kind.NvIndex ∷ []) parameters
+on_nv parameters = shape_with (user kind.NvAuth ∷ rule_without_role kind.NvIndex ∷ []) parameters
 
 -- the shape of a command that reads an NV index. Its handles are authHandle and nvIndex
 abbrev pub on_read_nv : List ParameterKind → Facts
@@ -85,7 +85,7 @@ on_read_nv parameters = reading (on_nv parameters)
 
 -- the handles of TPM2_StartAuthSession: tpmKey, which must be TPM_RH_NULL, and bind
 abbrev pub start_handles : List HandleRule
-start_handles = unauthorized kind.Null ∷ unauthorized kind.Entity ∷ []
+start_handles = rule_without_role kind.Null ∷ rule_without_role kind.Entity ∷ []
 
 -- the parameters of TPM2_StartAuthSession: nonceCaller, encryptedSalt (at most 32 bytes, because
 -- there is no key that can decrypt a salt), sessionType, symmetric, authHash
@@ -106,7 +106,7 @@ define_parameters = parameter.Buffer 32 ∷ parameter.NvPublic ∷ []
 
 -- the handles of TPM2_PolicySecret: authHandle, policySession
 abbrev pub secret_handles : List HandleRule
-secret_handles = user kind.EntityNotNull ∷ unauthorized kind.PolicySession ∷ []
+secret_handles = user kind.EntityNotNull ∷ rule_without_role kind.PolicySession ∷ []
 
 -- the parameters of TPM2_PolicySecret: nonceTPM, cpHashA, policyRef, expiration
 abbrev pub secret_parameters : List ParameterKind
@@ -115,12 +115,12 @@ secret_parameters =
 
 -- the handles of TPM2_EvictControl: auth, objectHandle
 abbrev pub evict_handles : List HandleRule
-evict_handles = user kind.Provision ∷ unauthorized kind.Object ∷ []
+evict_handles = user kind.Provision ∷ rule_without_role kind.Object ∷ []
 
 -- the handles of TPM2_PolicyNV: authHandle, nvIndex, policySession
 abbrev pub compared_handles : List HandleRule
 compared_handles =
-    user kind.NvAuth ∷ unauthorized kind.NvIndex ∷ unauthorized kind.PolicySession ∷ []
+    user kind.NvAuth ∷ rule_without_role kind.NvIndex ∷ rule_without_role kind.PolicySession ∷ []
 
 -- the parameters of TPM2_PolicyNV: operandB, offset, operation
 abbrev pub compared_parameters : List ParameterKind
@@ -133,7 +133,7 @@ command_facts code.EvictControl =
     (growing (shape_with evict_handles (parameter.PersistentHandle ∷ [])))
 command_facts code.NvUndefineSpace =
     facts 0x122 "NV_UndefineSpace" NvUndefined
-    (shape_with (user kind.Provision ∷ unauthorized kind.NvIndex ∷ []) [])
+    (shape_with (user kind.Provision ∷ rule_without_role kind.NvIndex ∷ []) [])
 command_facts code.Clear = facts 0x126 "Clear" Cleared (on_clear [])
 command_facts code.ClearControl =
     facts 0x127 "ClearControl" DisableClear (on_clear (parameter.YesNo ∷ []))
@@ -192,7 +192,7 @@ command_facts code.FlushContext =
     (without_sessions (shape_with [] (parameter.U32 ∷ [])))
 command_facts code.NvReadPublic =
     facts 0x169 "NV_ReadPublic" Nothing
-    (keeping (answering (shape_with (unauthorized kind.NvIndex ∷ []) [])))
+    (keeping (answering (shape_with (rule_without_role kind.NvIndex ∷ []) [])))
 command_facts code.PolicyAuthValue = facts 0x16b "PolicyAuthValue" Sessions (on_policy [])
 command_facts code.PolicyCommandCode =
     facts 0x16c "PolicyCommandCode" Sessions (on_policy (parameter.U32 ∷ []))
@@ -204,7 +204,7 @@ command_facts code.PolicyOr =
     facts 0x171 "PolicyOR" Sessions (on_policy (parameter.DigestList ∷ []))
 command_facts code.ReadPublic =
     facts 0x173 "ReadPublic" Nothing
-    (keeping (answering (shape_with (unauthorized kind.Object ∷ []) [])))
+    (keeping (answering (shape_with (rule_without_role kind.Object ∷ []) [])))
 command_facts code.StartAuthSession =
     facts 0x176 "StartAuthSession" Sessions (making (shape_with start_handles start_parameters))
 command_facts code.GetCapability =

@@ -11,7 +11,7 @@ use Rattle.tpm_types.specs.declared.rc.Rc.{Rc}
 use Rattle.tpm_types.specs.declared.rc.ResponseCode.{ResponseCode}
 use Rattle.tpm_types.specs.declared.rc.ResponseCode.TheVariants as code
 use Rattle.tpm_commands.specs.declared.shape.HandleRule.{HandleRule}
-use Rattle.tpm_types.specs.Handle.{numbered}
+use Rattle.tpm_types.specs.Handle.{numbered_handle}
 use Rattle.tpm_types.specs.Rc.{at, plain}
 use Rattle.tpm_commands.specs.CommandCode.{shape_of}
 use Rattle.tpm_commands.specs.Shape.{is_of_kind}
@@ -25,8 +25,9 @@ handle_fault n fault = at (place.Handle n) (plain fault)
 unfoldable pub allowed_handle_at : ℕ → HandleRule → List ℕ → Result (Handle × List ℕ) Rc
 allowed_handle_at n rule text = do
   number ← or_fault (number_at w32 text) (handle_fault n code.Insufficient)
-  allowed ← refused_if (not (is_of_kind rule.kind (numbered number.0))) (handle_fault n code.Value)
-  Ok (numbered number.0, number.1)
+  allowed ← refused_if (not (is_of_kind rule.kind (numbered_handle number.0)))
+      (handle_fault n code.Value)
+  Ok (numbered_handle number.0, number.1)
 
 -- the handles of a command at the start of the bytes, one for each handle rule of the command, and
 -- the remaining bytes

@@ -114,8 +114,8 @@ abbrev pub admin : HandleKind → HandleRule
 admin kind = record { kind = kind; role = Some role.Admin }
 
 -- the rule for a handle that needs no authorization
-abbrev pub unauthorized : HandleKind → HandleRule
-unauthorized kind = record { kind = kind; role = None }
+abbrev pub rule_without_role : HandleKind → HandleRule
+rule_without_role kind = record { kind = kind; role = None }
 
 -- a shape with these handles and parameters, in which all other facts are false
 abbrev pub shape_with : List HandleRule → List ParameterKind → Facts

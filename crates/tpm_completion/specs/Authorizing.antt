@@ -6,9 +6,9 @@ use Rattle.std.specs.Prelude.{ℕ, ◌==◌, ◌&&◌, ◌||◌, nat_lt, not, Bo
 use Rattle.std.specs.Int.{w32}
 use Rattle.tpm_bytes.specs.Reading.{◌>>=◌, number_at, or_fault, refused_if}
 use Rattle.tpm_auth.specs.Entries.{is_password}
-use Rattle.tpm_types.specs.Handle.{is_policy_session, is_session, is_transient, numbered}
+use Rattle.tpm_types.specs.Handle.{is_policy_session, is_session, is_transient, numbered_handle}
 use Rattle.tpm_types.specs.Rc.{at, entry_fault, plain}
-use Rattle.tpm_types.specs.Refused.{checked, refusal}
+use Rattle.tpm_types.specs.Refused.{checked_result, refusal}
 use Rattle.tpm_types.specs.SessionAttributes.{audits, has_reserved_bits, uses_cipher}
 use Rattle.tpm_types.specs.declared.check.Check.TheVariants as check
 use Rattle.tpm_types.specs.declared.handle.Handle.{Handle}
@@ -51,7 +51,7 @@ absent_refused reference = refusal check.Handles (plain reference)
 unfoldable pub handle_at : (n : ℕ) → List ℕ → Result (Handle × List ℕ) Refused
 handle_at n text = do
   number ← or_fault (number_at w32 text) (handle_refused n code.Insufficient)
-  Ok (numbered number.0, number.1)
+  Ok (numbered_handle number.0, number.1)
 
 -- the slot of the sequence object that handle n of a command names. The refusal is VALUE if the
 -- handle is not a transient object's, and `reference` if it does not name a sequence object
@@ -66,7 +66,7 @@ sequence_named c n reference handle = do
 -- the entries at the start of the bytes, and the remaining bytes; AUTHSIZE if the authorization
 -- area is malformed
 unfoldable pub entries_at : List ℕ → Result (List Entry × List ℕ) Refused
-entries_at text = checked check.Entries (area_at text)
+entries_at text = checked_result check.Entries (area_at text)
 
 -- whether an entry names an HMAC session. The session need not exist
 abbrev pub names_hmac_session : Entry → Bool

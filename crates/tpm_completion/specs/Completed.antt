@@ -8,13 +8,13 @@ use Rattle.tpm_step.specs.step.Events.{PlainEvent, Given, Cycled, Placed}
 use Rattle.tpm_step.specs.step.Step.{step}
 use Rattle.tpm_context.specs.declared.fault.ContextFault.{ContextFault}
 use Rattle.tpm_completion.specs.Completion.{forgotten}
-use Rattle.tpm_completion.specs.Execution.{Seen, answered, asked_after, opened_after, placed_after, reply_after, sent_after, sent_effect, sent_event, unopened_after}
+use Rattle.tpm_completion.specs.Execution.{Seen, asked_after, effect_with_reply, opened_after, placed_after, reply_after, sent_after, sent_effect, sent_event, unopened_after}
 use Rattle.tpm_completion.specs.declared.completion.Completion.{Completion}
 use Rattle.tpm_completion.specs.declared.sending.Sent.{Sent}
 
 -- the effect of an event that the device executes without the layer
-unfoldable pub passed : Completion → Record → PlainEvent → Seen
-passed c old event = record {
+unfoldable pub device_effect : Completion → Record → PlainEvent → Seen
+device_effect c old event = record {
   step = step old event;
   layer = forgotten (step old event).after c;
   drawn = drawn_by old event (step old event).row.check;
@@ -31,8 +31,9 @@ loaded_after first (Err fault) = unopened_after first fault
 abbrev pub sending_after : Seen → (buffer : List ℕ) → (locality : ℕ) → (random : List ℕ)
     → Option Sent → Seen
 sending_after first buffer locality random (Some sent) =
-    sent_effect first (passed first.layer first.step.after (sent_event sent locality random)) sent
-sending_after first buffer locality random None = answered first (reply_after first buffer)
+    sent_effect first (device_effect first.layer first.step.after (sent_event sent locality random))
+    sent
+sending_after first buffer locality random None = effect_with_reply first (reply_after first buffer)
 
 -- the effect after the device has executed a command: the context of an object is loaded, or the
 -- layer sends a command to the device, or it may answer
@@ -49,11 +50,12 @@ completed_after first buffer locality random =
 
 abbrev pub completed_with : Completion → Record → PlainEvent → Seen
 completed_with c old (Given buffer locality elapsed random) =
-    completed_after (passed c old (Given buffer locality elapsed random)) buffer locality random
-completed_with c old Cycled = passed c old Cycled
-completed_with c old (Placed object) = passed c old (Placed object)
+    completed_after (device_effect c old (Given buffer locality elapsed random)) buffer locality
+    random
+completed_with c old Cycled = device_effect c old Cycled
+completed_with c old (Placed object) = device_effect c old (Placed object)
 
 -- the effect of an event: with the layer if `completes` is true, otherwise without it
-abbrev pub completed : (completes : Bool) → Completion → Record → PlainEvent → Seen
-completed false c old event = passed c old event
-completed true c old event = completed_with c old event
+abbrev pub completed_effect : (completes : Bool) → Completion → Record → PlainEvent → Seen
+completed_effect false c old event = device_effect c old event
+completed_effect true c old event = completed_with c old event

@@ -10,7 +10,7 @@ use Rattle.tpm_bytes.specs.declared.cursor.Short.{Short}
 use Rattle.tpm_context.specs.Head.{saved_number}
 use Rattle.tpm_context.specs.declared.head.SavedHandle.TheVariants as saved
 use Rattle.tpm_types.specs.declared.handle.Handle.{Handle}
-use Rattle.tpm_types.specs.Handle.{is_session, null_handle, numbered}
+use Rattle.tpm_types.specs.Handle.{is_session, null_handle, numbered_handle}
 use Rattle.tpm_completion.specs.declared.context.Token.{Token}
 
 -- the size of a session's context, in bytes
@@ -39,7 +39,7 @@ token_at start text = do
   context ← number_at w64 text
   between ← bytes_at 26 context.1
   handle ← number_at w32 between.1
-  let token : Token = record { context = context.0; handle = numbered handle.0 }
+  let token : Token = record { context = context.0; handle = numbered_handle handle.0 }
   same ← refused_if (not (bytes_eq text (context_text start token))) too_short
   Ok token
 
@@ -50,7 +50,7 @@ unfoldable pub saved_handle_at : List ℕ → Result Handle Short
 saved_handle_at text = do
   sequence ← number_at w64 text
   number ← number_at w32 sequence.1
-  Ok (numbered number.0)
+  Ok (numbered_handle number.0)
 
 abbrev pub is_of_session : Result Handle Short → Bool
 is_of_session (Ok handle) = is_session handle

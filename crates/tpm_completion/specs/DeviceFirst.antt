@@ -3,7 +3,7 @@ use Rattle.std.specs.Prelude.{◌≡◌, ℕ, ◌/◌, ◌^◌, ◌==◌, ◌&&�
 use Rattle.std.specs.Str.{bytes_eq}
 use Rattle.tpm_bytes.specs.declared.cursor.Short.{Short}
 use Rattle.tpm_record.specs.Record.{Record}
-use Rattle.tpm_step.specs.step.Answer.{framed}
+use Rattle.tpm_step.specs.step.Answer.{framed_message}
 use Rattle.tpm_completion.specs.Answer.{is_refusal}
 use Rattle.tpm_completion.specs.Capability.{asked_at}
 use Rattle.tpm_completion.specs.Command.{Command, plain_command}
@@ -19,7 +19,7 @@ abbrev pub is_gap : List ℕ → Bool
 is_gap response =
     is_refusal 0x143 response
     || (is_refusal 0x1c4 response
-    || (is_refusal 0x1cb response || bytes_eq response (framed 0xc4 0x1e [])))
+    || (is_refusal 0x1cb response || bytes_eq response (framed_message 0xc4 0x1e [])))
 
 -- whether TPM2_GetCapability asks for something that the layer lists: commands, properties, loaded
 -- sessions, saved sessions or transient objects

@@ -18,7 +18,7 @@ use Rattle.tpm_context.specs.declared.fault.ContextFault.{ContextFault}
 use Rattle.tpm_completion.specs.Completion.{forgotten}
 use Rattle.tpm_completion.specs.Loading.{context_asked, object_opened, placed_reply}
 use Rattle.tpm_completion.specs.Reply.{reply}
-use Rattle.tpm_completion.specs.Saving.{Reply, refused}
+use Rattle.tpm_completion.specs.Saving.{Reply, refusal_reply}
 use Rattle.tpm_completion.specs.Sending.{sent_for, sent_reply}
 use Rattle.tpm_completion.specs.declared.completion.Completion.{Completion}
 use Rattle.tpm_completion.specs.declared.sending.Sent.{Sent}
@@ -40,8 +40,8 @@ seen_of record_of machine layer outcome = record {
 }
 
 -- the same effect, except that the response and the layer's new state are those of a reply
-abbrev pub answered : Seen → Reply → Seen
-answered seen reply = record {
+abbrev pub effect_with_reply : Seen → Reply → Seen
+effect_with_reply seen reply = record {
   step = record seen.step { response = reply.response };
   layer = reply.after;
   drawn = seen.drawn;
@@ -67,7 +67,8 @@ opened_after first context = object_opened first.step.after first.layer context
 
 -- the effect of refusing the context: an error response, and no other change
 abbrev pub unopened_after : Seen → ContextFault → Seen
-unopened_after first fault = answered first (refused first.layer (rc_number (fault_rc fault)))
+unopened_after first fault =
+    effect_with_reply first (refusal_reply first.layer (rc_number (fault_rc fault)))
 
 -- the effect after the device has placed the object. The row remains that of the client's command,
 -- which the device refused
@@ -83,7 +84,8 @@ placed_after first placing =
 -- the effect if memory for the object ran out: the response is MEMORY (904), and the device and the
 -- layer are unchanged
 abbrev pub unplaced_after : Seen → Seen
-unplaced_after first = record (answered first (refused first.layer 0x904)) { drawn = 0 }
+unplaced_after first =
+    record (effect_with_reply first (refusal_reply first.layer 0x904)) { drawn = 0 }
 
 -- After a command with the effect `first`, the device executes the event that places an object.
 pub record ExecutesPlacing (can : Bool) (first : Seen) (object : Object) (placing : Stepped) : Type 0
@@ -153,15 +155,15 @@ Sends can first buffer locality random (Some sent) seen =
     × Passes can first.layer first.step.after (sent_event sent locality random) second
     × (seen ≡ sent_effect first second sent)
 Sends can first buffer locality random None seen =
-    seen ≡ answered first (reply_after first buffer)
+    seen ≡ effect_with_reply first (reply_after first buffer)
 
 -- After the device has executed a command, the context of an object is loaded, or the layer sends a
 -- command to the device, or the layer answers, or the client gets the device's response.
-abbrev pub GoesOn : (can : Bool) → Seen → (buffer : List ℕ) → (locality : ℕ) → (random : List ℕ)
-    → Option (List ℕ) → Seen → Type 0
-GoesOn can first buffer locality random (Some context) seen =
+abbrev pub LoadsOrSends : (can : Bool) → Seen → (buffer : List ℕ) → (locality : ℕ)
+    → (random : List ℕ) → Option (List ℕ) → Seen → Type 0
+LoadsOrSends can first buffer locality random (Some context) seen =
     Loads can first (opened_after first context) seen
-GoesOn can first buffer locality random None seen =
+LoadsOrSends can first buffer locality random None seen =
     Sends can first buffer locality random (sent_after first buffer) seen
 
 -- The device executes the command first, and the layer may answer afterwards.
@@ -169,7 +171,7 @@ abbrev pub AsksFirst : Bool → Completion → Record → (buffer : List ℕ) �
     → List ℕ → Seen → Type 0
 AsksFirst can c old buffer locality elapsed random seen =
     (first : Seen) × Passes can c old (Given buffer locality elapsed random) first
-    × GoesOn can first buffer locality random (asked_after first buffer) seen
+    × LoadsOrSends can first buffer locality random (asked_after first buffer) seen
 
 -- An event has this effect with the layer. The device alone executes a power cycle or a placed
 -- object.

@@ -11,7 +11,7 @@ use Rattle.tpm_mac.specs.declared.algorithm.HashAlg.{HashAlg}
 use Rattle.tpm_mac.specs.declared.algorithm.HashAlg.TheVariants.{Sha256}
 use Rattle.tpm_types.specs.Algorithm.{hash_at}
 use Rattle.tpm_types.specs.Buffer.{buffer_at}
-use Rattle.tpm_types.specs.Handle.{hierarchy_handle, hierarchy_of, numbered}
+use Rattle.tpm_types.specs.Handle.{hierarchy_handle, hierarchy_of, numbered_handle}
 use Rattle.tpm_types.specs.Limits.{data_limit}
 use Rattle.tpm_types.specs.Rc.{plain}
 use Rattle.tpm_types.specs.declared.handle.HierarchyHandle.{HierarchyHandle}
@@ -27,7 +27,7 @@ use Rattle.tpm_record.specs.rows.Rows.{all_read, parameter}
 unfoldable pub hierarchy_at : List ℕ → Result (HierarchyHandle × List ℕ) Rc
 hierarchy_at text = do
   number ← or_fault (number_at w32 text) (plain code.Insufficient)
-  hierarchy ← ok_or (hierarchy_of (numbered number.0)) (plain code.Value)
+  hierarchy ← ok_or (hierarchy_of (numbered_handle number.0)) (plain code.Value)
   Ok (hierarchy, number.1)
 
 -- ---- the ticket

@@ -4,12 +4,12 @@ use Rattle.tpm_bytes.specs.declared.cursor.Short.{Short}
 use Rattle.tpm_object.specs.declared.object.Object.{Object}
 use Rattle.tpm_types.specs.declared.handle.Handle.{Handle}
 use Rattle.tpm_record.specs.Record.{Record}
-use Rattle.tpm_context.specs.Context.{opened}
+use Rattle.tpm_context.specs.Context.{object_in_context}
 use Rattle.tpm_context.specs.declared.fault.ContextFault.{ContextFault}
 use Rattle.tpm_completion.specs.Answer.{is_refusal}
 use Rattle.tpm_completion.specs.Command.{Command, plain_command}
 use Rattle.tpm_completion.specs.Context.{names_own}
-use Rattle.tpm_completion.specs.Saving.{Reply, binding_of, handle_given, refused}
+use Rattle.tpm_completion.specs.Saving.{Reply, binding_of, handle_given, refusal_reply}
 use Rattle.tpm_completion.specs.declared.completion.Completion.{Completion}
 
 -- the context that a TPM2_ContextLoad (161) is to load, unless it is that of a session or of a
@@ -30,10 +30,10 @@ context_asked r buffer response =
 
 -- the object in a context, or why it cannot be loaded
 abbrev pub object_opened : Record → Completion → (context : List ℕ) → Result Object ContextFault
-object_opened r c context = opened r.fixed.hierarchies (binding_of r c) context
+object_opened r c context = object_in_context r.fixed.hierarchies (binding_of r c) context
 
 -- the reply after placing an object: the object's handle, or OBJECT_MEMORY (902) if no slot was
 -- free
 abbrev pub placed_reply : Completion → Option Handle → Reply
 placed_reply c (Some handle) = handle_given c handle
-placed_reply c None = refused c 0x902
+placed_reply c None = refusal_reply c 0x902

@@ -10,17 +10,17 @@ use Rattle.std.specs.Str.{bytes_eq}
 use Rattle.tpm_bytes.specs.Reading.{number_at, sized_at}
 use Rattle.tpm_bytes.specs.declared.cursor.Short.{Short}
 use Rattle.tpm_bytes.specs.declared.cursor.SizedFault.{SizedFault}
-use Rattle.tpm_types.specs.Handle.{numbered}
+use Rattle.tpm_types.specs.Handle.{numbered_handle}
 use Rattle.tpm_types.specs.Rc.{rc_number}
 use Rattle.tpm_types.specs.declared.refused.Refused.{Refused}
 use Rattle.tpm_record.specs.Record.{Record}
-use Rattle.tpm_step.specs.step.Answer.{framed}
+use Rattle.tpm_step.specs.step.Answer.{framed_message}
 use Rattle.tpm_completion.specs.Answer.{is_refusal, refusal, success}
 use Rattle.tpm_completion.specs.Capability.{asked_at, capability_told}
 use Rattle.tpm_completion.specs.Command.{Command, plain_command, tag_of}
 use Rattle.tpm_completion.specs.Context.{names_sequence, names_session}
 use Rattle.tpm_completion.specs.Hashing.{hash_row}
-use Rattle.tpm_completion.specs.Saving.{Reply, loaded, refused, saved}
+use Rattle.tpm_completion.specs.Saving.{Reply, refusal_reply, save_reply, session_load_reply}
 use Rattle.tpm_completion.specs.SequenceLoading.{sequence_loaded}
 use Rattle.tpm_completion.specs.SequenceReply.{sequence_reply}
 use Rattle.tpm_completion.specs.Testing.{incremental_row, test_parms_row, test_result_row}
@@ -37,8 +37,8 @@ abbrev pub is_stirred : Result (List ℕ × List ℕ) SizedFault → Bool
 is_stirred (Ok bytes) = length bytes.1 == 0
 is_stirred (Err e) = false
 
-abbrev pub stirred : Completion → List ℕ → (response : List ℕ) → Reply
-stirred c parameters response =
+abbrev pub stir_reply : Completion → List ℕ → (response : List ℕ) → Reply
+stir_reply c parameters response =
     if is_stirred (sized_at 128 parameters) then record { response = success []; after = c }
     else stands c response
 
@@ -46,50 +46,50 @@ stirred c parameters response =
 abbrev pub save_asked : Record → Completion → (response : List ℕ) → Result (ℕ × List ℕ) Short
     → Reply
 save_asked r c response (Ok handle) =
-    if length handle.1 == 0 then saved r c (numbered handle.0) else stands c response
+    if length handle.1 == 0 then save_reply r c (numbered_handle handle.0) else stands c response
 save_asked r c response (Err e) = stands c response
 
 -- the reply with the result of a command's row, which is a success or a refusal
-abbrev pub replied : Completion → Result (List ℕ) Refused → Reply
-replied c (Ok body) = record { response = success body; after = c }
-replied c (Err e) = refused c (rc_number e.rc)
+abbrev pub result_reply : Completion → Result (List ℕ) Refused → Reply
+result_reply c (Ok body) = record { response = success body; after = c }
+result_reply c (Err e) = refusal_reply c (rc_number e.rc)
 
 -- the answer to TPM2_IncrementalSelfTest, TPM2_GetTestResult, TPM2_Hash or TPM2_TestParms
 abbrev pub row_served : Record → Completion → Command → (response : List ℕ) → Reply
 row_served r c command response =
-    if command.code == 0x142 then replied c (incremental_row command.parameters)
-    else (if command.code == 0x17c then replied c (test_result_row command.parameters)
+    if command.code == 0x142 then result_reply c (incremental_row command.parameters)
+    else (if command.code == 0x17c then result_reply c (test_result_row command.parameters)
     else (if command.code == 0x17d then
-    replied c (hash_row r.fixed.hierarchies command.parameters)
-    else (if command.code == 0x18a then replied c (test_parms_row command.parameters)
+    result_reply c (hash_row r.fixed.hierarchies command.parameters)
+    else (if command.code == 0x18a then result_reply c (test_parms_row command.parameters)
     else stands c response)))
 
 -- the answer to TPM2_ContextLoad of the context of a session or of a sequence object; the file Loading
 -- defines the loading of an object's context
 abbrev pub load_asked : Record → Completion → (context response : List ℕ) → Reply
 load_asked r c context response =
-    if names_session context then loaded r c context
+    if names_session context then session_load_reply r c context
     else (if names_sequence context then sequence_loaded r c context
     else stands c response)
 
 -- the layer's answer to a command that the device does not support
-abbrev pub served : Record → Completion → Command → (response : List ℕ) → Reply
-served r c command response =
-    if command.code == 0x146 then stirred c command.parameters response
+abbrev pub served_reply : Record → Completion → Command → (response : List ℕ) → Reply
+served_reply r c command response =
+    if command.code == 0x146 then stir_reply c command.parameters response
     else (if command.code == 0x161 then load_asked r c command.parameters response
     else (if command.code == 0x162 then
     save_asked r c response (number_at w32 command.parameters)
     else row_served r c command response))
 
 -- the answer to TPM2_GetCapability: the layer's list, or the device's response
-abbrev pub listed : Completion → (response : List ℕ) → Option (List ℕ) → Reply
-listed c response (Some text) = record { response = success text; after = c }
-listed c response None = stands c response
+abbrev pub capability_reply : Completion → (response : List ℕ) → Option (List ℕ) → Reply
+capability_reply c response (Some text) = record { response = success text; after = c }
+capability_reply c response None = stands c response
 
 abbrev pub capability_asked : Record → Completion → (response : List ℕ) → (was_told : Bool)
     → Result Asked Short → Reply
 capability_asked r c response was_told (Ok asked) =
-    listed c response (capability_told r c asked was_told response)
+    capability_reply c response (capability_told r c asked was_told response)
 capability_asked r c response was_told (Err e) = stands c response
 
 -- the answer to a command without sessions. Before TPM2_Startup, it is always the device's
@@ -99,16 +99,16 @@ unfoldable pub command_reply : Record → Completion → Command → (response :
     → (was_told : Bool) → Reply
 command_reply r c command response was_told =
     if not r.fixed.started then stands c response
-    else (if is_refusal 0x143 response then served r c command response
+    else (if is_refusal 0x143 response then served_reply r c command response
     else (if command.code == 0x17a then
     capability_asked r c response was_told (asked_at command.parameters)
     else stands c response))
 
 -- the answer to a TPM 1.2 command (tag 00C1). If the device refused it with BAD_TAG (1E) and tag
 -- 00C4, the layer answers VALUE (84) with tag 8001, which shows firmware that there is no TPM 1.2
-unfoldable pub probed : Completion → (buffer response : List ℕ) → Reply
-probed c buffer response =
-    if (tag_of buffer == 0xc1) && bytes_eq response (framed 0xc4 0x1e []) then
+unfoldable pub probe_reply : Completion → (buffer response : List ℕ) → Reply
+probe_reply c buffer response =
+    if (tag_of buffer == 0xc1) && bytes_eq response (framed_message 0xc4 0x1e []) then
     record { response = refusal 0x84; after = c }
     else stands c response
 
@@ -116,7 +116,7 @@ probed c buffer response =
 abbrev pub reply_by : Record → Completion → (buffer response : List ℕ) → (was_told : Bool)
     → Result Command Short → Reply
 reply_by r c buffer response was_told (Ok command) = command_reply r c command response was_told
-reply_by r c buffer response was_told (Err e) = probed c buffer response
+reply_by r c buffer response was_told (Err e) = probe_reply c buffer response
 
 unfoldable pub plain_reply : Record → Completion → (buffer response : List ℕ) → (was_told : Bool)
     → Reply

@@ -39,17 +39,17 @@ abbrev pub next_number : Completion → Option ℕ
 next_number c = if nat_lt c.count (2 ^ 64 - 1) then Some (c.count + 1) else None
 
 -- the layer's state after it made a context with this number
-abbrev pub counted : Completion → (number : ℕ) → Completion
-counted c number = record c { count = number }
+abbrev pub layer_with_count : Completion → (number : ℕ) → Completion
+layer_with_count c number = record c { count = number }
 
 -- the reply with a new context, which has this number
 abbrev pub counted_reply : Completion → (number : ℕ) → (context : List ℕ) → Reply
 counted_reply c number context =
-    record { response = success context; after = counted c number }
+    record { response = success context; after = layer_with_count c number }
 
 -- the reply that refuses the command with this code; the layer's state is unchanged
-abbrev pub refused : Completion → ℕ → Reply
-refused c code = record { response = refusal code; after = c }
+abbrev pub refusal_reply : Completion → ℕ → Reply
+refusal_reply c code = record { response = refusal code; after = c }
 
 -- ---- TPM2_ContextSave of an object
 
@@ -68,7 +68,7 @@ abbrev pub object_numbered : Record → Completion → Object → Option ℕ →
 object_numbered r c object (Some number) =
     counted_reply c number
     (object_context_text r.fixed.hierarchies (binding_of r c) number object)
-object_numbered r c object None = refused c 0x12e
+object_numbered r c object None = refusal_reply c 0x12e
 
 -- ---- TPM2_ContextSave of a sequence object
 
@@ -78,12 +78,12 @@ abbrev pub sequence_numbered : Record → Completion → SequenceObject → Opti
 sequence_numbered r c object (Some number) =
     counted_reply c number
     (sequence_context_text r.fixed.hierarchies (binding_of r c) number object)
-sequence_numbered r c object None = refused c 0x12e
+sequence_numbered r c object None = refusal_reply c 0x12e
 
 -- the reply to TPM2_ContextSave of a sequence object: REFERENCE_H0 (910) if it does not exist
 abbrev pub sequence_saved : Record → Completion → Option SequenceObject → Reply
 sequence_saved r c (Some object) = sequence_numbered r c object (next_number c)
-sequence_saved r c None = refused c 0x910
+sequence_saved r c None = refusal_reply c 0x910
 
 -- the reply to TPM2_ContextSave of a transient handle: it names the device's object, if there is
 -- one, and otherwise a sequence object
@@ -103,8 +103,9 @@ context_given c handle context = record {
 -- the reply with a new context of a session; the session is then no longer loaded
 abbrev pub session_numbered : Completion → Handle → Option ℕ → Reply
 session_numbered c handle (Some number) =
-    context_given (with_session (counted c number) (place_named handle) number) handle number
-session_numbered c handle None = refused c 0x12e
+    context_given (with_session (layer_with_count c number) (place_named handle) number)
+    handle number
+session_numbered c handle None = refusal_reply c 0x12e
 
 -- the reply to TPM2_ContextSave of a session: REFERENCE_H0 (910) if the handle does not name a
 -- loaded session
@@ -112,16 +113,16 @@ abbrev pub session_saved : Record → Completion → Handle → (context : ℕ) 
 session_saved r c handle context =
     if is_some (session_at r.sessions handle) && (context == 0) then
     session_numbered c handle (next_number c)
-    else refused c 0x910
+    else refusal_reply c 0x910
 
 -- the reply to TPM2_ContextSave of a handle: VALUE for handle 1 (184) unless the handle is a
 -- transient object's or a session's
-unfoldable pub saved : Record → Completion → Handle → Reply
-saved r c handle =
+unfoldable pub save_reply : Record → Completion → Handle → Reply
+save_reply r c handle =
     if is_transient handle then object_saved r c handle (object_at r.objects handle)
     else (if is_session handle then
     session_saved r c handle (session_context c (place_named handle))
-    else refused c 0x184)
+    else refusal_reply c 0x184)
 
 -- ---- TPM2_ContextLoad of a session's context
 
@@ -137,7 +138,7 @@ session_loaded r c token =
     && (not (token.context == 0)
     && (token.context == session_context c (place_named token.handle))) then
     handle_given (with_session c (place_named token.handle) 0) token.handle
-    else refused c 0x1cb
+    else refusal_reply c 0x1cb
 
 -- the reply to TPM2_ContextLoad of a context that names a session. INTEGRITY for parameter 1 (1DF)
 -- means that the context was not made since the layer's last start. HANDLE for parameter 1 (1CB)
@@ -145,7 +146,7 @@ session_loaded r c token =
 -- has been loaded since the context was saved.
 abbrev pub loaded_by : Record → Completion → Result Token Short → Reply
 loaded_by r c (Ok token) = session_loaded r c token
-loaded_by r c (Err e) = refused c 0x1df
+loaded_by r c (Err e) = refusal_reply c 0x1df
 
-unfoldable pub loaded : Record → Completion → List ℕ → Reply
-loaded r c context = loaded_by r c (token_at c.start context)
+unfoldable pub session_load_reply : Record → Completion → List ℕ → Reply
+session_load_reply r c context = loaded_by r c (token_at c.start context)

@@ -23,7 +23,7 @@ use Rattle.tpm_sequence.specs.Sequence.{hmac_sequence, sequence_updated}
 use Rattle.tpm_sequence.specs.Sequence.{object_of as sequence_object}
 use Rattle.tpm_sequence.specs.declared.sequence.Sequence.{Sequence}
 use Rattle.tpm_sequence.specs.declared.sequence.Sequence.TheVariants.{Event, Hash, Hmac}
-use Rattle.tpm_step.specs.step.Answer.{framed}
+use Rattle.tpm_step.specs.step.Answer.{framed_message}
 use Rattle.tpm_step.specs.step.Entries.{password_answer}
 use Rattle.tpm_types.specs.Algorithm.{hash_or_null_at, hash_or_null_number}
 use Rattle.tpm_types.specs.AuthValue.{trimmed}
@@ -79,7 +79,8 @@ hmac_parameters asked = sized_text [] ++ to_be_bytes w16 (hash_or_null_number as
 -- the command TPM2_HMAC (155) with an empty message, and with this handle, entry and hashAlg
 unfoldable pub hmac_command : Handle → Entry → Option HashAlg → List ℕ
 hmac_command handle e asked =
-    framed 0x8002 0x155 (to_be_bytes w32 handle.number ++ area_of e ++ hmac_parameters asked)
+    framed_message 0x8002 0x155
+    (to_be_bytes w32 handle.number ++ area_of e ++ hmac_parameters asked)
 
 -- what TPM2_HMAC_Start asks for: the handle of a key, the entry that authorizes it, the command's
 -- parameters, hashAlg, the authorization value of the new sequence object, and a free slot
@@ -175,7 +176,7 @@ digests_text (Hmac state) = None
 -- the command TPM2_PCR_Extend (182), with this handle, entry and encoded digests
 unfoldable pub extend_command : Handle → Entry → (digests : List ℕ) → List ℕ
 extend_command handle e digests =
-    framed 0x8002 0x182 (to_be_bytes w32 handle.number ++ area_of e ++ digests)
+    framed_message 0x8002 0x182 (to_be_bytes w32 handle.number ++ area_of e ++ digests)
 
 -- what TPM2_EventSequenceComplete asks for: a PCR or TPM_RH_NULL, the entry that authorizes it, the
 -- command's parameters, the slot of the event sequence, and its encoded digests
@@ -264,7 +265,7 @@ random_parameters = to_be_bytes w16 0
 
 -- the command TPM2_GetRandom (17B) for zero bytes, with this entry, which authorizes nothing
 unfoldable pub random_command : Entry → List ℕ
-random_command e = framed 0x8002 0x17b (area_of e ++ random_parameters)
+random_command e = framed_message 0x8002 0x17b (area_of e ++ random_parameters)
 
 -- what the HMAC of the client's command with this code covers, and what the HMAC of the layer's
 -- command covers. A sequence object's Name is empty

@@ -5,15 +5,15 @@ use Rattle.std.specs.Prelude.{◌≡◌, ℕ, ◌==◌, ◌||◌, not, Bool, tru
 use Rattle.std.specs.Int.{w32}
 use Rattle.tpm_bytes.specs.Reading.{number_at}
 use Rattle.tpm_bytes.specs.declared.cursor.Short.{Short}
-use Rattle.tpm_types.specs.Handle.{numbered}
+use Rattle.tpm_types.specs.Handle.{numbered_handle}
 use Rattle.tpm_types.specs.Rc.{rc_number}
 use Rattle.tpm_types.specs.declared.refused.Refused.{Refused}
 use Rattle.tpm_record.specs.Record.{Record}
 use Rattle.tpm_completion.specs.Answer.{is_refusal}
 use Rattle.tpm_completion.specs.Command.{Command, authorized_command, plain_command}
-use Rattle.tpm_completion.specs.Saving.{Reply, refused}
+use Rattle.tpm_completion.specs.Saving.{Reply, refusal_reply}
 use Rattle.tpm_completion.specs.Sending.{sent_by}
-use Rattle.tpm_completion.specs.SequenceRows.{complete_row, flushed, hash_start_row, update_row}
+use Rattle.tpm_completion.specs.SequenceRows.{complete_row, hash_start_row, removal_reply, update_row}
 use Rattle.tpm_completion.specs.Sequences.{slot_of}
 use Rattle.tpm_completion.specs.declared.completion.Completion.{Completion}
 use Rattle.tpm_completion.specs.declared.sending.Sent.{Sent}
@@ -30,14 +30,14 @@ RepliesIf None old response false new text = (new ≡ old) × (text ≡ response
 -- the reply with the result of a command's row, which is a reply or a refusal
 abbrev pub row_reply : Completion → Result Reply Refused → Reply
 row_reply c (Ok reply) = reply
-row_reply c (Err e) = refused c (rc_number e.rc)
+row_reply c (Err e) = refusal_reply c (rc_number e.rc)
 
 -- the refusal of a command for which the layer would otherwise send a command to the device; the
 -- other answer if the layer sends no command for it
 abbrev pub unsent_reply : Completion → (other : Option Reply) → Option (Result Sent Refused)
     → Option Reply
 unsent_reply c other (Some (Ok sent)) = None
-unsent_reply c other (Some (Err e)) = Some (refused c (rc_number e.rc))
+unsent_reply c other (Some (Err e)) = Some (refusal_reply c (rc_number e.rc))
 unsent_reply c other None = other
 
 -- the answer to SequenceUpdate (15C) or SequenceComplete (13E) with a password
@@ -64,7 +64,7 @@ needs_entry code =
 abbrev pub bare_reply : Completion → Command → Option Reply
 bare_reply c command =
     if command.code == 0x186 then Some (row_reply c (hash_start_row c command.parameters))
-    else (if needs_entry command.code then Some (refused c 0x125)
+    else (if needs_entry command.code then Some (refusal_reply c 0x125)
     else None)
 
 -- the answer to a buffer that the device refused with COMMAND_CODE; `plain` is the buffer parsed as
@@ -79,7 +79,7 @@ asked_reply r c (Err e) (Err f) = None
 -- object, the command removes the object and succeeds
 abbrev pub flush_handle : Completion → Result (ℕ × List ℕ) Short → Option Reply
 flush_handle c (Ok handle) =
-    if length handle.1 == 0 then flushed c (slot_of c (numbered handle.0)) else None
+    if length handle.1 == 0 then removal_reply c (slot_of c (numbered_handle handle.0)) else None
 flush_handle c (Err e) = None
 
 abbrev pub flush_reply : Completion → Result Command Short → Option Reply

@@ -18,7 +18,7 @@ use Rattle.tpm_sequence.specs.Sequence.{event_sequence, hash_sequence, object_of
 use Rattle.tpm_sequence.specs.declared.object.SequenceObject.{SequenceObject}
 use Rattle.tpm_sequence.specs.declared.sequence.Sequence.{Sequence}
 use Rattle.tpm_sequence.specs.declared.sequence.Sequence.TheVariants.{Event, Hash, Hmac}
-use Rattle.tpm_step.specs.step.Answer.{framed}
+use Rattle.tpm_step.specs.step.Answer.{framed_message}
 use Rattle.tpm_step.specs.step.Entries.{password_answer}
 use Rattle.tpm_types.specs.Algorithm.{hash_or_null_at}
 use Rattle.tpm_types.specs.Buffer.{buffer_at}
@@ -45,7 +45,7 @@ use Rattle.tpm_types_command.specs.AuthEntry.{Entry, entry_of}
 -- the parameters, and the answers to the entries
 abbrev pub authorized_success : (handle parameters area : List ℕ) → List ℕ
 authorized_success handle parameters area =
-    framed 0x8002 0 (handle ++ to_be_bytes w32 (length parameters) ++ parameters ++ area)
+    framed_message 0x8002 0 (handle ++ to_be_bytes w32 (length parameters) ++ parameters ++ area)
 
 -- check A1's refusal if no slot is free
 abbrev pub full_refused : Refused
@@ -174,6 +174,7 @@ complete_row h c text = do
 -- ---- TPM2_FlushContext
 
 -- the reply to TPM2_FlushContext of a sequence object, which removes it; None for any other handle
-abbrev pub flushed : Completion → Option ℕ → Option Reply
-flushed c (Some slot) = Some (record { response = success []; after = without_sequence c slot })
-flushed c None = None
+abbrev pub removal_reply : Completion → Option ℕ → Option Reply
+removal_reply c (Some slot) =
+    Some (record { response = success []; after = without_sequence c slot })
+removal_reply c None = None

@@ -5,7 +5,7 @@ use Rattle.std.specs.List.{flat_map}
 use Rattle.tpm_bytes.specs.Numbers.{numbers_below}
 use Rattle.tpm_containers.specs.Numbered.{number_of, place_of}
 use Rattle.tpm_sequence.specs.declared.object.SequenceObject.{SequenceObject}
-use Rattle.tpm_types.specs.Handle.{is_transient, numbered}
+use Rattle.tpm_types.specs.Handle.{is_transient, numbered_handle}
 use Rattle.tpm_types.specs.Limits.{object_limit}
 use Rattle.tpm_types.specs.declared.handle.Handle.{Handle}
 use Rattle.tpm_actions_capability.specs.Element.{by_itself, if_there}
@@ -27,7 +27,7 @@ in_slot c slot = get_or c.sequences slot None
 -- the handle of the sequence object in a slot. These handles follow the handles of the device's
 -- transient objects
 abbrev pub sequence_handle : (slot : ℕ) → Handle
-sequence_handle slot = numbered (number_of 0x80 (object_limit + slot))
+sequence_handle slot = numbered_handle (number_of 0x80 (object_limit + slot))
 
 -- whether a handle is in the range of transient objects, but after the handles that the device
 -- assigns

@@ -2,7 +2,7 @@
 
 ghost use Rattle.std.specs.Prelude.{◌≡◌, ◌+◌, ◌≤◌, [], length};
 ghost use Rattle.std.specs.Str.{bytes_eq};
-ghost use Rattle.tpm_step.specs.step.Answer.{framed};
+ghost use Rattle.tpm_step.specs.step.Answer.{framed_message};
 ghost use Rattle.tpm_completion.specs.Answer.{is_refusal};
 ghost use Rattle.tpm_completion.specs.SequenceRows.{authorized_success};
 
@@ -13,7 +13,7 @@ use tpm_step::Response;
 /// Replaces the device's response with one that has this code and body, and no sessions.
 pub fn answer(code: u32, body: &[u8], text: &mut Response)
     requires { length body.now ≤ 600 }
-    ensures { text.new.items ≡ framed 0x8001 code body.now }
+    ensures { text.new.items ≡ framed_message 0x8001 code body.now }
 {
     text.clear();
     append(text, &0x8001u16.to_be_bytes());

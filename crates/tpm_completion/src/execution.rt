@@ -4,8 +4,8 @@ ghost use Rattle.std.specs.Prelude.{◌≡◌, Ok, Some, List, ℕ, option_map, 
 ghost use Rattle.tpm_types.specs.Locality.{locality_number};
 ghost use Rattle.tpm_step.specs.step.Events.{Given, plain_event};
 ghost use Rattle.tpm_machine.specs.State.{state_of};
-ghost use Rattle.tpm_completion.specs.Completed.{completed};
-ghost use Rattle.tpm_completion.specs.Execution.{AsksFirst, GoesOn, Completes, CompletesIf, Loads, Passes, Sends, asked_after, opened_after, seen_of, sent_after};
+ghost use Rattle.tpm_completion.specs.Completed.{completed_effect};
+ghost use Rattle.tpm_completion.specs.Execution.{AsksFirst, LoadsOrSends, Completes, CompletesIf, Loads, Passes, Sends, asked_after, opened_after, seen_of, sent_after};
 
 use crate::answer::answer;
 use crate::codes::{MEMORY, OBJECT_MEMORY, SUCCESS};
@@ -37,7 +37,7 @@ pub fn execute<K: Keep>(
     // If no allocation can fail, the layer, the record and the event determine the whole effect.
     ensures exactly { K.can_refuse ≡ false
         → seen_of K.record_of machine.new layer.new outcome.new
-        ≡ completed completes layer.old (state_of K.record_of machine.old)
+        ≡ completed_effect completes layer.old (state_of K.record_of machine.old)
         (plain_event event.now) }
 {
     complete_if(machine, layer, completes, event, outcome);
@@ -124,7 +124,7 @@ fn answer_after<K: Keep>(
     random: &[u8; 256],
     outcome: &mut Outcome,
 )
-    ensures { GoesOn K.can_refuse (seen_of K.record_of machine.old layer.old outcome.old)
+    ensures { LoadsOrSends K.can_refuse (seen_of K.record_of machine.old layer.old outcome.old)
         buffer.now (locality_number locality) random.now
         (asked_after (seen_of K.record_of machine.old layer.old outcome.old) buffer.now)
         (seen_of K.record_of machine.new layer.new outcome.new) }

@@ -3,7 +3,7 @@
 ghost use Rattle.std.specs.Prelude.{◌≡◌, [], length};
 ghost use Rattle.tpm_bytes.specs.Reading.{sized_at};
 ghost use Rattle.tpm_completion.specs.Command.{command_of};
-ghost use Rattle.tpm_completion.specs.Reply.{capability_asked, command_reply, is_stirred, load_asked, plain_reply, probed, replied, reply, row_served, save_asked, served, stirred};
+ghost use Rattle.tpm_completion.specs.Reply.{capability_asked, command_reply, is_stirred, load_asked, plain_reply, probe_reply, reply, result_reply, row_served, save_asked, served_reply, stir_reply};
 ghost use Rattle.tpm_completion.specs.Capability.{asked_at};
 ghost use Rattle.std.specs.Int.{w32};
 ghost use Rattle.tpm_bytes.specs.Reading.{number_at};
@@ -36,10 +36,10 @@ fn is_stirred(parameters: &[u8]) -> bool
 }
 
 /// Answers the TPM 1.2 command with which firmware looks for a TPM 1.2.
-#[tactic(auto, unfolding(crate::specs::Reply::probed))]
+#[tactic(auto, unfolding(crate::specs::Reply::probe_reply))]
 fn probe(layer: &Completion, buffer: &[u8], text: &mut Response)
     ensures { record { response = text.new.items; after = layer.now }
-        ≡ probed layer.now buffer.now text.old.items }
+        ≡ probe_reply layer.now buffer.now text.old.items }
 {
     let bad_tag = [0x00, 0xc4, 0, 0, 0, 10, 0, 0, 0, 0x1e];
     if tag_of(buffer) == 0xc1 && is_equal(text.as_slice(), &bad_tag) {
@@ -51,7 +51,7 @@ impl Completion {
     /// Answers TPM2_StirRandom.
     fn stir(&self, parameters: &[u8], text: &mut Response)
         ensures { record { response = text.new.items; after = self.now }
-            ≡ stirred self.now parameters.now text.old.items }
+            ≡ stir_reply self.now parameters.now text.old.items }
     {
         if is_stirred(parameters) {
             answer(SUCCESS, &[], text);
@@ -88,7 +88,7 @@ impl Completion {
     /// Answers with the result of a command's row, which is a success or a refusal.
     fn give(&self, row: Result<Body, Refused>, text: &mut Response)
         ensures { record { response = text.new.items; after = self.now }
-            ≡ replied self.now row }
+            ≡ result_reply self.now row }
     {
         match row {
             Ok(body) => answer(SUCCESS, body.as_slice(), text),
@@ -116,7 +116,7 @@ impl Completion {
     /// Answers a command that the device does not support.
     fn serve<K: Keep>(&mut self, keep: &K, command: &PlainCommand, text: &mut Response)
         ensures { record { response = text.new.items; after = self.new }
-            ≡ served (K.record_of keep.now) self.old (command_of command.now) text.old.items }
+            ≡ served_reply (K.record_of keep.now) self.old (command_of command.now) text.old.items }
     {
         match command.code {
             STIR_RANDOM => self.stir(command.parameters, text),

@@ -5,7 +5,7 @@ ghost use Rattle.tpm_types.specs.Limits.{session_limit};
 ghost use Rattle.tpm_record.specs.Objects.{object_at};
 ghost use Rattle.tpm_step.specs.declared.event.Outcome.{Outcome as Told};
 ghost use Rattle.tpm_completion.specs.Sequences.{sequence_of};
-ghost use Rattle.tpm_completion.specs.Saving.{Reply, binding_of, context_given, counted_reply, handle_given, loaded, next_number, object_numbered, object_saved, place_named, refused, saved, sequence_numbered, sequence_saved, session_loaded, session_saved, with_session};
+ghost use Rattle.tpm_completion.specs.Saving.{Reply, binding_of, context_given, counted_reply, handle_given, next_number, object_numbered, object_saved, place_named, refusal_reply, save_reply, sequence_numbered, sequence_saved, session_load_reply, session_loaded, session_saved, with_session};
 
 use crate::answer::answer;
 use crate::codes::{
@@ -60,7 +60,8 @@ impl Completion {
 
     /// Refuses the command with this response code.
     pub(crate) fn refuse(&self, code: u32, text: &mut Response)
-        ensures { record { response = text.new.items; after = self.now } ≡ refused self.now code }
+        ensures { record { response = text.new.items; after = self.now }
+            ≡ refusal_reply self.now code }
     {
         answer(code, &[], text);
     }
@@ -169,10 +170,10 @@ impl Completion {
     }
 
     /// Answers TPM2_ContextSave of a handle.
-    #[tactic(auto, unfolding(crate::specs::Saving::saved))]
+    #[tactic(auto, unfolding(crate::specs::Saving::save_reply))]
     pub(crate) fn save<K: Keep>(&mut self, keep: &K, handle: Handle, text: &mut Response)
         ensures { record { response = text.new.items; after = self.new }
-            ≡ saved (K.record_of keep.now) self.old handle }
+            ≡ save_reply (K.record_of keep.now) self.old handle }
     {
         if handle.is_transient() {
             self.save_object(keep, handle, text);
@@ -207,10 +208,10 @@ impl Completion {
     }
 
     /// Answers TPM2_ContextLoad of a context that names a session.
-    #[tactic(auto, unfolding(crate::specs::Saving::loaded))]
+    #[tactic(auto, unfolding(crate::specs::Saving::session_load_reply))]
     pub(crate) fn load<K: Keep>(&mut self, keep: &K, context: &[u8], text: &mut Response)
         ensures { record { response = text.new.items; after = self.new }
-            ≡ loaded (K.record_of keep.now) self.old context.now }
+            ≡ session_load_reply (K.record_of keep.now) self.old context.now }
     {
         match read_token(self.start, context) {
             Ok(token) => self.load_session(keep, token, text),

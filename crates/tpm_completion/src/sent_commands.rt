@@ -3,7 +3,7 @@
 
 ghost use Rattle.std.specs.Prelude.{◌≡◌, ◌≤◌, ◌++◌, [], length};
 ghost use Rattle.std.specs.Int.{w32, to_be_bytes};
-ghost use Rattle.tpm_step.specs.step.Answer.{framed};
+ghost use Rattle.tpm_step.specs.step.Answer.{framed_message};
 ghost use Rattle.tpm_types_command.specs.AuthEntry.{entry_of};
 ghost use Rattle.tpm_completion.specs.Sending.{area_of, extend_command, hmac_command, hmac_parameters, random_command};
 
@@ -37,7 +37,7 @@ fn append_handle(handle: Handle, entry: &AuthEntry, body: &mut Sink<COMMAND_LIMI
 /// A command with sessions, with this code and body.
 fn command_of(code: u32, body: &[u8]) -> Sink<COMMAND_LIMIT>
     requires { length body.now ≤ 180 }
-    ensures { result ≡ framed 0x8002 code body.now }
+    ensures { result ≡ framed_message 0x8002 code body.now }
 {
     let mut command = Sink::new();
     command.append_u16(0x8002);

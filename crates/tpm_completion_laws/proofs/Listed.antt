@@ -57,7 +57,9 @@ serves_its_own r c command response none =
     ∙ if_false (code == 0x15c) _ _ update.0
     ∙ if_false (code == 0x13e) _ None complete.0 in
     let needs : needs_entry code ≡ false =
-    or_both (code == 0x15b) _ start.0 (or_both (code == 0x15c) _ update.0 (or_both (code == 0x13e) (code == 0x185) complete.0 event.0)) in
+    or_both (code == 0x15b) _ start.0
+    (or_both (code == 0x15c) _ update.0
+    (or_both (code == 0x13e) (code == 0x185) complete.0 event.0)) in
     record {
       served =
           if_false (code == 0x146) _ _ two.0
@@ -100,7 +102,8 @@ pcr_properties_hold = refl
 
 -- ---- counts
 
-both_parts : (f g h : ℕ → List Element) → ((n : ℕ) → length (f n) + length (g n) ≡ length (h n)) → (ns : List ℕ)
+both_parts : (f g h : ℕ → List Element) → ((n : ℕ) → length (f n) + length (g n) ≡ length (h n))
+    → (ns : List ℕ)
     → length (flat_map f ns) + length (flat_map g ns) ≡ length (flat_map h ns)
 both_parts f g h same [] = refl
 both_parts f g h same (n ∷ ns) =
@@ -111,7 +114,8 @@ both_parts f g h same (n ∷ ns) =
     let rest = both_parts f g h same ns in
     omega (arith, one, two, three, here, rest)
 
-one_each : (f : ℕ → List Element) → ((n : ℕ) → length (f n) ≤ 1) → (ns : List ℕ) → length (flat_map f ns) ≤ length ns
+one_each : (f : ℕ → List Element) → ((n : ℕ) → length (f n) ≤ 1) → (ns : List ℕ)
+    → length (flat_map f ns) ≤ length ns
 one_each f few [] = omega arith
 one_each f few (n ∷ ns) =
     let one = length-append (f n) (flat_map f ns) in
@@ -119,7 +123,8 @@ one_each f few (n ∷ ns) =
     let rest = one_each f few ns in
     omega (arith, one, here, rest)
 
-of_either : (b : Bool) (xs : List Element) → length (if b then xs else []) + length (if not b then xs else []) ≡ length xs
+of_either : (b : Bool) (xs : List Element)
+    → length (if b then xs else []) + length (if not b then xs else []) ≡ length xs
 of_either true xs = omega arith
 of_either false xs = omega arith
 
@@ -132,21 +137,27 @@ module _ (r : Record) (c : Completion) where
   session_one place = by (at_place r.sessions place)
     where
       listed : Option Session → List Element
-      listed found = option_map_or (λ (s : Session). record { number = place; told = (handle_of s.kind place).number } ∷ []) found []
+      listed found =
+          option_map_or
+          (λ (s : Session). record { number = place; told = (handle_of s.kind place).number } ∷ [])
+          found []
 
       by : (found : Option Session) → length (listed found) ≤ 1
       by None = omega arith
       by (Some s) = omega arith
 
-  session_either : (place : ℕ) → length (session_shown r c false place) + length (session_shown r c true place) ≡ length (session_element r place)
+  session_either : (place : ℕ) → length (session_shown r c false place)
+      + length (session_shown r c true place) ≡ length (session_element r place)
   unfolding session_shown
   session_either place = of_either (session_context c place == 0) (session_element r place)
 
   object_one : (place : ℕ) → length (object_element r place) ≤ 1
   object_one place = there _ _
 
-  all_sessions : active_count r c ≡ length (flat_map (session_element r) (numbers_below session_limit))
-  all_sessions = both_parts (session_shown r c false) (session_shown r c true) (session_element r) session_either (numbers_below session_limit)
+  all_sessions : active_count r c
+      ≡ length (flat_map (session_element r) (numbers_below session_limit))
+  all_sessions = both_parts (session_shown r c false) (session_shown r c true) (session_element r)
+      session_either (numbers_below session_limit)
 
   few_sessions : length (flat_map (session_element r) (numbers_below session_limit)) ≤ 16
   few_sessions = one_each (session_element r) session_one (numbers_below session_limit)

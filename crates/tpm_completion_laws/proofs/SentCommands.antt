@@ -41,9 +41,9 @@ use Rattle.tpm_auth.specs.Entries.{is_password, session_of}
 use Rattle.tpm_auth.specs.Grant.{authorize}
 use Rattle.tpm_step.proofs.rows.Binding.{asked, ok_at, ok_bind, ok_bind_is, ok_checked, ok_in_command, ok_then, ok_weaker}
 use Rattle.tpm_step.proofs.step.Decoding.{general_reads}
-use Rattle.tpm_step.specs.step.Answer.{framed}
+use Rattle.tpm_step.specs.step.Answer.{framed_message}
 use Rattle.tpm_step.specs.step.General.{general}
-use Rattle.tpm_step.specs.step.Step.{acceptance, accepted, request_in}
+use Rattle.tpm_step.specs.step.Step.{acceptance, acceptance_in, request_in}
 use Rattle.tpm_step.specs.step.Table.{row_of}
 use Rattle.tpm_completion.specs.Authorizing.{entries_at, entry_passes, entry_refused, first_passes, handle_at, names_hmac_session, only_entry, two_entries}
 use Rattle.tpm_completion.specs.Sending.{area_of}
@@ -53,7 +53,8 @@ use Rattle.tpm_completion_laws.proofs.SessionEntries.{few_bytes}
 -- ---- results of several steps
 
 -- if `refused_if` does not refuse, its condition is false
-unrefused : {E : Type 0} (P : Type 0) (b : Bool) (fault : E) → (b ≡ false → P) → IfOk (refused_if b fault) (λ u. P)
+unrefused : {E : Type 0} (P : Type 0) (b : Bool) (fault : E) → (b ≡ false → P)
+    → IfOk (refused_if b fault) (λ u. P)
 unrefused P true fault all = tt
 unrefused P false fault all = all refl
 
@@ -70,17 +71,20 @@ pub record IsPlain (e : Entry) : Type 0 where
   pub known : (is_password e || names_hmac_session e) ≡ true
   pub cipher : uses_cipher e.attributes ≡ false
 
-pub handle_is : (n : ℕ) (text : List ℕ) → AreBytes text → IfOk (handle_at n text) (λ x. (x.0.number < 2 ^ 32) × AreBytes x.1)
+pub handle_is : (n : ℕ) (text : List ℕ) → AreBytes text
+    → IfOk (handle_at n text) (λ x. (x.0.number < 2 ^ 32) × AreBytes x.1)
 unfolding handle_at
 handle_is n text fits =
     ok_bind_is _ (or_fault (number_at w32 text) _) _ (λ number is.
     let t = number_or_takes w32 (2 ^ 32) wide32 _ text number fits is in (t.1, t.0.rest_fits))
 
-pub entries_are : (text : List ℕ) → AreBytes text → IfOk (entries_at text) (λ x. AllByRecursion IsEntry x.0)
+pub entries_are : (text : List ℕ) → AreBytes text
+    → IfOk (entries_at text) (λ x. AllByRecursion IsEntry x.0)
 unfolding entries_at
 entries_are text fits = ok_checked _ check.Entries (area_at text) (by (area_at text) refl)
   where
-    by : (x : Result (List Entry × List ℕ) Rc) → area_at text ≡ x → IfOk x (λ y. AllByRecursion IsEntry y.0)
+    by : (x : Result (List Entry × List ℕ) Rc) → area_at text ≡ x
+        → IfOk x (λ y. AllByRecursion IsEntry y.0)
     by (Ok y) is = (area_takes text y fits is).2
     by (Err e) is = tt
 
@@ -88,32 +92,45 @@ plain_is : (e : Entry) → IsEntry e → IfOk (first_passes e) (λ u. IsPlain e)
 unfolding entry_passes
 plain_is e is =
     let allowed : Bool = is_password e || names_hmac_session e in
-    ok_bind (λ u. IsPlain e) (refused_if (nat_lt 32 (length e.nonce) || nat_lt 32 (length e.hmac)) (entry_refused 1 code.Size)) _ (λ one.
-    ok_bind_is (λ u. IsPlain e) (refused_if (not allowed) (entry_refused 1 code.Handle)) _ (λ two second.
-    ok_bind (λ u. IsPlain e) (refused_if (has_reserved_bits e.attributes) (entry_refused 1 code.ReservedBits)) _ (λ three.
-    unrefused (IsPlain e) (audits e.attributes || uses_cipher e.attributes) (entry_refused 1 code.Attributes) (λ other. record {
+    ok_bind (λ u. IsPlain e)
+    (refused_if (nat_lt 32 (length e.nonce) || nat_lt 32 (length e.hmac))
+    (entry_refused 1 code.Size)) _ (λ one.
+    ok_bind_is (λ u. IsPlain e) (refused_if (not allowed) (entry_refused 1 code.Handle)) _
+    (λ two second.
+    ok_bind (λ u. IsPlain e)
+    (refused_if (has_reserved_bits e.attributes) (entry_refused 1 code.ReservedBits)) _
+    (λ three.
+    unrefused (IsPlain e) (audits e.attributes || uses_cipher e.attributes)
+    (entry_refused 1 code.Attributes) (λ other. record {
       entry = is;
       known = asked allowed (entry_refused 1 code.Handle) two second;
       cipher = (neither (audits e.attributes) (uses_cipher e.attributes) other).1;
     }))))
 
-pub only_is : (entries : List Entry) → AllByRecursion IsEntry entries → IfOk (only_entry entries) IsPlain
+pub only_is : (entries : List Entry) → AllByRecursion IsEntry entries
+    → IfOk (only_entry entries) IsPlain
 unfolding only_entry
 only_is [] are = tt
-only_is (e ∷ []) are = ok_then (λ u. IsPlain e) IsPlain (first_passes e) _ (plain_is e are.0) (λ valid plain. plain)
+only_is (e ∷ []) are = ok_then (λ u. IsPlain e) IsPlain (first_passes e) _ (plain_is e are.0)
+    (λ valid plain. plain)
 only_is (e ∷ f ∷ more) are = ok_bind IsPlain (first_passes e) _ (λ valid. tt)
 
-pub two_are : (entries : List Entry) → AllByRecursion IsEntry entries → IfOk (two_entries entries) (λ both. IsPlain both.0)
+pub two_are : (entries : List Entry) → AllByRecursion IsEntry entries
+    → IfOk (two_entries entries) (λ both. IsPlain both.0)
 unfolding two_entries
 two_are [] are = tt
 two_are (e ∷ []) are = ok_bind _ (first_passes e) _ (λ valid. tt)
 two_are (e ∷ f ∷ more) are =
-    ok_then (λ u. IsPlain e) (λ (both : Entry × Entry). IsPlain both.0) (first_passes e) _ (plain_is e are.0) (λ valid plain.
-    ok_bind (λ (both : Entry × Entry). IsPlain both.0) (entry_passes 2 (is_password f) f) _ (λ second.
-    ok_bind (λ (both : Entry × Entry). IsPlain both.0) (refused_if (not (length more == 0)) (entry_refused 3 code.Handle)) _ (λ third. plain)))
+    ok_then (λ u. IsPlain e) (λ (both : Entry × Entry). IsPlain both.0) (first_passes e) _
+    (plain_is e are.0) (λ valid plain.
+    ok_bind (λ (both : Entry × Entry). IsPlain both.0) (entry_passes 2 (is_password f) f) _
+    (λ second.
+    ok_bind (λ (both : Entry × Entry). IsPlain both.0)
+    (refused_if (not (length more == 0)) (entry_refused 3 code.Handle)) _ (λ third. plain)))
 
 -- the entry that the layer sends
-pub sent_plain : (r : Record) (asked sent : Covered) (e : Entry) → IsPlain e → IsPlain (entry_sent r asked sent e)
+pub sent_plain : (r : Record) (asked sent : Covered) (e : Entry) → IsPlain e
+    → IsPlain (entry_sent r asked sent e)
 sent_plain r asked sent e is = record {
   entry = record {
     session = is.entry.session;
@@ -125,7 +142,8 @@ sent_plain r asked sent e is = record {
   cipher = is.cipher;
 }
   where
-    by : (found : Option Session) → length (option_map_or (λ (s : Session). sent_hmac s asked sent e) found e.hmac) < 2 ^ 16
+    by : (found : Option Session)
+        → length (option_map_or (λ (s : Session). sent_hmac s asked sent e) found e.hmac) < 2 ^ 16
     by None = is.entry.hmac
     by (Some s) = omega (arith, few_bytes s asked sent e)
 
@@ -142,7 +160,8 @@ with_one code handles e parameters = record {
 -- the encoding of the command
 abbrev pub one_text : CommandCode → List Handle → Entry → (parameters : List ℕ) → List ℕ
 one_text code handles e parameters =
-    framed 0x8002 (code_number code) (flat_map handle_text handles ++ area_of e ++ parameters)
+    framed_message 0x8002 (code_number code)
+    (flat_map handle_text handles ++ area_of e ++ parameters)
 
 module _ (c : CommandCode) (handles : List Handle) (e : Entry) (parameters : List ℕ) where
   abbrev whole : Whole
@@ -151,13 +170,16 @@ module _ (c : CommandCode) (handles : List Handle) (e : Entry) (parameters : Lis
   body_is : command_body_text whole ≡ flat_map handle_text handles ++ area_of e ++ parameters
   body_is =
       command_body_text-is whole
-      ∙ ap (λ (entries : List ℕ). flat_map handle_text handles ++ (to_be_bytes w32 (length entries) ++ entries) ++ parameters) (append-nil (auth_entry_text e))
+      ∙ ap (λ (entries : List ℕ). flat_map handle_text handles
+      ++ (to_be_bytes w32 (length entries) ++ entries) ++ parameters)
+      (append-nil (auth_entry_text e))
 
   text_is : command_text whole ≡ one_text c handles e parameters
   unfolding header_text
   text_is =
       command_text-is whole
-      ∙ ap (λ (size : ℕ). header_text Sessions size c ++ command_body_text whole) (command_size-is whole)
+      ∙ ap (λ (size : ℕ). header_text Sessions size c ++ command_body_text whole)
+      (command_size-is whole)
       ∙ ap (λ (body : List ℕ). header_text Sessions (10 + length body) c ++ body) body_is
 
   size_is : command_size whole ≡ length (one_text c handles e parameters)
@@ -171,42 +193,70 @@ unfolding header_at
 header_fits buffer =
     let long : Bool = nat_lt (length buffer) 10 || nat_lt buffer_limit (length buffer) in
     ok_bind_is (λ h. length buffer ≤ buffer_limit) (refused_if long fault.Length) _ (λ u is.
-    ok_bind (λ h. length buffer ≤ buffer_limit) (ok_or (tag_named (tag_field buffer)) fault.Tag) _ (λ tag.
-    ok_bind (λ h. length buffer ≤ buffer_limit) (refused_if (not (size_field buffer == length buffer)) fault.Size) _ (λ size.
-    ok_bind (λ h. length buffer ≤ buffer_limit) (ok_or (code_named (code_field buffer)) fault.Code) _ (λ code.
-    ltb-false _ _ (neither (nat_lt (length buffer) 10) (nat_lt buffer_limit (length buffer)) (passed long fault.Length u is)).1))))
+    ok_bind (λ h. length buffer ≤ buffer_limit) (ok_or (tag_named (tag_field buffer)) fault.Tag) _
+    (λ tag.
+    ok_bind (λ h. length buffer ≤ buffer_limit)
+    (refused_if (not (size_field buffer == length buffer)) fault.Size) _ (λ size.
+    ok_bind (λ h. length buffer ≤ buffer_limit) (ok_or (code_named (code_field buffer)) fault.Code)
+    _ (λ code.
+    ltb-false _ _ (neither (nat_lt (length buffer) 10) (nat_lt buffer_limit (length buffer))
+    (passed long fault.Length u is)).1))))
 
 command_fits : (buffer : List ℕ) → IfOk (command_at buffer) (λ c. length buffer ≤ buffer_limit)
 unfolding command_at
 command_fits buffer = by (header_at buffer) (header_fits buffer)
   where
     by : (x : Result (Header × List ℕ) HeaderFault) → IfOk x (λ h. length buffer ≤ buffer_limit)
-        → IfOk (header_or_rc x >>= λ header. handles_at 1 (handle_count header.0.code) header.1 >>= λ handles. sessions_at header.0.tag handles.1 >>= λ entries. Ok (let y : Whole × List ℕ = (record { code = header.0.code; handles = handles.0; entries = entries.0; parameters = entries.1 }, []) in y)) (λ c. length buffer ≤ buffer_limit)
-    by (Ok h) fits = ok_bind _ (handles_at 1 (handle_count h.0.code) h.1) _ (λ handles. ok_bind _ (sessions_at h.0.tag handles.1) _ (λ entries. fits))
+        → IfOk (header_or_rc x >>= λ header. handles_at 1 (handle_count header.0.code) header.1
+        >>= λ handles. sessions_at header.0.tag handles.1
+        >>= λ entries. Ok (let y : Whole × List ℕ = (
+          record {
+            code = header.0.code;
+            handles = handles.0;
+            entries =
+                entries.0;
+            parameters = entries.1;
+          },
+          [],
+        ) in y))
+        (λ c. length buffer ≤ buffer_limit)
+    by (Ok h) fits = ok_bind _ (handles_at 1 (handle_count h.0.code) h.1) _
+        (λ handles. ok_bind _ (sessions_at h.0.tag handles.1) _ (λ entries. fits))
     by (Err f) fits = tt
 
-acceptance_command : (t : Record) (c : Whole) (locality : ℕ) (random : List ℕ) → IfOk (acceptance t c locality random) (λ a. a.command ≡ c)
+acceptance_command : (t : Record) (c : Whole) (locality : ℕ) (random : List ℕ)
+    → IfOk (acceptance t c locality random) (λ a. a.command ≡ c)
 unfolding acceptance
 acceptance_command t c locality random =
     ok_bind _ (authorize t c locality) _ (λ grants.
     ok_bind _ (row_of t c.code (request_in t c grants locality random)) _ (λ success. refl))
 
-accepted_reads : (t : Record) (buffer : List ℕ) (locality : ℕ) (random : List ℕ) → IfOk (accepted t buffer locality random) (λ a. command_at buffer ≡ Ok (a.command, []))
-unfolding accepted
+accepted_reads : (t : Record) (buffer : List ℕ) (locality : ℕ) (random : List ℕ)
+    → IfOk (acceptance_in t buffer locality random) (λ a. command_at buffer ≡ Ok (a.command, []))
+unfolding acceptance_in
 accepted_reads t buffer locality random =
-    ok_then (λ c. command_at buffer ≡ Ok (c, [])) _ (general t buffer) _ (general_reads t buffer) (λ c reads.
+    ok_then (λ c. command_at buffer ≡ Ok (c, [])) _ (general t buffer) _ (general_reads t buffer)
+    (λ c reads.
     ok_in_command _ c.code (acceptance t c locality random)
-    (ok_weaker (λ a. a.command ≡ c) _ (acceptance t c locality random) (acceptance_command t c locality random)
+    (ok_weaker (λ a. a.command ≡ c) _ (acceptance t c locality random)
+    (acceptance_command t c locality random)
     (λ a same. subst (λ (d : Whole). command_at buffer ≡ Ok (d, [])) (sym same) reads)))
 
 -- an accepted command with one entry is the command that was sent
-pub accepted_one : (t : Record) (code : CommandCode) (handles : List Handle) (e : Entry) (parameters : List ℕ) (locality : ℕ) (random : List ℕ) → length handles ≡ handle_count code → AllByRecursion IsHandle handles → IsEntry e
-    → IfOk (accepted t (one_text code handles e parameters) locality random) (λ a. a.command ≡ with_one code handles e parameters)
+pub accepted_one : (t : Record) (code : CommandCode) (handles : List Handle) (e : Entry)
+    (parameters : List ℕ) (locality : ℕ) (random : List ℕ) → length handles ≡ handle_count code
+    → AllByRecursion IsHandle handles → IsEntry e
+    → IfOk (acceptance_in t (one_text code handles e parameters) locality random)
+    (λ a. a.command ≡ with_one code handles e parameters)
 accepted_one t code handles e parameters locality random many fit is =
     let c : Whole = with_one code handles e parameters in
     let buffer : List ℕ = one_text code handles e parameters in
-    ok_weaker (λ a. command_at buffer ≡ Ok (a.command, [])) _ (accepted t buffer locality random) (accepted_reads t buffer locality random) (λ a reads.
-    let fits : length buffer ≤ buffer_limit = ok_at (λ x. length buffer ≤ buffer_limit) (command_at buffer) (a.command, []) (command_fits buffer) reads in
+    ok_weaker (λ a. command_at buffer ≡ Ok (a.command, [])) _
+    (acceptance_in t buffer locality random)
+    (accepted_reads t buffer locality random) (λ a reads.
+    let fits : length buffer ≤ buffer_limit =
+    ok_at (λ x. length buffer ≤ buffer_limit) (command_at buffer) (a.command, [])
+    (command_fits buffer) reads in
     let size = size_is code handles e parameters in
     let one : IsCommand c = record {
       handle_count = many;
@@ -242,12 +292,14 @@ apart type.Hmac = refl
 apart type.Policy = refl
 apart type.Trial = refl
 
-pub no_session : (places : List (Option Session)) (handle : Handle) → (handle.number == password_handle.number) ≡ true → session_at places handle ≡ None
+pub no_session : (places : List (Option Session)) (handle : Handle)
+    → (handle.number == password_handle.number) ≡ true → session_at places handle ≡ None
 unfolding session_at at_number
 no_session places handle is = by (at_place places (place_of handle.number))
   where
     by : (o : Option Session) → option_and_then (if_of_kind session_byte handle.number) o ≡ None
     by None = refl
     by (Some s) =
-        ap (λ (n : ℕ). if kind_of n == session_byte s then Some s else None) (eqb-true handle.number password_handle.number is)
+        ap (λ (n : ℕ). if kind_of n == session_byte s then Some s else None)
+        (eqb-true handle.number password_handle.number is)
         ∙ ap (λ (b : Bool). if b then Some s else None) (apart s.kind)

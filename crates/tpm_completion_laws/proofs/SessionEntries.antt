@@ -38,11 +38,13 @@ mac_long : (s : Session) (c : Covered) (e : Entry) → 2 ≤ length (covered_mac
 mac_long s c e = omega (arith, mac_size s c e, at_least s.hash)
 
 -- the HMAC that the layer sends has at most 32 bytes
-pub few_bytes : (s : Session) (asked sent : Covered) (e : Entry) → length (sent_hmac s asked sent e) ≤ 32
+pub few_bytes : (s : Session) (asked sent : Covered) (e : Entry)
+    → length (sent_hmac s asked sent e) ≤ 32
 unfolding sent_hmac
 few_bytes s asked sent e = by (is_right s asked e) (length e.hmac == 0)
   where
-    by : (right empty : Bool) → length (if not right then 0 ∷ [] else (if empty then [] else covered_mac s sent e)) ≤ 32
+    by : (right empty : Bool)
+        → length (if not right then 0 ∷ [] else (if empty then [] else covered_mac s sent e)) ≤ 32
     by false empty = omega arith
     by true true = omega arith
     by true false = omega (arith, mac_size s sent e, at_most s.hash)
@@ -66,7 +68,8 @@ differs xs ys apart = by (bytes_eq xs ys) (bytes_eq-Decides xs ys).0
 
 -- one byte is not the right HMAC
 unmatched : (key mac : List ℕ) → 2 ≤ length mac → matches key (0 ∷ []) mac ≡ false
-unmatched key mac long = ap (λ (b : Bool). length key == 0 && false || b) (differs (0 ∷ []) mac apart) ∙ by (length key == 0)
+unmatched key mac long = ap (λ (b : Bool). length key == 0 && false || b)
+    (differs (0 ∷ []) mac apart) ∙ by (length key == 0)
   where
     apart : 0 ∷ [] ≡ mac → ⊥
     apart same = let one : 1 ≡ length mac = ap length same in omega (arith, one, long)
@@ -76,7 +79,8 @@ unmatched key mac long = ap (λ (b : Bool). length key == 0 && false || b) (diff
     by false = refl
 
 matched : (key mac : List ℕ) → matches key mac mac ≡ true
-matched key mac = ap (λ (b : Bool). length key == 0 && length mac == 0 || b) ((bytes_eq-Decides mac mac).1 refl) ∙ by (length key == 0 && length mac == 0)
+matched key mac = ap (λ (b : Bool). length key == 0 && length mac == 0 || b)
+    ((bytes_eq-Decides mac mac).1 refl) ∙ by (length key == 0 && length mac == 0)
   where
     by : (b : Bool) → (b || true) ≡ true
     by true = refl
@@ -86,20 +90,26 @@ matched key mac = ap (λ (b : Bool). length key == 0 && length mac == 0 || b) ((
 no_key : (key mac : List ℕ) → 2 ≤ length mac → matches key [] mac ≡ true → key ≡ []
 no_key [] mac long is = refl
 no_key (byte ∷ key) mac long is =
-    let some : (length (byte ∷ key) == 0) ≡ false = ne_eqb (length (byte ∷ key)) 0 (λ none. omega arith) in
-    let same : [] ≡ mac = (bytes_eq-Decides [] mac).0 (subst (λ (b : Bool). (b && true || bytes_eq [] mac) ≡ true) some is) in
+    let some : (length (byte ∷ key) == 0) ≡ false =
+    ne_eqb (length (byte ∷ key)) 0 (λ none. omega arith) in
+    let same : [] ≡ mac =
+    (bytes_eq-Decides [] mac).0
+    (subst (λ (b : Bool). (b && true || bytes_eq [] mac) ≡ true) some is) in
     let none : 0 ≡ length mac = ap length same in
     absurd (omega (arith, none, long))
 
-carried : (key other hmac mac sent : List ℕ) → (key ≡ [] → other ≡ []) → 2 ≤ length mac → 2 ≤ length sent
-    → matches other (chosen (matches key hmac mac) (length hmac == 0) sent) sent ≡ matches key hmac mac
+carried : (key other hmac mac sent : List ℕ) → (key ≡ [] → other ≡ []) → 2 ≤ length mac
+    → 2 ≤ length sent
+    → matches other (chosen (matches key hmac mac) (length hmac == 0) sent) sent
+    ≡ matches key hmac mac
 carried key other [] mac sent kept long sent_long = by (matches key [] mac) refl
   where
     by : (b : Bool) → matches key [] mac ≡ b → matches other (chosen b true sent) sent ≡ b
     by true is = ap (λ (k : List ℕ). matches k [] sent) (kept (no_key key mac long is))
     by false is = unmatched other sent sent_long
 carried key other (byte ∷ hmac) mac sent kept long sent_long =
-    ap (λ (empty : Bool). matches other (chosen (matches key (byte ∷ hmac) mac) empty sent) sent) (ne_eqb (length (byte ∷ hmac)) 0 (λ none. omega arith))
+    ap (λ (empty : Bool). matches other (chosen (matches key (byte ∷ hmac) mac) empty sent) sent)
+    (ne_eqb (length (byte ∷ hmac)) 0 (λ none. omega arith))
     ∙ by (matches key (byte ∷ hmac) mac)
   where
     by : (b : Bool) → matches other (chosen b false sent) sent ≡ b
@@ -110,14 +120,16 @@ both_empty : (xs ys : List ℕ) → xs ++ ys ≡ [] → (xs ≡ []) × (ys ≡ [
 both_empty [] ys is = (refl, is)
 both_empty (x ∷ xs) ys is = absurd cc
 
-empty_key : (s : Session) (asked sent : List ℕ) → (asked ≡ [] → sent ≡ []) → entry_key s asked ≡ [] → entry_key s sent ≡ []
+empty_key : (s : Session) (asked sent : List ℕ) → (asked ≡ [] → sent ≡ []) → entry_key s asked ≡ []
+    → entry_key s sent ≡ []
 empty_key s asked sent kept is =
     let both = both_empty s.key asked is in ap (λ (key : List ℕ). key ++ sent) both.0 ∙ kept both.1
 
 pub carries_the_proof : CarriesTheProof
 unfolding is_right sent_hmac covered_mac
 carries_the_proof s asked sent e kept =
-    carried (entry_key s asked.value) (entry_key s sent.value) e.hmac (covered_mac s asked e) (covered_mac s sent e)
+    carried (entry_key s asked.value) (entry_key s sent.value) e.hmac (covered_mac s asked e)
+    (covered_mac s sent e)
     (empty_key s asked.value sent.value kept) (mac_long s asked e) (mac_long s sent e)
 
 -- ---- the device's comparison
@@ -141,5 +153,6 @@ compares_like_the_device r command grant e s only =
       encrypt_nonce = nonce_where r only_encrypts others;
       attributes = e.attributes;
     } in
-    ap (λ (others : List Entry). length (entry_key s value) == 0 && length e.hmac == 0 || bytes_eq e.hmac (command_mac_of s value (parts others)))
+    ap (λ (others : List Entry). length (entry_key s value) == 0 && length e.hmac == 0
+    || bytes_eq e.hmac (command_mac_of s value (parts others)))
     (no_others command e only)

@@ -20,7 +20,7 @@ use Rattle.tpm_step.specs.step.Table.{row_of}
 use Rattle.tpm_step.specs.declared.refused_command.RefusedCommand.{RefusedCommand}
 use Rattle.tpm_step.specs.rows.Acceptance.{IsAcceptance, LeavesEffect}
 use Rattle.tpm_step.specs.rows.Footprint.{KeepsSecrets, Touches}
-use Rattle.tpm_completion.specs.Completed.{completed, done_after, loaded_after, passed, sending_after}
+use Rattle.tpm_completion.specs.Completed.{completed_effect, device_effect, done_after, loaded_after, sending_after}
 use Rattle.tpm_completion.specs.Completion.{forgotten}
 use Rattle.tpm_completion.specs.Execution.{Seen, asked_after, opened_after, sent_after, sent_event}
 use Rattle.tpm_completion.specs.Loaded.{SequenceStaysValid, StaysValid}
@@ -32,9 +32,9 @@ use Rattle.tpm_context.specs.declared.binding.Binding.{Binding}
 use Rattle.tpm_context.specs.declared.fault.ContextFault.{ContextFault}
 use Rattle.tpm_object.specs.declared.object.Object.{Object}
 use Rattle.tpm_record.specs.Objects.{next_handle}
-use Rattle.tpm_record.specs.Tick.{ticked}
+use Rattle.tpm_record.specs.Tick.{after_tick}
 use Rattle.tpm_step.specs.step.Events.{Given, PlainEvent}
-use Rattle.tpm_step.specs.step.Step.{Accepted, accepted, step, stepped_of, success_step}
+use Rattle.tpm_step.specs.step.Step.{Accepted, acceptance_in, step, stepped_of, success_step}
 use Rattle.tpm_completion_laws.proofs.SentCodes.{HasCode, accepted_code, sent_code}
 use Rattle.tpm_completion_laws.proofs.Starts.{placed_starts, reply_starts, sent_starts}
 use Rattle.tpm_completion_laws.specs.Objects.{StaysValidThrough}
@@ -54,7 +54,8 @@ then_keeps a b c first second = record {
 }
 
 -- if the hierarchies and both counts are equal, the proofs and the counts are unchanged
-same_keeps : (old new : Fixed) → new.hierarchies ≡ old.hierarchies → new.reset_count ≡ old.reset_count → new.restart_count ≡ old.restart_count → Keeps old new
+same_keeps : (old new : Fixed) → new.hierarchies ≡ old.hierarchies
+    → new.reset_count ≡ old.reset_count → new.restart_count ≡ old.restart_count → Keeps old new
 same_keeps old new same reset restart = record {
   secrets = λ h. ap (λ (x : Hierarchies). secrets_of x h) same;
   reset_count = reset;
@@ -79,29 +80,34 @@ by_record old new other is keeps = subst (λ (r : Record). Keeps old.fixed r.fix
 nothing_changed : (f : Fixed) → Keeps f f
 nothing_changed f = same_keeps f f refl refl refl
 
-touched_keeps : (p : Part) (old new : Record) → keeps_counts p ≡ true → Touches p old new → Equal old new
+touched_keeps : (p : Part) (old new : Record) → keeps_counts p ≡ true → Touches p old new
+    → Equal old new
 unfolding keeps_counts
 touched_keeps part.Nothing old new holds is = by_record old new _ is (nothing_changed old.fixed)
 touched_keeps part.Sessions old new holds is = by_record old new _ is (nothing_changed old.fixed)
 touched_keeps part.Objects old new holds is = by_record old new _ is (nothing_changed old.fixed)
-touched_keeps part.SessionsAndObjects old new holds is = by_record old new _ is (nothing_changed old.fixed)
+touched_keeps part.SessionsAndObjects old new holds is =
+    by_record old new _ is (nothing_changed old.fixed)
 touched_keeps part.Persistent old new holds is = by_record old new _ is (nothing_changed old.fixed)
 touched_keeps part.NvData old new holds is = by_record old new _ is (nothing_changed old.fixed)
 touched_keeps part.NvCounter old new holds is = by_record old new _ is (nothing_changed old.fixed)
 touched_keeps part.NvAuthValue old new holds is = by_record old new _ is (nothing_changed old.fixed)
 touched_keeps part.NvDefined old new holds is = by_record old new _ is (nothing_changed old.fixed)
 touched_keeps part.NvUndefined old new holds is = by_record old new _ is (nothing_changed old.fixed)
-touched_keeps part.AuthValues old new holds (is, secrets) = by_record old new _ is (record { secrets = secrets; reset_count = refl; restart_count = refl })
+touched_keeps part.AuthValues old new holds (is, secrets) =
+    by_record old new _ is (record { secrets = secrets; reset_count = refl; restart_count = refl })
 touched_keeps part.Lockout old new holds is = by_record old new _ is (same_keeps _ _ refl refl refl)
 touched_keeps part.Banks old new holds is = by_record old new _ is (same_keeps _ _ refl refl refl)
 touched_keeps part.Saved old new holds is = by_record old new _ is (same_keeps _ _ refl refl refl)
-touched_keeps part.DisableClear old new holds is = by_record old new _ is (same_keeps _ _ refl refl refl)
+touched_keeps part.DisableClear old new holds is =
+    by_record old new _ is (same_keeps _ _ refl refl refl)
 touched_keeps part.Beginning old new holds is = absurd (false≢true holds)
 touched_keeps part.Cleared old new holds is = absurd (false≢true holds)
 
 -- ---- commands
 
-part_keeps : (c : CommandCode) → code_number c ≢ code_number command.Startup → code_number c ≢ code_number command.Clear → keeps_counts (part_of c) ≡ true
+part_keeps : (c : CommandCode) → code_number c ≢ code_number command.Startup
+    → code_number c ≢ code_number command.Clear → keeps_counts (part_of c) ≡ true
 unfolding keeps_counts
 part_keeps command.Startup no_startup no_clear = absurd (no_startup refl)
 part_keeps command.Clear no_startup no_clear = absurd (no_clear refl)
@@ -110,13 +116,17 @@ part_keeps _ no_startup no_clear = refl
 left_keeps : (old new : Record) → LeavesEffect old new → Equal old new
 left_keeps old new is = by_record old new _ is (same_keeps _ _ refl refl refl)
 
-row_keeps : (t : Record) (a : Accepted) → row_of t a.command.code a.request ≡ Ok a.success → keeps_counts (part_of a.command.code) ≡ true → Equal t a.success.after
+row_keeps : (t : Record) (a : Accepted) → row_of t a.command.code a.request ≡ Ok a.success
+    → keeps_counts (part_of a.command.code) ≡ true → Equal t a.success.after
 row_keeps t a row keeps =
     touched_keeps (part_of a.command.code) t a.success.after keeps
-    (subst (λ (x : Result Success _). IfOk x (λ s. Touches (part_of a.command.code) t s.after)) row (row_touches t a.command.code a.request))
+    (subst (λ (x : Result Success _). IfOk x (λ s. Touches (part_of a.command.code) t s.after)) row
+    (row_touches t a.command.code a.request))
 
-stepped_keeps : (t : Record) (locality : ℕ) (random : List ℕ) (x : Result Accepted RefusedCommand) → IfOk x (IsAcceptance t locality random)
-    → (stepped_of t random x).row.code ≢ code_number command.Startup → (stepped_of t random x).row.code ≢ code_number command.Clear
+stepped_keeps : (t : Record) (locality : ℕ) (random : List ℕ) (x : Result Accepted RefusedCommand)
+    → IfOk x (IsAcceptance t locality random)
+    → (stepped_of t random x).row.code ≢ code_number command.Startup
+    → (stepped_of t random x).row.code ≢ code_number command.Clear
     → Equal t (stepped_of t random x).after
 stepped_keeps t locality random (Ok a) is no_startup no_clear =
     then_keeps t.fixed a.success.after.fixed (success_step a random).after.fixed
@@ -132,42 +142,62 @@ record Leaves (r : Record) (c : Completion) (seen : Seen) : Type 0 where
   fixed : Keeps r.fixed seen.step.after.fixed
   start : seen.layer.start ≡ c.start
 
-loaded_leaves : (first : Seen) (opened : Result Object ContextFault) → Leaves first.step.after first.layer (loaded_after first opened)
+loaded_leaves : (first : Seen) (opened : Result Object ContextFault)
+    → Leaves first.step.after first.layer (loaded_after first opened)
 loaded_leaves first (Ok object) = record {
   fixed = nothing_changed first.step.after.fixed;
   start = placed_starts first.layer (next_handle first.step.after.objects);
 }
-loaded_leaves first (Err fault) = record { fixed = nothing_changed first.step.after.fixed; start = refl }
+loaded_leaves first (Err fault) =
+    record { fixed = nothing_changed first.step.after.fixed; start = refl }
 
-passed_leaves : (r : Record) (c : Completion) (event : PlainEvent) → Keeps r.fixed (step r event).after.fixed → Leaves r c (passed c r event)
-unfolding passed forgotten
+passed_leaves : (r : Record) (c : Completion) (event : PlainEvent)
+    → Keeps r.fixed (step r event).after.fixed → Leaves r c (device_effect c r event)
+unfolding device_effect forgotten
 passed_leaves r c event keeps = record { fixed = keeps; start = refl }
 
 -- the command that the layer sends to the device keeps the proofs and the counts
-sent_keeps : (t : Record) (locality : ℕ) (random buffer : List ℕ) → HasCode (λ c. keeps_counts (part_of c) ≡ true) buffer → Equal t (stepped_of t random (accepted t buffer locality random)).after
+sent_keeps : (t : Record) (locality : ℕ) (random buffer : List ℕ)
+    → HasCode (λ c. keeps_counts (part_of c) ≡ true) buffer
+    → Equal t (stepped_of t random (acceptance_in t buffer locality random)).after
 sent_keeps t locality random buffer has =
-    by (accepted t buffer locality random) (accepted_is t buffer locality random) (accepted_code (λ c. keeps_counts (part_of c) ≡ true) t buffer locality random has)
+    by (acceptance_in t buffer locality random) (accepted_is t buffer locality random)
+    (accepted_code (λ c. keeps_counts (part_of c) ≡ true) t buffer locality random has)
   where
-    by : (x : Result Accepted RefusedCommand) → IfOk x (IsAcceptance t locality random) → IfOk x (λ a. keeps_counts (part_of a.command.code) ≡ true) → Equal t (stepped_of t random x).after
+    by : (x : Result Accepted RefusedCommand) → IfOk x (IsAcceptance t locality random)
+        → IfOk x (λ a. keeps_counts (part_of a.command.code) ≡ true)
+        → Equal t (stepped_of t random x).after
     by (Ok a) is keeps =
         then_keeps t.fixed a.success.after.fixed (success_step a random).after.fixed
-        (row_keeps t a is.row keeps) (left_keeps a.success.after (success_step a random).after (success_leaves a random))
+        (row_keeps t a is.row keeps)
+        (left_keeps a.success.after (success_step a random).after (success_leaves a random))
     by (Err e) is keeps = same_keeps _ _ refl refl refl
 
-sending_leaves : (first : Seen) (buffer : List ℕ) (locality : ℕ) (random : List ℕ) (sent : Option Sent) → IfSome sent (λ s. HasCode (λ c. keeps_counts (part_of c) ≡ true) s.command)
+sending_leaves : (first : Seen) (buffer : List ℕ) (locality : ℕ) (random : List ℕ)
+    (sent : Option Sent)
+    → IfSome sent (λ s. HasCode (λ c. keeps_counts (part_of c) ≡ true) s.command)
     → Leaves first.step.after first.layer (sending_after first buffer locality random sent)
 sending_leaves first buffer locality random (Some sent) has =
-    let t = ticked first.step.after 0 in
+    let t = after_tick first.step.after 0 in
     let keeps = sent_keeps t locality random sent.command has in
-    let second = passed_leaves first.step.after first.layer (sent_event sent locality random) (record { secrets = keeps.secrets; reset_count = keeps.reset_count; restart_count = keeps.restart_count }) in
-    let effect : Seen = passed first.layer first.step.after (sent_event sent locality random) in
+    let second = passed_leaves first.step.after first.layer (sent_event sent locality random)
+    (record {
+      secrets = keeps.secrets;
+      reset_count = keeps.reset_count;
+      restart_count =
+          keeps.restart_count;
+    }) in
+    let effect : Seen = device_effect first.layer first.step.after
+    (sent_event sent locality random) in
     record {
       fixed = second.fixed;
-      start = sent_starts effect.layer (effect.step.row.check == 0) sent effect.step.response ∙ second.start;
+      start = sent_starts effect.layer (effect.step.row.check == 0) sent effect.step.response
+          ∙ second.start;
     }
 sending_leaves first buffer locality random None has = record {
   fixed = nothing_changed first.step.after.fixed;
-  start = reply_starts first.step.after first.layer buffer first.step.response (first.step.row.check == 0);
+  start = reply_starts first.step.after first.layer buffer first.step.response
+      (first.step.row.check == 0);
 }
 
 hmac_keeps : keeps_counts (part_of command.Hmac) ≡ true
@@ -182,17 +212,24 @@ random_keeps : keeps_counts (part_of command.GetRandom) ≡ true
 unfolding keeps_counts
 random_keeps = refl
 
-done_leaves : (first : Seen) (buffer : List ℕ) (locality : ℕ) (random : List ℕ) (asked : Option (List ℕ)) → Leaves first.step.after first.layer (done_after first buffer locality random asked)
-done_leaves first buffer locality random (Some context) = loaded_leaves first (opened_after first context)
+done_leaves : (first : Seen) (buffer : List ℕ) (locality : ℕ) (random : List ℕ)
+    (asked : Option (List ℕ))
+    → Leaves first.step.after first.layer (done_after first buffer locality random asked)
+done_leaves first buffer locality random (Some context) =
+    loaded_leaves first (opened_after first context)
 done_leaves first buffer locality random None =
     sending_leaves first buffer locality random (sent_after first buffer)
-    (sent_code (λ c. keeps_counts (part_of c) ≡ true) hmac_keeps extend_keeps random_keeps first.step.after first.layer buffer first.step.response)
+    (sent_code (λ c. keeps_counts (part_of c) ≡ true) hmac_keeps extend_keeps random_keeps
+    first.step.after first.layer buffer first.step.response)
 
-completed_leaves : (completes : Bool) (r : Record) (c : Completion) (buffer : List ℕ) (locality elapsed : ℕ) (random : List ℕ)
-    → Keeps r.fixed (step r (Given buffer locality elapsed random)).after.fixed → Leaves r c (completed completes c r (Given buffer locality elapsed random))
-completed_leaves false r c buffer locality elapsed random keeps = passed_leaves r c (Given buffer locality elapsed random) keeps
+completed_leaves : (completes : Bool) (r : Record) (c : Completion) (buffer : List ℕ)
+    (locality elapsed : ℕ) (random : List ℕ)
+    → Keeps r.fixed (step r (Given buffer locality elapsed random)).after.fixed
+    → Leaves r c (completed_effect completes c r (Given buffer locality elapsed random))
+completed_leaves false r c buffer locality elapsed random keeps =
+    passed_leaves r c (Given buffer locality elapsed random) keeps
 completed_leaves true r c buffer locality elapsed random keeps =
-    let first = passed c r (Given buffer locality elapsed random) in
+    let first = device_effect c r (Given buffer locality elapsed random) in
     let one = passed_leaves r c (Given buffer locality elapsed random) keeps in
     let two = done_leaves first buffer locality random (asked_after first buffer) in
     record {
@@ -200,34 +237,47 @@ completed_leaves true r c buffer locality elapsed random keeps =
       start = two.start ∙ one.start;
     }
 
-same_binding : (r later : Record) (c d : Completion) → d.start ≡ c.start → later.fixed.reset_count ≡ r.fixed.reset_count → later.fixed.restart_count ≡ r.fixed.restart_count → binding_of later d ≡ binding_of r c
+same_binding : (r later : Record) (c d : Completion) → d.start ≡ c.start
+    → later.fixed.reset_count ≡ r.fixed.reset_count
+    → later.fixed.restart_count ≡ r.fixed.restart_count → binding_of later d ≡ binding_of r c
 same_binding r later c d start reset restart = rw (start, reset, restart) refl
 
-left_valid : (r : Record) (c : Completion) (object : Object) (seen : Seen) → Leaves r c seen → StaysValid r seen.step.after c seen.layer object
+left_valid : (r : Record) (c : Completion) (object : Object) (seen : Seen) → Leaves r c seen
+    → StaysValid r seen.step.after c seen.layer object
 left_valid r c object seen leaves = record {
   proof = ap (λ (s : Secrets). s.proof) (leaves.fixed.secrets object.hierarchy);
   start = leaves.start;
   reset_count = leaves.fixed.reset_count;
   restart_count = ap (λ (b : Binding). restart_of b object)
-      (same_binding r seen.step.after c seen.layer leaves.start leaves.fixed.reset_count leaves.fixed.restart_count);
+      (same_binding r seen.step.after c seen.layer leaves.start leaves.fixed.reset_count
+      leaves.fixed.restart_count);
 }
 
 -- every command except TPM2_Startup and TPM2_Clear leaves contexts valid
-leaves_through : (completes : Bool) (r : Record) (c : Completion) (buffer : List ℕ) (locality elapsed : ℕ) (random : List ℕ)
-    → (step r (Given buffer locality elapsed random)).row.code ≢ code_number command.Startup → (step r (Given buffer locality elapsed random)).row.code ≢ code_number command.Clear
-    → Leaves r c (completed completes c r (Given buffer locality elapsed random))
+leaves_through : (completes : Bool) (r : Record) (c : Completion) (buffer : List ℕ)
+    (locality elapsed : ℕ) (random : List ℕ)
+    → (step r (Given buffer locality elapsed random)).row.code ≢ code_number command.Startup
+    → (step r (Given buffer locality elapsed random)).row.code ≢ code_number command.Clear
+    → Leaves r c (completed_effect completes c r (Given buffer locality elapsed random))
 leaves_through completes r c buffer locality elapsed random no_startup no_clear =
-    let t = ticked r elapsed in
-    let keeps = stepped_keeps t locality random (accepted t buffer locality random) (accepted_is t buffer locality random) no_startup no_clear in
+    let t = after_tick r elapsed in
+    let keeps = stepped_keeps t locality random (acceptance_in t buffer locality random)
+    (accepted_is t buffer locality random) no_startup no_clear in
     completed_leaves completes r c buffer locality elapsed random
-    (record { secrets = keeps.secrets; reset_count = keeps.reset_count; restart_count = keeps.restart_count })
+    (record {
+      secrets = keeps.secrets;
+      reset_count = keeps.reset_count;
+      restart_count =
+          keeps.restart_count;
+    })
 
 pub stays_valid_through : StaysValidThrough
 stays_valid_through completes r c object buffer locality elapsed random no_startup no_clear =
-    left_valid r c object (completed completes c r (Given buffer locality elapsed random))
+    left_valid r c object (completed_effect completes c r (Given buffer locality elapsed random))
     (leaves_through completes r c buffer locality elapsed random no_startup no_clear)
 
-sequence_left_valid : (r : Record) (c : Completion) (seen : Seen) → Leaves r c seen → SequenceStaysValid r seen.step.after c seen.layer
+sequence_left_valid : (r : Record) (c : Completion) (seen : Seen) → Leaves r c seen
+    → SequenceStaysValid r seen.step.after c seen.layer
 sequence_left_valid r c seen leaves = record {
   proof = ap (λ (s : Secrets). s.proof) (leaves.fixed.secrets hierarchy.Null);
   start = leaves.start;
@@ -236,5 +286,5 @@ sequence_left_valid r c seen leaves = record {
 
 pub sequences_stay_valid_through : SequencesStayValidThrough
 sequences_stay_valid_through completes r c buffer locality elapsed random no_startup no_clear =
-    sequence_left_valid r c (completed completes c r (Given buffer locality elapsed random))
+    sequence_left_valid r c (completed_effect completes c r (Given buffer locality elapsed random))
     (leaves_through completes r c buffer locality elapsed random no_startup no_clear)

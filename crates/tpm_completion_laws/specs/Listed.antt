@@ -12,7 +12,7 @@ use Rattle.tpm_completion.specs.Command.{Command}
 use Rattle.tpm_completion.specs.Listing.{element}
 use Rattle.tpm_completion.specs.PcrProperties.{pcr_property_elements}
 use Rattle.tpm_completion.specs.Properties.{active_count, command_count, object_count, property_elements, session_count}
-use Rattle.tpm_completion.specs.Reply.{served, stands}
+use Rattle.tpm_completion.specs.Reply.{served_reply, stands}
 use Rattle.tpm_completion.specs.Sending.{sent_by}
 use Rattle.tpm_completion.specs.SequenceReply.{authorized_reply, bare_reply}
 use Rattle.tpm_completion.specs.declared.completion.Completion.{Completion}
@@ -39,7 +39,7 @@ is_own code =
 -- device for it.
 pub record IsNotServed (r : Record) (c : Completion) (command : Command) (response : List ℕ) : Type 0
   where
-    pub served : served r c command response ≡ stands c response
+    pub served : served_reply r c command response ≡ stands c response
     pub bare : bare_reply c command ≡ None
     pub authorized : authorized_reply r c command ≡ None
     pub sent : sent_by r c command.code command.parameters ≡ None

@@ -11,32 +11,32 @@ use Rattle.tpm_commands.specs.declared.command_code.CommandCode.TheVariants as c
 use Rattle.tpm_record.specs.IsRecord.{IsRecord}
 use Rattle.tpm_record.specs.Objects.{next_handle, object_at}
 use Rattle.tpm_record.specs.Record.{Record}
-use Rattle.tpm_record.specs.Tick.{ticked}
-use Rattle.tpm_step.specs.step.Answer.{framed}
+use Rattle.tpm_record.specs.Tick.{after_tick}
+use Rattle.tpm_step.specs.step.Answer.{framed_message}
 use Rattle.tpm_step.specs.step.Events.{Given}
-use Rattle.tpm_step.specs.step.Placing.{placed}
+use Rattle.tpm_step.specs.step.Placing.{record_with_object}
 use Rattle.tpm_step.specs.step.Step.{step}
 use Rattle.tpm_completion.specs.Answer.{refusal, success}
-use Rattle.tpm_completion.specs.Completed.{completed}
+use Rattle.tpm_completion.specs.Completed.{completed_effect}
 use Rattle.tpm_completion.specs.Completion.{forgotten}
 use Rattle.tpm_completion.specs.Execution.{Seen}
 use Rattle.tpm_completion.specs.Loaded.{StaysValid, saved_context}
-use Rattle.tpm_completion.specs.Saving.{counted}
+use Rattle.tpm_completion.specs.Saving.{layer_with_count}
 use Rattle.tpm_completion.specs.declared.completion.Completion.{Completion}
 
 -- the buffer of a TPM2_ContextSave (162) of a handle, without sessions
 abbrev pub save_buffer : Handle → List ℕ
-save_buffer handle = framed 0x8001 0x162 (to_be_bytes w32 handle.number)
+save_buffer handle = framed_message 0x8001 0x162 (to_be_bytes w32 handle.number)
 
 -- the buffer of a TPM2_ContextLoad (161) of a context, without sessions
 abbrev pub load_buffer : (context : List ℕ) → List ℕ
-load_buffer context = framed 0x8001 0x161 context
+load_buffer context = framed_message 0x8001 0x161 context
 
 -- the effect of a command on a device with the layer, if no allocation fails
 abbrev pub effect_of : Completion → Record → (buffer : List ℕ) → (locality elapsed : ℕ) → List ℕ
     → Seen
 effect_of c r buffer locality elapsed random =
-    completed true c r (Given buffer locality elapsed random)
+    completed_effect true c r (Given buffer locality elapsed random)
 
 -- ---- saving
 
@@ -45,7 +45,7 @@ effect_of c r buffer locality elapsed random =
 pub record IsSaved (r : Record) (c : Completion) (object : Object) (seen : Seen) : Type 0 where
   pub response : seen.step.response ≡ success (saved_context r c (c.count + 1) object)
   pub device : seen.step.after ≡ r
-  pub layer : seen.layer ≡ counted c (c.count + 1)
+  pub layer : seen.layer ≡ layer_with_count c (c.count + 1)
 
 -- TPM2_ContextSave of a loaded object returns its context, which has the layer's next number. Only
 -- the device's time changes.
@@ -55,7 +55,7 @@ SavesObjects =
     (random : List ℕ)
     → r.fixed.started ≡ true → handle.number < 2 ^ 32 → is_transient handle ≡ true
     → c.count < 2 ^ 64 - 1 → object_at r.objects handle ≡ Some object
-    → IsSaved (ticked r elapsed) (forgotten (ticked r elapsed) c) object
+    → IsSaved (after_tick r elapsed) (forgotten (after_tick r elapsed) c) object
     (effect_of c r (save_buffer handle) locality elapsed random)
 
 -- ---- loading
@@ -66,7 +66,7 @@ pub record IsPlaced (r : Record) (object : Object) (handle : Handle) (seen : See
   pub response : seen.step.response ≡ success (to_be_bytes w32 handle.number)
   pub free : object_at r.objects handle ≡ None
   pub found : object_at seen.step.after.objects handle ≡ Some object
-  pub device : seen.step.after ≡ placed r object
+  pub device : seen.step.after ≡ record_with_object r object
 
 -- No slot was free: the response is OBJECT_MEMORY (902), and the device is unchanged.
 pub record IsFull (r : Record) (seen : Seen) : Type 0 where
@@ -86,7 +86,7 @@ LoadsObjects =
     (random : List ℕ)
     → number < 2 ^ 64 → IsObject object → IsRecord later → later.fixed.started ≡ true
     → StaysValid r later c d object
-    → IsLoaded (ticked later elapsed) object (next_handle later.objects)
+    → IsLoaded (after_tick later elapsed) object (next_handle later.objects)
     (effect_of d later (load_buffer (saved_context r c number object)) locality elapsed random)
 
 -- ---- what ends the validity of a context
@@ -99,5 +99,5 @@ StaysValidThrough =
     (locality elapsed : ℕ) (random : List ℕ)
     → (step r (Given buffer locality elapsed random)).row.code ≢ code_number command.Startup
     → (step r (Given buffer locality elapsed random)).row.code ≢ code_number command.Clear
-    → let seen : Seen = completed completes c r (Given buffer locality elapsed random) in
+    → let seen : Seen = completed_effect completes c r (Given buffer locality elapsed random) in
     StaysValid r seen.step.after c seen.layer object

@@ -8,7 +8,7 @@ use Rattle.tpm_bytes.specs.Reading.{AreBytes}
 use Rattle.tpm_bytes.specs.Writing.{sized_text}
 use Rattle.tpm_mac.specs.Hmac.{hmac_of}
 use Rattle.tpm_mac.specs.declared.algorithm.HashAlg.{HashAlg}
-use Rattle.tpm_sequence.specs.Meaning.{joined}
+use Rattle.tpm_sequence.specs.Meaning.{joined_parts}
 use Rattle.tpm_sequence.specs.Sequence.{sequence_digests, updates}
 use Rattle.tpm_sequence.specs.Sequence.{object_of as sequence_object}
 use Rattle.tpm_sequence.specs.declared.object.SequenceObject.{SequenceObject}
@@ -20,10 +20,10 @@ use Rattle.tpm_commands.specs.CommandCode.{code_number}
 use Rattle.tpm_commands.specs.declared.command_code.CommandCode.TheVariants as command
 use Rattle.tpm_record.specs.Objects.{object_at}
 use Rattle.tpm_record.specs.Record.{Record}
-use Rattle.tpm_record.specs.Tick.{ticked}
+use Rattle.tpm_record.specs.Tick.{after_tick}
 use Rattle.tpm_record.specs.rows.Answer.{Sized, answer_of}
 use Rattle.tpm_record.specs.rows.Request.{Request}
-use Rattle.tpm_record.specs.rows.Rows.{unchanged}
+use Rattle.tpm_record.specs.rows.Rows.{unchanged_success}
 use Rattle.tpm_auth.specs.Entries.{is_password}
 use Rattle.tpm_actions_object.specs.Hmac.{hmac_row}
 use Rattle.tpm_context.specs.Meaning.{IsEncodable}
@@ -31,11 +31,11 @@ use Rattle.tpm_step.specs.step.Entries.{password_answer}
 use Rattle.tpm_step.specs.step.Events.{Given}
 use Rattle.tpm_step.specs.step.Step.{Stepped, step}
 use Rattle.tpm_completion.specs.Answer.{refusal, success}
-use Rattle.tpm_completion.specs.Completed.{completed}
+use Rattle.tpm_completion.specs.Completed.{completed_effect}
 use Rattle.tpm_completion.specs.Completion.{forgotten}
 use Rattle.tpm_completion.specs.Execution.{Seen, sent_event}
 use Rattle.tpm_completion.specs.Loaded.{SequenceStaysValid, saved_sequence}
-use Rattle.tpm_completion.specs.Saving.{counted}
+use Rattle.tpm_completion.specs.Saving.{layer_with_count}
 use Rattle.tpm_completion.specs.Sending.{HmacStart, hmac_start_in, start_sent}
 use Rattle.tpm_completion.specs.SequenceRows.{authorized_success, slot_text}
 use Rattle.tpm_completion.specs.Sequences.{free_slot, in_slot, sequence_handle, sequence_limit, sequence_of, slot_of, with_sequence}
@@ -71,7 +71,7 @@ pub record IsSequenceSaved (r : Record) (c : Completion) (handle : Handle) (obje
   where
     pub response : seen.step.response ≡ success (saved_sequence r c (c.count + 1) object)
     pub device : seen.step.after ≡ r
-    pub layer : seen.layer ≡ counted c (c.count + 1)
+    pub layer : seen.layer ≡ layer_with_count c (c.count + 1)
     pub stays : sequence_of seen.layer handle ≡ Some object
 
 -- TPM2_ContextSave of a sequence object returns its context, which has the layer's next number. On
@@ -82,7 +82,7 @@ SavesSequences =
     (locality elapsed : ℕ) (random : List ℕ)
     → r.fixed.started ≡ true → handle.number < 2 ^ 32 → c.count < 2 ^ 64 - 1
     → object_at r.objects handle ≡ None → sequence_of c handle ≡ Some object
-    → IsSequenceSaved (ticked r elapsed) (forgotten (ticked r elapsed) c) handle object
+    → IsSequenceSaved (after_tick r elapsed) (forgotten (after_tick r elapsed) c) handle object
     (effect_of c r (save_buffer handle) locality elapsed random)
 
 -- ---- loading
@@ -118,7 +118,7 @@ LoadsSequences =
     (locality elapsed : ℕ) (random : List ℕ)
     → number < 2 ^ 64 → IsEncodable object → length d.sequences ≡ sequence_limit
     → later.fixed.started ≡ true → SequenceStaysValid r later c d
-    → IsSequenceLoaded (ticked later elapsed) (forgotten (ticked later elapsed) d) object
+    → IsSequenceLoaded (after_tick later elapsed) (forgotten (after_tick later elapsed) d) object
     (free_slot d)
     (effect_of d later (load_buffer (saved_sequence r c number object)) locality elapsed random)
 
@@ -133,7 +133,7 @@ SequencesStayValidThrough =
     (random : List ℕ)
     → (step r (Given buffer locality elapsed random)).row.code ≢ code_number command.Startup
     → (step r (Given buffer locality elapsed random)).row.code ≢ code_number command.Clear
-    → let seen : Seen = completed completes c r (Given buffer locality elapsed random) in
+    → let seen : Seen = completed_effect completes c r (Given buffer locality elapsed random) in
     SequenceStaysValid r seen.step.after c seen.layer
 
 -- ---- TPM2_HMAC_Start
@@ -165,11 +165,11 @@ pub record StartsLikeTheDevice (r : Record) (start : HmacStart) (planned : Optio
     pub area : List ℕ
     pub work : planned ≡ Some (Starts start.slot (sequence_object start.auth sequence))
     pub digest : (parts : List (List ℕ))
-        → sequence_digests (updates sequence parts) ≡ hmac_of hash key (joined parts) ∷ []
+        → sequence_digests (updates sequence parts) ≡ hmac_of hash key (joined_parts parts) ∷ []
     pub answer : (locality : ℕ) (random message : List ℕ)
         → length message ≤ data_limit
         → hmac_row r (hmac_request start locality random message)
-        ≡ Ok (unchanged r (answer_of (Sized (hmac_of hash key message))))
+        ≡ Ok (unchanged_success r (answer_of (Sized (hmac_of hash key message))))
     pub response : text ≡ authorized_success [] (sized_text (hmac_of hash key [])) area
     pub password : is_password start.entry ≡ true → area ≡ password_answer
 
@@ -182,5 +182,5 @@ StartsWithTheKey =
     (random : List ℕ)
     → AreBytes text → hmac_start_in c text ≡ Ok start
     → (hmac_sent r start locality random).row.check ≡ 0
-    → StartsLikeTheDevice (ticked r 0) start (start_sent r start).work
+    → StartsLikeTheDevice (after_tick r 0) start (start_sent r start).work
     (hmac_sent r start locality random).response

@@ -8,10 +8,13 @@ use Rattle.tpm_containers.proofs.NumberedLaws.{removed_gone, removed_others}
 
 module _ {X : Type 0} (kind : X → ℕ) where
   -- After a number is removed, a search for any number finds the same value as before, or nothing.
-  pub removed_or_same : (places : List (Option X)) (number other : ℕ) → (at_number kind (without_number kind places number) other ≡ at_number kind places other) ⊎ (at_number kind (without_number kind places number) other ≡ None)
+  pub removed_or_same : (places : List (Option X)) (number other : ℕ)
+      → (at_number kind (without_number kind places number) other ≡ at_number kind places other)
+      ⊎ (at_number kind (without_number kind places number) other ≡ None)
   removed_or_same places number other =
       elim (cases_eq other number) [
-        | inl here ↦ inr (ap (at_number kind (without_number kind places number)) here ∙ removed_gone kind places number)
+        | inl here ↦ inr (ap (at_number kind (without_number kind places number)) here
+            ∙ removed_gone kind places number)
         | inr apart ↦ inl (removed_others kind places number other apart)
       ]
 
@@ -23,4 +26,5 @@ module _ {X : Type 0} (kind : X → ℕ) where
 
   pub free_found : (count number : ℕ) → at_number kind (free count) number ≡ None
   unfolding at_number
-  free_found count number = ap (option_and_then (if_of_kind kind number)) (free_place count (place_of number))
+  free_found count number =
+      ap (option_and_then (if_of_kind kind number)) (free_place count (place_of number))

@@ -94,10 +94,9 @@ impl<T: Drop, E: Items<N, Item = (u32, T)>, const N: usize> SortedMap<T, N> for 
             return Err(KeyFault::Full);
         }
         let index = index_for(self.entries.as_slice(), key);
-        match self.entries.insert(index, (key, value)) {
-            Ok(()) => Ok(()),
-            Err(_) => Err(KeyFault::NoMemory),
-        }
+        self.entries
+            .insert(index, (key, value))
+            .map_err(|_| KeyFault::NoMemory)
     }
 
     #[tactic(auto, using(crate::proofs::SortedMapLaws::removed_ascends, crate::proofs::SortedMapLaws::removed_few))]

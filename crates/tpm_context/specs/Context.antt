@@ -13,7 +13,7 @@ use Rattle.tpm_record.specs.Hierarchy.{secrets_of}
 use Rattle.tpm_record.specs.declared.hierarchy.Hierarchies.{Hierarchies}
 use Rattle.tpm_types.specs.declared.handle.HierarchyHandle.{HierarchyHandle}
 use Rattle.tpm_context.specs.Head.{head_at, head_of, head_text, is_of}
-use Rattle.tpm_context.specs.Protection.{decrypted, encrypted, integrity_of}
+use Rattle.tpm_context.specs.Protection.{ciphertext_of, integrity_of, plaintext_of}
 use Rattle.tpm_context.specs.declared.binding.Binding.{Binding}
 use Rattle.tpm_context.specs.declared.fault.ContextFault.{ContextFault}
 use Rattle.tpm_context.specs.declared.fault.ContextFault.TheVariants as fault
@@ -45,7 +45,7 @@ sealed_text proof b head cipher =
 -- area, as in an image
 abbrev pub object_cipher : Hierarchies → (start sequence : ℕ) → Object → List ℕ
 object_cipher h start sequence object =
-    encrypted (proof_of h object.hierarchy) start (head_of sequence object)
+    ciphertext_of (proof_of h object.hierarchy) start (head_of sequence object)
     (object_fields_text object)
 
 -- the context of an object, with this sequence number
@@ -98,7 +98,7 @@ unfoldable pub plain_in : (proof : List ℕ)
 plain_in proof b head integrity cipher = do
   right ← refused_if (not (bytes_eq integrity (integrity_of proof b head cipher)))
       fault.Integrity
-  Ok (decrypted proof b.start head cipher)
+  Ok (plaintext_of proof b.start head cipher)
 
 -- the head and the plaintext of a context. The faults, in the order of the checks, are: those of
 -- the head, which is read field by field; those of the contextBlob; bytes after the contextBlob; an
@@ -114,8 +114,8 @@ content_in h b bytes = do
 
 -- the object of a context; after the faults of `content_in`, the fault is INTEGRITY if the
 -- plaintext does not encode an object that matches the head
-unfoldable pub opened : Hierarchies → Binding → List ℕ → Result Object ContextFault
-opened h b bytes = do
+unfoldable pub object_in_context : Hierarchies → Binding → List ℕ → Result Object ContextFault
+object_in_context h b bytes = do
   content ← content_in h b bytes
   object_in content.0 content.1
 

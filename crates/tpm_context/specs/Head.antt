@@ -5,7 +5,7 @@ use Rattle.std.specs.Prelude.{List, ◌++◌, ok_or, Option, Some, None, Result,
 use Rattle.std.specs.Int.{w32, w64, to_be_bytes}
 use Rattle.tpm_bytes.specs.Reading.{◌>>=◌, number_at, or_fault}
 use Rattle.tpm_object.specs.declared.object.Object.{Object}
-use Rattle.tpm_types.specs.Handle.{hierarchy_handle, hierarchy_of, numbered}
+use Rattle.tpm_types.specs.Handle.{hierarchy_handle, hierarchy_of, numbered_handle}
 use Rattle.tpm_types.specs.Rc.{at, plain}
 use Rattle.tpm_types.specs.declared.handle.HierarchyHandle.{HierarchyHandle}
 use Rattle.tpm_types.specs.declared.handle.HierarchyHandle.TheVariants as hierarchy
@@ -88,7 +88,7 @@ saved_at text = do
 unfoldable pub hierarchy_at : List ℕ → Result (HierarchyHandle × List ℕ) ContextFault
 hierarchy_at text = do
   number ← or_fault (number_at w32 text) fault.Truncated
-  one ← ok_or (hierarchy_of (numbered number.0)) fault.Hierarchy
+  one ← ok_or (hierarchy_of (numbered_handle number.0)) fault.Hierarchy
   Ok (one, number.1)
 
 -- reads a head

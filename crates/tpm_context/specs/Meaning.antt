@@ -9,7 +9,7 @@ use Rattle.tpm_object.specs.declared.object.Object.{Object}
 use Rattle.tpm_record.specs.declared.hierarchy.Hierarchies.{Hierarchies}
 use Rattle.tpm_sequence.specs.declared.object.SequenceObject.{SequenceObject}
 use Rattle.tpm_sequence_text.specs.Slot.{IsSequenceObject, slot_text}
-use Rattle.tpm_context.specs.Context.{context_text, object_cipher, opened, proof_of}
+use Rattle.tpm_context.specs.Context.{context_text, object_cipher, object_in_context, proof_of}
 use Rattle.tpm_context.specs.Head.{head_of, saved_of, sequence_head}
 use Rattle.tpm_context.specs.Protection.{protected_text, restart_bound}
 use Rattle.tpm_context.specs.Sequences.{null_proof, opened_sequence, sequence_cipher, sequence_context_text}
@@ -96,7 +96,8 @@ pub record Collides (key text other_key other_text : List ℕ) : Type 0 where
 -- Opening a context returns the object from which it was made.
 abbrev pub OpensAgain : Type 0
 OpensAgain =
-    (c : Making) → IsMaking c → opened c.hierarchies c.binding (context_of c) ≡ Ok c.object
+    (c : Making) → IsMaking c → object_in_context c.hierarchies c.binding (context_of c)
+    ≡ Ok c.object
 
 -- Unless the HMAC has a collision, two contexts with the same integrity value have the same object,
 -- sequence number, proof, start number and counts (`AreSame`).
@@ -125,7 +126,7 @@ CollidesFor h b c =
 abbrev pub OpensOnlyAsMade : Type 0
 OpensOnlyAsMade =
     (c : Making) (h : Hierarchies) (b : Binding) (object : Object)
-    → IsMaking c → IsBinding b → opened h b (context_of c) ≡ Ok object
+    → IsMaking c → IsBinding b → object_in_context h b (context_of c) ≡ Ok object
     → AreSame c (made_with h b object c) ⊎ CollidesFor h b c
 
 -- A context that was made with another start number or another count of TPM Resets opens only if
@@ -135,7 +136,7 @@ RefusesAnotherBinding =
     (c : Making) (h : Hierarchies) (b : Binding) (object : Object)
     → IsMaking c → IsBinding b
     → ((c.binding.start ≡ b.start) × (c.binding.reset_count ≡ b.reset_count) → ⊥)
-    → opened h b (context_of c) ≡ Ok object → CollidesFor h b c
+    → object_in_context h b (context_of c) ≡ Ok object → CollidesFor h b c
 
 -- ---- the laws of sequence objects
 

@@ -39,14 +39,14 @@ abbrev pub cipher_iv : List ℕ → List ℕ
 cipher_iv bytes = drop 16 bytes
 
 -- a plaintext, encrypted for a context
-abbrev pub encrypted : (proof : List ℕ) → (start : ℕ) → ContextHead → (plain : List ℕ) → List ℕ
-encrypted proof start head plain =
+abbrev pub ciphertext_of : (proof : List ℕ) → (start : ℕ) → ContextHead → (plain : List ℕ) → List ℕ
+ciphertext_of proof start head plain =
     let bytes : List ℕ = cipher_bytes proof start head in
     cfb_encrypt_of (cipher_key bytes) (cipher_iv bytes) plain
 
 -- a ciphertext, decrypted from a context
-abbrev pub decrypted : (proof : List ℕ) → (start : ℕ) → ContextHead → (cipher : List ℕ) → List ℕ
-decrypted proof start head cipher =
+abbrev pub plaintext_of : (proof : List ℕ) → (start : ℕ) → ContextHead → (cipher : List ℕ) → List ℕ
+plaintext_of proof start head cipher =
     let bytes : List ℕ = cipher_bytes proof start head in
     cfb_decrypt_of (cipher_key bytes) (cipher_iv bytes) cipher
 

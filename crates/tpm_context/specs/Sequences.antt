@@ -10,7 +10,7 @@ use Rattle.tpm_sequence_text.specs.Slot.{slot_in, slot_text}
 use Rattle.tpm_types.specs.declared.handle.HierarchyHandle.TheVariants as hierarchy
 use Rattle.tpm_context.specs.Context.{content_in, proof_of, sealed_text}
 use Rattle.tpm_context.specs.Head.{is_sequence_head, sequence_head}
-use Rattle.tpm_context.specs.Protection.{encrypted}
+use Rattle.tpm_context.specs.Protection.{ciphertext_of}
 use Rattle.tpm_context.specs.declared.binding.Binding.{Binding}
 use Rattle.tpm_context.specs.declared.fault.ContextFault.{ContextFault}
 use Rattle.tpm_context.specs.declared.fault.ContextFault.TheVariants as fault
@@ -23,7 +23,7 @@ null_proof h = proof_of h hierarchy.Null
 -- the encrypted sequence object of a context: a slot with this object, as in a state text
 abbrev pub sequence_cipher : Hierarchies → (start number : ℕ) → SequenceObject → List ℕ
 sequence_cipher h start number object =
-    encrypted (null_proof h) start (sequence_head number) (slot_text (Some object))
+    ciphertext_of (null_proof h) start (sequence_head number) (slot_text (Some object))
 
 -- the context of a sequence object, with this sequence number
 unfoldable pub sequence_context_text : Hierarchies → Binding → (number : ℕ) → SequenceObject

@@ -5,7 +5,7 @@ ghost use Rattle.tpm_context.specs.Head.{fault_code, fault_rc};
 
 use tpm_types::{Rc, ResponseCode};
 
-/// Why the context of an object is not loaded. The definition of `opened` says in which order the
+/// Why the context of an object is not loaded. `object_in_context` defines in which order the
 /// faults are checked.
 #[derive(Clone, Copy, PartialEq, Eq)]
 pub enum ContextFault {

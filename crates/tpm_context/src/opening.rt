@@ -2,7 +2,7 @@
 
 ghost use Rattle.std.specs.Prelude.{◌≡◌, ◌≤◌, ◌+◌, [], IfOk, length};
 ghost use Rattle.tpm_bytes.specs.Reading.{AreBytes, Gives};
-ghost use Rattle.tpm_context.specs.Context.{Decrypts, DecryptsContent, blob_in, blob_size, content_in, object_in, opened, parts_in, plain_in};
+ghost use Rattle.tpm_context.specs.Context.{Decrypts, DecryptsContent, blob_in, blob_size, content_in, object_in, object_in_context, parts_in, plain_in};
 ghost use Rattle.tpm_context.specs.Meaning.{IsContext, IsSequenceContext};
 ghost use Rattle.tpm_context.specs.Sequences.{opened_sequence, sequence_in};
 
@@ -142,13 +142,13 @@ fn decrypt_content(
 
 /// Returns the object of a context, if the context was made with these hierarchies and this
 /// binding.
-#[tactic(auto, unfolding(crate::specs::Context::opened))]
+#[tactic(auto, unfolding(crate::specs::Context::object_in_context))]
 pub fn open(
     hierarchies: &Hierarchies,
     binding: Binding,
     bytes: &[u8],
 ) -> Result<Object, ContextFault>
-    ensures value { result ≡ opened hierarchies.now binding bytes.now }
+    ensures value { result ≡ object_in_context hierarchies.now binding bytes.now }
     // If the bytes open as an object, they are a context of this object, with some sequence number.
     ensures made { IfOk result (λ object. IsContext hierarchies.now binding bytes.now object) }
 {

@@ -1,7 +1,7 @@
 //! How a context is encrypted and authenticated (TPM 2.0 Library, Part 1, section 30.3).
 
 ghost use Rattle.std.specs.Prelude.{◌≡◌, ◌++◌, length};
-ghost use Rattle.tpm_context.specs.Protection.{bound_text, cipher_bytes, cipher_iv, cipher_key, context_label, context_party, decrypted, encrypted, integrity_of, protected_text, restart_bound};
+ghost use Rattle.tpm_context.specs.Protection.{bound_text, cipher_bytes, cipher_iv, cipher_key, ciphertext_of, context_label, context_party, integrity_of, plaintext_of, protected_text, restart_bound};
 
 use crate::binding::Binding;
 use crate::head::{ContextHead, SavedHandle};
@@ -65,7 +65,7 @@ fn context_cipher(proof: &[u8; 32], start: u64, head: ContextHead) -> ContextCip
 
 /// Encrypts a plaintext in place.
 pub(crate) fn encrypt(proof: &[u8; 32], start: u64, head: ContextHead, text: &mut [u8])
-    ensures { text.new ≡ encrypted proof.now start head text.old }
+    ensures { text.new ≡ ciphertext_of proof.now start head text.old }
 {
     let by = context_cipher(proof, start, head);
     by.cipher.cfb_encrypt(&by.iv, text);
@@ -73,7 +73,7 @@ pub(crate) fn encrypt(proof: &[u8; 32], start: u64, head: ContextHead, text: &mu
 
 /// Decrypts a ciphertext in place.
 pub(crate) fn decrypt(proof: &[u8; 32], start: u64, head: ContextHead, text: &mut [u8])
-    ensures { text.new ≡ decrypted proof.now start head text.old }
+    ensures { text.new ≡ plaintext_of proof.now start head text.old }
 {
     let by = context_cipher(proof, start, head);
     by.cipher.cfb_decrypt(&by.iv, text);

@@ -4,7 +4,7 @@ ghost use Rattle.std.specs.Prelude.{◌≡◌, ◌≤◌, [], length};
 ghost use Rattle.tpm_image_text.specs.Body.{object_fields_text, sensitive_of};
 ghost use Rattle.tpm_object.specs.Object.{IsObject};
 ghost use Rattle.tpm_context.specs.Context.{context_text, sealed_text};
-ghost use Rattle.tpm_context.specs.Protection.{encrypted};
+ghost use Rattle.tpm_context.specs.Protection.{ciphertext_of};
 ghost use Rattle.tpm_context.specs.Sequences.{sequence_context_text};
 
 use crate::binding::Binding;
@@ -57,7 +57,7 @@ fn write_sealed(
     context: &mut Sink<CONTEXT_SIZE>,
 )
     ensures { context.new ≡ sealed_text proof.now binding head
-        (encrypted proof.now binding.start head content.old) }
+        (ciphertext_of proof.now binding.start head content.old) }
 {
     encrypt(proof, binding.start, head, content.as_mut_slice());
     let integrity = integrity(proof, binding, head, content.as_slice());

@@ -44,7 +44,8 @@ module _ (indices : ℕ → Bool) (objects : Public → Bool) (r : Record) where
   no_key None = refl
   no_key (Some b) = refl
 
-  no_value_by : (handle : Handle) (entity : Entity) (auth : Option HierarchyAuth) → hierarchy_auth_of handle ≡ auth → entity_has_secret_value s handle entity ≡ false
+  no_value_by : (handle : Handle) (entity : Entity) (auth : Option HierarchyAuth)
+      → hierarchy_auth_of handle ≡ auth → entity_has_secret_value s handle entity ≡ false
   no_value_by handle (AnObject o) auth is = refl
   no_value_by handle (AnIndex i) auth is = refl
   no_value_by handle Permanent auth is = by (hierarchy_auth_of handle)
@@ -57,7 +58,9 @@ module _ (indices : ℕ → Bool) (objects : Public → Bool) (r : Record) where
   no_value handle = no_value_by handle (entity_at r handle) (hierarchy_auth_of handle) refl
 
   no_secret : (handle : Option Handle) (x : Session) → key_is_secret s r handle x ≡ false
-  no_secret (Some handle) x = neither (has_secret_key s x.binding) (has_secret_value s r handle) (no_key x.binding) (no_value handle)
+  no_secret (Some handle) x =
+      neither (has_secret_key s x.binding) (has_secret_value s r handle) (no_key x.binding)
+      (no_value handle)
   no_secret None x = no_key x.binding
 
   no_entry : (handle : Option Handle) (e : Entry) → entry_is_secret s r handle e ≡ false
@@ -87,6 +90,9 @@ module _ (indices : ℕ → Bool) (objects : Public → Bool) (r : Record) where
       (choice (command.code == 0x13e) _ _ (no_named (named_in c command.parameters)) refl)))
   no_command c (Err e) = refl
 
-  pub hmac_is_not_secret : (c : Completion) (buffer response : List ℕ) → hmac_is_secret s r c buffer response ≡ false
+  pub hmac_is_not_secret : (c : Completion) (buffer response : List ℕ)
+      → hmac_is_secret s r c buffer response ≡ false
   hmac_is_not_secret c buffer response =
-      both r.fixed.started (is_refusal 0x143 response) (command_is_secret s r c (authorized_command buffer)) (no_command c (authorized_command buffer))
+      both r.fixed.started (is_refusal 0x143 response)
+      (command_is_secret s r c (authorized_command buffer))
+      (no_command c (authorized_command buffer))

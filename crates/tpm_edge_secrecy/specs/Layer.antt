@@ -10,7 +10,7 @@ use Rattle.tpm_bytes.specs.Reading.{number_at}
 use Rattle.tpm_bytes.specs.declared.cursor.Short.{Short}
 use Rattle.tpm_completion.specs.Answer.{is_refusal}
 use Rattle.tpm_completion.specs.Command.{Command, authorized_command, plain_command}
-use Rattle.tpm_completion.specs.Completed.{completed, passed}
+use Rattle.tpm_completion.specs.Completed.{completed_effect, device_effect}
 use Rattle.tpm_completion.specs.Completion.{forgotten}
 use Rattle.tpm_completion.specs.Execution.{Seen, sent_after, sent_event}
 use Rattle.tpm_completion.specs.Loading.{context_asked, object_opened}
@@ -32,7 +32,7 @@ use Rattle.tpm_secrecy.specs.Tells.{EventsAlike, is_reading}
 use Rattle.tpm_step.specs.step.Events.{Cycled, Given, Placed, PlainEvent}
 use Rattle.tpm_step.specs.declared.event.Row.{Row}
 use Rattle.tpm_row_secrecy.specs.Reads.{names_secret_object}
-use Rattle.tpm_types.specs.Handle.{is_transient, numbered}
+use Rattle.tpm_types.specs.Handle.{is_transient, numbered_handle}
 use Rattle.tpm_types.specs.declared.handle.Handle.{Handle}
 use Rattle.tpm_types.specs.declared.refused.Refused.{Refused}
 use Rattle.tpm_types_object.specs.declared.public.Public.{Public}
@@ -53,7 +53,7 @@ saves_object s r c handle =
 -- whether TPM2_ContextSave of the handle in these parameters writes a secret into a context
 abbrev pub handle_saves : Secrecy → Record → Completion → Result (ℕ × List ℕ) Short → Bool
 handle_saves s r c (Ok handle) =
-    (length handle.1 == 0) && saves_object s r c (numbered handle.0)
+    (length handle.1 == 0) && saves_object s r c (numbered_handle handle.0)
 handle_saves s r c (Err e) = false
 
 -- whether a command is TPM2_ContextSave (162), and writes a secret into a context
@@ -105,7 +105,7 @@ reads_after s first buffer locality random =
 
 abbrev pub layer_reads : Secrecy → Completion → Record → PlainEvent → Bool
 layer_reads s c r (Given buffer locality elapsed random) =
-    reads_after s (passed c r (Given buffer locality elapsed random)) buffer locality random
+    reads_after s (device_effect c r (Given buffer locality elapsed random)) buffer locality random
 layer_reads s c r Cycled = false
 layer_reads s c r (Placed object) = false
 
@@ -224,7 +224,7 @@ LayerForgetsAlike =
 -- whether the layer's answer to an event is the context of an object that has a secret
 abbrev pub is_saving : Secrecy → Completion → Record → PlainEvent → Bool
 is_saving s c r (Given buffer locality elapsed random) =
-    let first : Seen = passed c r (Given buffer locality elapsed random) in
+    let first : Seen = device_effect c r (Given buffer locality elapsed random) in
     saves_secret s first.step.after first.layer buffer first.step.response
 is_saving s c r Cycled = false
 is_saving s c r (Placed object) = false
@@ -251,7 +251,7 @@ CompletedTellsNothing =
     DifferInSecrets s one other → EventsAlike s event also
     → is_reading_with s completes c one event ≡ false
     → CompletesAlike s (completes && is_saving s c one event)
-    (completed completes c one event) (completed completes c other also)
+    (completed_effect completes c one event) (completed_effect completes c other also)
 
 -- ---- a list of events
 
@@ -264,7 +264,7 @@ Completions = List (Bool × PlainEvent)
 abbrev pub answers_with : Secrecy → Completion → Record → Completions → List (List ℕ × Row)
 answers_with s c r [] = []
 answers_with s c r (e ∷ es) =
-    let x : Seen = completed e.0 c r e.1 in
+    let x : Seen = completed_effect e.0 c r e.1 in
     (unless (e.0 && is_saving s c r e.1) x.step.response, x.step.row)
     ∷ answers_with s x.layer x.step.after es
 
@@ -272,7 +272,7 @@ answers_with s c r (e ∷ es) =
 abbrev pub NoneReadsWith : Secrecy → Completion → Record → Completions → Type 0
 NoneReadsWith s c r [] = Unit {0}
 NoneReadsWith s c r (e ∷ es) =
-    let x : Seen = completed e.0 c r e.1 in
+    let x : Seen = completed_effect e.0 c r e.1 in
     (is_reading_with s e.0 c r e.1 ≡ false) × NoneReadsWith s x.layer x.step.after es
 
 -- Two lists contain the same events, except that the objects that they place may differ in secrets.

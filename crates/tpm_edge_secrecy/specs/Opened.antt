@@ -9,7 +9,7 @@ use Rattle.tpm_step.specs.step.Events.{PlainEvent}
 use Rattle.tpm_step.specs.step.Execution.{Executes}
 use Rattle.tpm_step.specs.history.Executions.{Execution, Leads, history_after}
 use Rattle.tpm_step.specs.history.Follows.{Follows}
-use Rattle.tpm_step.specs.history.History.{AcceptedCommand, Done, History, recorded}
+use Rattle.tpm_step.specs.history.History.{AcceptedCommand, Done, History, extended_history}
 use Rattle.tpm_step.specs.step.Step.{Stepped}
 use Rattle.tpm_types_object.specs.declared.public.Public.{Public}
 
@@ -36,5 +36,5 @@ OpenedDataNeedPolicy =
     → (event : PlainEvent) (x : Stepped) → Executes can old event x
     → let history : History = history_after (journal_history text opened new is past) executions in
     TellsNothingSealed objects can old event x
-    ⊎ (c : AcceptedCommand) × (recorded old event x.row.check history ≡ Done c ∷ history)
+    ⊎ (c : AcceptedCommand) × (extended_history old event x.row.check history ≡ Done c ∷ history)
     × ReadsSealed objects history c

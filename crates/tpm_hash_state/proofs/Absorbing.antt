@@ -14,23 +14,25 @@ use Rattle.tpm_mac.specs.Digest.{digest_size, hash_of}
 use Rattle.tpm_mac.specs.declared.algorithm.HashAlg.{HashAlg}
 use Rattle.tpm_mac.specs.declared.algorithm.HashAlg.TheVariants as alg
 use Rattle.tpm_hash_state.specs.Meaning.{AbsorbsInParts, DigestIsHash}
-use Rattle.tpm_hash_state.specs.State.{absorbed, byte_absorbed, compressed, empty_state, state_alg, state_digest, value_alg, value_bytes}
+use Rattle.tpm_hash_state.specs.State.{byte_absorbed, empty_state, state_after_bytes, state_alg, state_digest, value_after_block, value_alg, value_bytes}
 use Rattle.tpm_hash_state.specs.declared.chaining.ChainingValue.{ChainingValue}
 use Rattle.tpm_hash_state.specs.declared.chaining.ChainingValue.TheVariants.{Sha1, Sha256}
 use Rattle.tpm_hash_state.specs.declared.state.HashState.{HashState}
 
 pub absorbs_in_parts : AbsorbsInParts
-unfolding absorbed
+unfolding state_after_bytes
 absorbs_in_parts state [] second = refl
-absorbs_in_parts state (byte ∷ first) second = absorbs_in_parts (byte_absorbed state byte) first second
+absorbs_in_parts state (byte ∷ first) second =
+    absorbs_in_parts (byte_absorbed state byte) first second
 
 -- Absorbing the first i + 1 bytes of a list is the same as absorbing the first i bytes, and then
 -- byte i.
 pub absorbed_more : (state : HashState) (bytes : List ℕ) (i : ℕ) → i < length bytes
-    → absorbed state (take (i + 1) bytes) ≡ byte_absorbed (absorbed state (take i bytes)) (slice_index bytes i)
-unfolding absorbed
+    → state_after_bytes state (take (i + 1) bytes)
+    ≡ byte_absorbed (state_after_bytes state (take i bytes)) (slice_index bytes i)
+unfolding state_after_bytes
 absorbed_more state bytes i within =
-    ap (absorbed state) (take_more bytes i 0 within)
+    ap (state_after_bytes state) (take_more bytes i 0 within)
     ∙ sym (absorbs_in_parts state (take i bytes) (slice_index bytes i ∷ []))
 
 -- ---- the state after a message
@@ -60,13 +62,14 @@ value_short alg.Sha256 (Sha256 words) before block message bytes holds short pla
 value_full : (alg : HashAlg) (value : ChainingValue) (before block message bytes : List ℕ)
     → ValueHolds alg value before message → length message % 64 + length bytes ≡ 64
     → block ≡ take (length message % 64) before ++ bytes
-    → ValueHolds alg (compressed value block) block (message ++ bytes)
+    → ValueHolds alg (value_after_block value block) block (message ++ bytes)
 value_full alg.Sha1 (Sha1 words) before block message bytes holds full placed =
     one.IsAbsorbed_fill words before block message bytes block holds full placed
 value_full alg.Sha1 (Sha256 words) before block message bytes holds full placed = absurd holds
 value_full alg.Sha256 (Sha1 words) before block message bytes holds full placed = absurd holds
 value_full alg.Sha256 (Sha256 words) before block message bytes holds full placed =
-    two.IsAbsorbed_fill sha256.initial_hash_256 words before block message bytes block holds full placed
+    two.IsAbsorbed_fill sha256.initial_hash_256 words before block message bytes block holds full
+    placed
 
 -- The state has absorbed the message.
 record Holds (alg : HashAlg) (state : HashState) (message : List ℕ) : Type 0 where
@@ -79,7 +82,8 @@ unfolding hash_after sha256.hash_after
 holds_none alg.Sha1 = record { sized = refl; counted = refl; value = (refl, refl) }
 holds_none alg.Sha256 = record { sized = refl; counted = refl; value = (refl, refl) }
 
-holds_full : (alg : HashAlg) (state : HashState) (message : List ℕ) (byte : ℕ) → Holds alg state message
+holds_full : (alg : HashAlg) (state : HashState) (message : List ℕ) (byte : ℕ)
+    → Holds alg state message
     → nat_eq (state.length % 64) 63 ≡ true → state.length % 64 ≡ 63
     → Holds alg (byte_absorbed state byte) (message ++ byte ∷ [])
 holds_full alg state message byte holds is last =
@@ -92,14 +96,18 @@ holds_full alg state message byte holds is last =
     let written : take (place + 1) block ≡ take place state.block ++ byte ∷ [] =
     take_more_set state.block place byte (omega arith) in
     let placed : block ≡ take (length message % 64) state.block ++ byte ∷ [] =
-    sym (take_all (place + 1) block (omega arith)) ∙ written ∙ ap (λ (k : ℕ). take k state.block ++ byte ∷ []) (sym at) in
+    sym (take_all (place + 1) block (omega arith)) ∙ written
+    ∙ ap (λ (k : ℕ). take k state.block ++ byte ∷ []) (sym at) in
     record {
       sized = size;
       counted = omega (arith, length-append message (byte ∷ []));
-      value = rw is (value_full alg state.chaining state.block block message (byte ∷ []) holds.value (omega arith) placed);
+      value =
+          rw is (value_full alg state.chaining state.block block message (byte ∷ []) holds.value
+          (omega arith) placed);
     }
 
-holds_short : (alg : HashAlg) (state : HashState) (message : List ℕ) (byte : ℕ) → Holds alg state message
+holds_short : (alg : HashAlg) (state : HashState) (message : List ℕ) (byte : ℕ)
+    → Holds alg state message
     → nat_eq (state.length % 64) 63 ≡ false → state.length % 64 ≢ 63
     → Holds alg (byte_absorbed state byte) (message ++ byte ∷ [])
 holds_short alg state message byte holds is early =
@@ -110,28 +118,35 @@ holds_short alg state message byte holds is early =
     let block : List ℕ = slice_set state.block place byte in
     let written : take (place + 1) block ≡ take place state.block ++ byte ∷ [] =
     take_more_set state.block place byte (omega arith) in
-    let placed : take (length message % 64 + 1) block ≡ take (length message % 64) state.block ++ byte ∷ [] =
-    ap (λ (k : ℕ). take (k + 1) block) at ∙ written ∙ ap (λ (k : ℕ). take k state.block ++ byte ∷ []) (sym at) in
+    let placed : take (length message % 64 + 1) block ≡ take (length message % 64) state.block
+    ++ byte ∷ [] =
+    ap (λ (k : ℕ). take (k + 1) block) at ∙ written
+    ∙ ap (λ (k : ℕ). take k state.block ++ byte ∷ []) (sym at) in
     record {
       sized = length-set state.block place byte ∙ holds.sized;
       counted = omega (arith, length-append message (byte ∷ []));
-      value = rw is (value_short alg state.chaining state.block block message (byte ∷ []) holds.value (omega arith) placed);
+      value =
+          rw is (value_short alg state.chaining state.block block message (byte ∷ []) holds.value
+          (omega arith) placed);
     }
 
-holds_by : (alg : HashAlg) (state : HashState) (message : List ℕ) (byte : ℕ) → Holds alg state message
+holds_by : (alg : HashAlg) (state : HashState) (message : List ℕ) (byte : ℕ)
+    → Holds alg state message
     → Holds alg (byte_absorbed state byte) (message ++ byte ∷ [])
 holds_by alg state message byte holds = elim (eqb_tells (state.length % 64) 63) [
   | inl full ↦ holds_full alg state message byte holds full.0 full.1
   | inr early ↦ holds_short alg state message byte holds early.0 early.1
 ]
 
-holds_more : (alg : HashAlg) (bytes : List ℕ) (state : HashState) (message : List ℕ) → Holds alg state message
-    → Holds alg (absorbed state bytes) (message ++ bytes)
-unfolding absorbed
+holds_more : (alg : HashAlg) (bytes : List ℕ) (state : HashState) (message : List ℕ)
+    → Holds alg state message
+    → Holds alg (state_after_bytes state bytes) (message ++ bytes)
+unfolding state_after_bytes
 holds_more alg [] state message holds = rw (append-nil message) holds
 holds_more alg (byte ∷ bytes) state message holds =
     let next = holds_by alg state message byte holds in
-    rw (append_assoc message (byte ∷ []) bytes) at (holds_more alg bytes (byte_absorbed state byte) (message ++ byte ∷ []) next)
+    rw (append_assoc message (byte ∷ []) bytes) at
+    (holds_more alg bytes (byte_absorbed state byte) (message ++ byte ∷ []) next)
 
 -- ---- the digest
 
@@ -146,19 +161,22 @@ padding_counted count size is =
 value_padded : (alg : HashAlg) (value : ChainingValue) (block message : List ℕ)
     → ValueHolds alg value block (padded_message message) → value_bytes value ≡ hash_of alg message
 unfolding sha1.sha1 sha256.sha256
-value_padded alg.Sha1 (Sha1 words) block message holds = ap (λ (h : List ℕ). sha1.digest_bytes h 5) holds.0
+value_padded alg.Sha1 (Sha1 words) block message holds =
+    ap (λ (h : List ℕ). sha1.digest_bytes h 5) holds.0
 value_padded alg.Sha1 (Sha256 words) block message holds = absurd holds
 value_padded alg.Sha256 (Sha1 words) block message holds = absurd holds
-value_padded alg.Sha256 (Sha256 words) block message holds = ap (λ (h : List ℕ). sha256.digest_bytes h 8) holds.0
+value_padded alg.Sha256 (Sha256 words) block message holds =
+    ap (λ (h : List ℕ). sha256.digest_bytes h 8) holds.0
 
 pub digest_is_hash : DigestIsHash
 unfolding state_digest
 digest_is_hash alg message =
-    let state = absorbed (empty_state alg) message in
+    let state = state_after_bytes (empty_state alg) message in
     let holds = holds_more alg message (empty_state alg) [] (holds_none alg) in
     let whole = holds_more alg (padding state.length) state message holds in
     let padded : message ++ padding state.length ≡ padded_message message =
-    ap (λ (p : List ℕ). message ++ p) (padding_counted state.length (length message) holds.counted) in
+    ap (λ (p : List ℕ). message ++ p)
+    (padding_counted state.length (length message) holds.counted) in
     value_padded alg _ _ message (rw padded at whole.value)
 
 -- ---- words as bytes
@@ -179,30 +197,35 @@ length-bytes words (suc n) =
     let word = to_be_bytes w32 (slice_index words n) in
     omega (arith, before, length-append (sha1.digest_bytes words n) word)
 
-length-value_bytes : (value : ChainingValue) → length (value_bytes value) ≡ digest_size (value_alg value)
+length-value_bytes : (value : ChainingValue)
+    → length (value_bytes value) ≡ digest_size (value_alg value)
 length-value_bytes (Sha1 words) = length-bytes words 5
 length-value_bytes (Sha256 words) = ap length (same_bytes words 8) ∙ length-bytes words 8
 
-compressed_alg : (value : ChainingValue) (block : List ℕ) → value_alg (compressed value block) ≡ value_alg value
+compressed_alg : (value : ChainingValue) (block : List ℕ)
+    → value_alg (value_after_block value block) ≡ value_alg value
 compressed_alg (Sha1 words) block = refl
 compressed_alg (Sha256 words) block = refl
 
 chosen_alg : (full : Bool) (value : ChainingValue) (block : List ℕ)
-    → value_alg (if full then compressed value block else value) ≡ value_alg value
+    → value_alg (if full then value_after_block value block else value) ≡ value_alg value
 chosen_alg true value block = compressed_alg value block
 chosen_alg false value block = refl
 
 -- absorbing bytes does not change the algorithm
-pub absorbed_alg : (state : HashState) (bytes : List ℕ) → state_alg (absorbed state bytes) ≡ state_alg state
-unfolding absorbed
+pub absorbed_alg : (state : HashState) (bytes : List ℕ)
+    → state_alg (state_after_bytes state bytes) ≡ state_alg state
+unfolding state_after_bytes
 absorbed_alg state [] = refl
 absorbed_alg state (byte ∷ bytes) =
     absorbed_alg (byte_absorbed state byte) bytes
-    ∙ chosen_alg (nat_eq (state.length % 64) 63) state.chaining (slice_set state.block (state.length % 64) byte)
+    ∙ chosen_alg (nat_eq (state.length % 64) 63) state.chaining
+    (slice_set state.block (state.length % 64) byte)
 
 -- a digest has the size that its algorithm requires
-pub length-state_digest : (state : HashState) → length (state_digest state) ≡ digest_size (state_alg state)
+pub length-state_digest : (state : HashState)
+    → length (state_digest state) ≡ digest_size (state_alg state)
 unfolding state_digest
 length-state_digest state =
-    length-value_bytes (absorbed state (padding state.length)).chaining
+    length-value_bytes (state_after_bytes state (padding state.length)).chaining
     ∙ ap digest_size (absorbed_alg state (padding state.length))

@@ -15,9 +15,9 @@ initial_value alg.Sha1 = Sha1 sha1.initial_hash
 initial_value alg.Sha256 = Sha256 sha256.initial_hash_256
 
 -- the hash value after one more block (FIPS 180-4, 6.1.2 and 6.2.2)
-abbrev pub compressed : ChainingValue → List ℕ → ChainingValue
-compressed (Sha1 words) block = Sha1 (sha1.compress words block)
-compressed (Sha256 words) block = Sha256 (sha256.compress words block)
+abbrev pub value_after_block : ChainingValue → List ℕ → ChainingValue
+value_after_block (Sha1 words) block = Sha1 (sha1.compress words block)
+value_after_block (Sha256 words) block = Sha256 (sha256.compress words block)
 
 -- the initial state, in which the message is empty
 abbrev pub empty_state : HashAlg → HashState
@@ -31,15 +31,15 @@ byte_absorbed state byte =
     let block : List ℕ = slice_set state.block place byte in
     let value = state.chaining in
     record {
-      chaining = if nat_eq place 63 then compressed value block else value;
+      chaining = if nat_eq place 63 then value_after_block value block else value;
       block = block;
       length = (state.length + 1) % 2 ^ 64;
     }
 
 -- the state after these bytes of the message, one after another
-unfoldable pub absorbed : HashState → List ℕ → HashState
-absorbed state [] = state
-absorbed state (byte ∷ bytes) = absorbed (byte_absorbed state byte) bytes
+unfoldable pub state_after_bytes : HashState → List ℕ → HashState
+state_after_bytes state [] = state
+state_after_bytes state (byte ∷ bytes) = state_after_bytes (byte_absorbed state byte) bytes
 
 -- the hash value as bytes, each word with its high byte first
 abbrev pub value_bytes : ChainingValue → List ℕ
@@ -48,7 +48,7 @@ value_bytes (Sha256 words) = sha256.digest_bytes words 8
 
 -- the digest: the hash value after the padding of the message (FIPS 180-4, 5.1.1)
 unfoldable pub state_digest : HashState → List ℕ
-state_digest state = value_bytes (absorbed state (padding state.length)).chaining
+state_digest state = value_bytes (state_after_bytes state (padding state.length)).chaining
 
 -- the algorithm of a hash value
 abbrev pub value_alg : ChainingValue → HashAlg

@@ -1,7 +1,7 @@
 //! The hash value after whole blocks.
 
 ghost use Rattle.std.specs.Prelude.{◌≡◌};
-ghost use Rattle.tpm_hash_state.specs.State.{compressed, value_bytes};
+ghost use Rattle.tpm_hash_state.specs.State.{value_after_block, value_bytes};
 
 use crate::digest::words_text;
 use crate::{sha1_block, sha256_block};
@@ -19,7 +19,7 @@ pub enum ChainingValue {
 impl ChainingValue {
     /// Updates the hash value with one more block.
     pub(crate) fn compress(&mut self, block: &[u8; 64])
-        ensures { self.new ≡ compressed self.old block.now }
+        ensures { self.new ≡ value_after_block self.old block.now }
     {
         match self {
             ChainingValue::Sha1(words) => *words = sha1_block::compress(*words, block),

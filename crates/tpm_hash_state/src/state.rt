@@ -2,7 +2,7 @@
 
 ghost use Rattle.std.specs.Prelude.{◌≡◌, length};
 ghost use Rattle.tpm_mac.specs.Digest.{digest_size};
-ghost use Rattle.tpm_hash_state.specs.State.{absorbed, byte_absorbed, empty_state, state_alg, state_digest};
+ghost use Rattle.tpm_hash_state.specs.State.{byte_absorbed, empty_state, state_after_bytes, state_alg, state_digest};
 
 use crate::chaining::ChainingValue;
 use crate::digest::padding_start;
@@ -66,7 +66,7 @@ impl HashState {
 
     /// Appends the bytes to the message.
     pub fn absorb(&mut self, bytes: &[u8])
-        ensures { self.new ≡ absorbed self.old bytes.now }
+        ensures { self.new ≡ state_after_bytes self.old bytes.now }
     {
         for byte in bytes {
             self.absorb_byte(*byte);

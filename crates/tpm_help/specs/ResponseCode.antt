@@ -85,8 +85,8 @@ warnings = (0x901, codes "CONTEXT_GAP")
 
 -- the names of the codes that can identify a handle, a parameter or a session (RC_FMT1); each code
 -- is listed with bits 6 and 8 to 11 clear
-unfoldable pub located : List (ℕ × List ℕ)
-located = (0x081, codes "ASYMMETRIC")
+unfoldable pub format_one_names : List (ℕ × List ℕ)
+format_one_names = (0x081, codes "ASYMMETRIC")
     ∷ (0x082, codes "ATTRIBUTES")
     ∷ (0x083, codes "HASH")
     ∷ (0x084, codes "VALUE")
@@ -143,7 +143,7 @@ place_in code =
 unfoldable pub told_by : ℕ → Option (List ℕ × Place)
 told_by code =
     if code / 0x80 % 2 == 1
-    then option_map (λ name. (name, place_in code)) (name_in located (0x80 + code % 0x40))
+    then option_map (λ name. (name, place_in code)) (name_in format_one_names (0x80 + code % 0x40))
     else option_map (λ name. (name, place.Nowhere))
     (option_or (name_in errors code) (name_in warnings code))
 

@@ -2,7 +2,7 @@
 //! parameter or session that a code identifies.
 
 ghost use Rattle.std.specs.Prelude.{◌≡◌, ◌<◌, option_map};
-ghost use Rattle.tpm_help.specs.ResponseCode.{errors, hex_number, located};
+ghost use Rattle.tpm_help.specs.ResponseCode.{errors, format_one_names, hex_number};
 ghost use Rattle.tpm_help.specs.ResponseCode.{name_in, place_in, told_of, warnings};
 
 use std::fmt;
@@ -119,9 +119,9 @@ fn warning_name(number: u32) -> Option<&'static str>
 
 /// The name of a code that can identify a handle, a parameter or a session. The number is the code
 /// with bits 6 and 8 to 11 clear.
-#[tactic(auto, unfolding(crate::specs::ResponseCode::located))]
+#[tactic(auto, unfolding(crate::specs::ResponseCode::format_one_names))]
 fn located_name(number: u32) -> Option<&'static str>
-    ensures { option_map (λ name. name.now) result ≡ name_in located number }
+    ensures { option_map (λ name. name.now) result ≡ name_in format_one_names number }
 {
     match number {
         0x081 => Some("ASYMMETRIC"),

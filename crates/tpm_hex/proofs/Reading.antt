@@ -15,11 +15,13 @@ PairsTellSoFar digits largest place bytes =
     × (16 ≤ largest → (fault : FromHexError) × (decode_pairs 0 digits ≡ Err fault))
 
 -- If the value of a byte is below 16, this byte is the hex digit with that value.
-small_is_digit : (digit : Option ℕ) (value : ℕ) → value ≡ unwrap_or digit 255 → value < 16 → digit ≡ Some value
+small_is_digit : (digit : Option ℕ) (value : ℕ) → value ≡ unwrap_or digit 255 → value < 16
+    → digit ≡ Some value
 small_is_digit (Some own) value e small = ap Some (sym e)
 small_is_digit None value e small = absurd (omega (arith, e, small))
 
-large_is_none : (byte value : ℕ) → value ≡ unwrap_or (hex_digit_value byte) 255 → 16 ≤ value → hex_digit_value byte ≡ None
+large_is_none : (byte value : ℕ) → value ≡ unwrap_or (hex_digit_value byte) 255 → 16 ≤ value
+    → hex_digit_value byte ≡ None
 large_is_none byte value e large = grind (arith)
 
 -- Two hex digits encode the byte whose upper and lower four bits are the digits' values.
@@ -34,7 +36,8 @@ first_is_bad : (first second index : ℕ) → hex_digit_value first ≡ None
     → pair_value first second index ≡ Err (InvalidHexCharacter first index)
 first_is_bad first second index e = rw e refl
 
-second_is_bad : (first second high index : ℕ) → hex_digit_value first ≡ Some high → hex_digit_value second ≡ None
+second_is_bad : (first second high index : ℕ) → hex_digit_value first ≡ Some high
+    → hex_digit_value second ≡ None
     → pair_value first second index ≡ Err (InvalidHexCharacter second (index + 1))
 second_is_bad first second high index e f = rw (e, f) refl
 
@@ -62,13 +65,17 @@ pub pair_read : (digits bytes : List ℕ) (largest place high low next : ℕ)
 pair_read digits bytes largest place high low next fits room e f n so_far = (
   λ small.
       decode_step digits bytes place _ fits room
-      (digits_write (slice_index digits (2 * place)) (slice_index digits (2 * place + 1)) high low (2 * place) (small_is_digit _ high e (omega (arith, n, small)))
-      (small_is_digit _ low f (omega (arith, n, small))) (omega (arith, n, small)) (omega (arith, n, small)))
+      (digits_write (slice_index digits (2 * place)) (slice_index digits (2 * place + 1)) high low
+      (2 * place) (small_is_digit _ high e (omega (arith, n, small)))
+      (small_is_digit _ low f (omega (arith, n, small))) (omega (arith, n, small))
+      (omega (arith, n, small)))
       (so_far.0 (omega (arith, n, small))),
   λ large.
       elim (cases_lt largest 16) [
         | inl small ↦
-            let bad = pair_is_bad (slice_index digits (2 * place)) (slice_index digits (2 * place + 1)) high low (2 * place) e f (omega (arith, n, large, small)) in
+            let bad = pair_is_bad (slice_index digits (2 * place))
+            (slice_index digits (2 * place + 1)) high low (2 * place) e f
+            (omega (arith, n, large, small)) in
             (bad.0, decode_err digits bytes place bad.0 fits bad.1 (so_far.0 small))
         | inr not_small ↦ so_far.1 not_small
       ],

@@ -23,8 +23,10 @@ use Rattle.tpm_image_text.proofs.VersionLaws.{indices_within, limits_small, limi
 
 -- if the NV indices of a device are within the limits of a version, an image of this version can
 -- store them
-stored : (version : Version) (kept : NonVolatile) → IsNonVolatile kept → IsWithin version kept → AreStored version kept.indices
-stored version kept is within = record { ascends = is.nv.ascends; few = within.few; small = within.small; each = is.nv.indices }
+stored : (version : Version) (kept : NonVolatile) → IsNonVolatile kept → IsWithin version kept
+    → AreStored version kept.indices
+stored version kept is within =
+    record { ascends = is.nv.ascends; few = within.few; small = within.small; each = is.nv.indices }
 
 -- the NV indices of a device are always within the limits of version 2
 pub within_device : (kept : NonVolatile) → IsNonVolatile kept → IsWithin Two kept
@@ -32,8 +34,17 @@ within_device kept is = record { few = is.nv.few; small = is.nv.small }
 
 -- if an image of some version can store these NV indices, they are valid contents of the device's
 -- NV memory
-indices_is : (version : Version) (kept : NonVolatile) → kept.state.max_count < 2 ^ 64 → AreStored version kept.indices → IsContents (nv_of kept)
-indices_is version kept count are = record { ascends = are.ascends; few = omega (arith, are.few, indices_within version); small = omega (arith, are.small, space_within version); indices = are.each; max_count = count }
+indices_is : (version : Version) (kept : NonVolatile) → kept.state.max_count < 2 ^ 64
+    → AreStored version kept.indices → IsContents (nv_of kept)
+indices_is version kept count are =
+    record {
+      ascends = are.ascends;
+      few = omega (arith, are.few, indices_within version);
+      small =
+          omega (arith, are.small, space_within version);
+      indices = are.each;
+      max_count = count;
+    }
 
 abbrev Fields : Type 0
 Fields = ((Unit {0} × KeptState) × Entries Object) × Entries NvIndex
@@ -44,27 +55,52 @@ fields_of kept = (((tt, kept.state), kept.persistent), kept.indices)
 abbrev kept_of_fields : Fields → NonVolatile
 kept_of_fields f = record { state = f.0.0.1; persistent = f.0.1; indices = f.1 }
 
-pub kept_spelled : (version : Version) → Spelled (image_body_text version) (λ kept. IsNonVolatile kept × IsWithin version kept) (kept_in version)
+pub kept_spelled : (version : Version)
+    → Spelled (image_body_text version) (λ kept. IsNonVolatile kept × IsWithin version kept)
+    (kept_in version)
 unfolding kept_in image_body_text
 kept_spelled version =
-    respelled (first (limits_spelled version) (then state_spelled (then objects_spelled (then (indices_spelled version) (all_read fields_of kept_of_fields (λ _. refl) (λ _. refl))))))
-    (λ kept. four_texts (limits_text version) (state_text kept.state) (objects_text kept.persistent) (indices_text kept.indices))
+    respelled (first (limits_spelled version)
+    (then state_spelled
+    (then objects_spelled
+    (then (indices_spelled version)
+    (all_read fields_of kept_of_fields (λ _. refl) (λ _. refl))))))
+    (λ kept. four_texts (limits_text version) (state_text kept.state) (objects_text kept.persistent)
+    (indices_text kept.indices))
     (λ kept is.
-    let stored = is.1.1.1.0 in
-    (record { state = is.1.0.0; persistent = is.1.1.0; nv = indices_is version kept is.1.0.1 stored }, record { few = stored.few; small = stored.small }))
-    (λ kept is. (tt, ((is.0.state, is.0.nv.max_count), (is.0.persistent, (stored version kept is.0 is.1, tt)))))
+    let stored = is.1.1.1.0 in (
+      record {
+        state = is.1.0.0;
+        persistent = is.1.1.0;
+        nv =
+            indices_is version kept is.1.0.1 stored;
+      },
+      record { few = stored.few; small = stored.small },
+    ))
+    (λ kept is. (
+      tt,
+      (
+        (is.0.state, is.0.nv.max_count),
+        (is.0.persistent, (stored version kept is.0 is.1, tt)),
+      ),
+    ))
 
-pub body_taken : (version : Version) (text : List ℕ) (kept : NonVolatile) → AreBytes text → body_of version text ≡ Ok kept → (text ≡ image_body_text version kept) × IsNonVolatile kept × IsWithin version kept
+pub body_taken : (version : Version) (text : List ℕ) (kept : NonVolatile) → AreBytes text
+    → body_of version text ≡ Ok kept → (text ≡ image_body_text version kept) × IsNonVolatile kept
+    × IsWithin version kept
 unfolding body_of
-body_taken version text kept fits e = let t = filling_taken (kept_spelled version) text kept fits e in (t.0, t.1.0, t.1.1)
+body_taken version text kept fits e = let t =
+    filling_taken (kept_spelled version) text kept fits e in (t.0, t.1.0, t.1.1)
 
-pub body_again : (version : Version) (kept : NonVolatile) → IsNonVolatile kept → IsWithin version kept → body_of version (image_body_text version kept) ≡ Ok kept
+pub body_again : (version : Version) (kept : NonVolatile) → IsNonVolatile kept
+    → IsWithin version kept → body_of version (image_body_text version kept) ≡ Ok kept
 unfolding body_of
 body_again version kept is within = filling_again (kept_spelled version) kept (is, within)
 
 -- ---- the largest size of an encoded body
 
-pub body_small : (version : Version) (kept : NonVolatile) → IsNonVolatile kept → length (image_body_text version kept) ≤ body_size
+pub body_small : (version : Version) (kept : NonVolatile) → IsNonVolatile kept
+    → length (image_body_text version kept) ≤ body_size
 unfolding image_body_text
 body_small version kept is =
     let limits = limits_text version in

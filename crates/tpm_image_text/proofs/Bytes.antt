@@ -15,7 +15,8 @@ bytes_nil i = omega arith
 pub are_bytes-Decides : (bytes : List ℕ) → Decides (are_bytes bytes) (AreBytes bytes)
 are_bytes-Decides [] = (λ all. bytes_nil, λ all. refl)
 are_bytes-Decides (byte ∷ bytes) =
-    let both = Decides-and (nat_lt byte 256) (are_bytes bytes) (Decides-ltb byte 256) (are_bytes-Decides bytes) in (
+    let both = Decides-and (nat_lt byte 256) (are_bytes bytes) (Decides-ltb byte 256)
+    (are_bytes-Decides bytes) in (
       λ all. (
           let parts = both.0 all in
           bytes_cons byte bytes parts.0 parts.1

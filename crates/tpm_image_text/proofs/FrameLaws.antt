@@ -35,7 +35,8 @@ abbrev inner : List ℕ → List ℕ
 inner text = drop head_bytes (before_digest text)
 
 fits_behind : (text : List ℕ) → AreBytes text → (n : ℕ) → AreBytes (drop n text)
-fits_behind text fits n = rest_fits (take n text) (drop n text) (subst AreBytes (sym (take-append-drop n text)) fits)
+fits_behind text fits n =
+    rest_fits (take n text) (drop n text) (subst AreBytes (sym (take-append-drop n text)) fits)
 
 module _ {V E : Type 0} (format : Format V E) where
   -- ---- what the frame's tests check
@@ -47,28 +48,41 @@ module _ {V E : Type 0} (format : Format V E) where
     whole : length_of text ≡ length text
     digest : hash_of Sha256 (before_digest text) ≡ digest_of text
 
-  passes : (version : V) (text : List ℕ) → IsFramed version text → within_frame format text ≡ Ok (version, inner text)
+  passes : (version : V) (text : List ℕ) → IsFramed version text
+      → within_frame format text ≡ Ok (version, inner text)
   unfolding within_frame
   passes version text is =
       let long = le-ltb (length text) (head_bytes + digest_bytes) is.long in
       let word = (bytes_eq-Decides (take 4 text) (word_of format.letter)).1 is.word in
       let whole = (Decides-eqb (length_of text) (length text)).1 is.whole in
-      let digest = (bytes_eq-Decides (hash_of Sha256 (before_digest text)) (digest_of text)).1 is.digest in
+      let digest = (bytes_eq-Decides (hash_of Sha256 (before_digest text)) (digest_of text)).1
+      is.digest in
       rw (long, word, is.number, whole, digest) refl
 
   -- if decoding a frame succeeds, all five tests passed
-  none_refuses : (short word : Bool) (version : Option V) (whole digest : Bool) (body : List ℕ) (said : V × List ℕ) → (refused_if short format.short >>= λ a. refused_if (not word) format.magic >>= λ b. ok_or version format.version >>= λ v. refused_if (not whole) format.whole >>= λ c. refused_if (not digest) format.digest >>= λ d. let done : Result (V × List ℕ) E = Ok (v, body) in done) ≡ Ok said → (v : V) × (short ≡ false) × (word ≡ true) × (version ≡ Some v) × (whole ≡ true) × (digest ≡ true) × ((v, body) ≡ said)
-  none_refuses false true (Some v) true true body said e = (v, refl, refl, refl, refl, refl, ok_is {E = E} (v, body) said e)
+  none_refuses : (short word : Bool) (version : Option V) (whole digest : Bool) (body : List ℕ)
+      (said : V × List ℕ)
+      → (refused_if short format.short >>= λ a. refused_if (not word) format.magic
+      >>= λ b. ok_or version format.version >>= λ v. refused_if (not whole) format.whole
+      >>= λ c. refused_if (not digest) format.digest >>= λ d. let done : Result (V × List ℕ) E =
+      Ok (v, body) in done) ≡ Ok said → (v : V) × (short ≡ false) × (word ≡ true)
+      × (version ≡ Some v) × (whole ≡ true) × (digest ≡ true) × ((v, body) ≡ said)
+  none_refuses false true (Some v) true true body said e =
+      (v, refl, refl, refl, refl, refl, ok_is {E = E} (v, body) said e)
   none_refuses true word version whole digest body said e = absurd cc
   none_refuses false false version whole digest body said e = absurd cc
   none_refuses false true None whole digest body said e = absurd cc
   none_refuses false true (Some v) false digest body said e = absurd cc
   none_refuses false true (Some v) true false body said e = absurd cc
 
-  has_passed : (text : List ℕ) (said : V × List ℕ) → within_frame format text ≡ Ok said → (version : V) × IsFramed version text × ((version, inner text) ≡ said)
+  has_passed : (text : List ℕ) (said : V × List ℕ) → within_frame format text ≡ Ok said
+      → (version : V) × IsFramed version text × ((version, inner text) ≡ said)
   unfolding within_frame
   has_passed text said e =
-      let t = none_refuses (nat_lt (length text) (head_bytes + digest_bytes)) (bytes_eq (take 4 text) (word_of format.letter)) (format.numbered (number_of text)) (length_of text == length text) (bytes_eq (hash_of Sha256 (before_digest text)) (digest_of text)) (inner text) said e in
+      let t = none_refuses (nat_lt (length text) (head_bytes + digest_bytes))
+      (bytes_eq (take 4 text) (word_of format.letter)) (format.numbered (number_of text))
+      (length_of text == length text)
+      (bytes_eq (hash_of Sha256 (before_digest text)) (digest_of text)) (inner text) said e in
       let is : IsFramed t.0 text = record {
         long = ltb-false _ _ t.1;
         word = (bytes_eq-Decides _ _).0 t.2;
@@ -80,92 +94,135 @@ module _ {V E : Type 0} (format : Format V E) where
 
   -- ---- a body in its frame
 
-  pub length-framed : (version : V) (body : List ℕ) → length (framed_in format version body) ≡ whole_of body
+  pub length-framed : (version : V) (body : List ℕ)
+      → length (framed_in format version body) ≡ whole_of body
   length-framed version body =
       let head = head_in format version (whole_of body) in
       let front = head ++ body in
-      omega (arith, length-append head body, length-append front (hash_of Sha256 front), length-hash_of Sha256 front)
+      omega (
+        arith,
+        length-append head body,
+        length-append front (hash_of Sha256 front),
+        length-hash_of Sha256 front,
+      )
 
   -- the size decoded from a head is the size that was written, whatever follows the head
-  length_said : (version : V) (whole : ℕ) (rest : List ℕ) → whole < 2 ^ 32 → length_of (head_in format version whole ++ rest) ≡ whole
+  length_said : (version : V) (whole : ℕ) (rest : List ℕ) → whole < 2 ^ 32
+      → length_of (head_in format version whole ++ rest) ≡ whole
   length_said version whole rest small = wide32.again whole small
 
   -- ---- truncated bytes
 
-  pub cut_short : (text : List ℕ) → length text < head_bytes + digest_bytes → within_frame format text ≡ Err format.short
+  pub cut_short : (text : List ℕ) → length text < head_bytes + digest_bytes
+      → within_frame format text ≡ Err format.short
   unfolding within_frame
   cut_short text short = rw (lt-ltb (length text) (head_bytes + digest_bytes) short) refl
 
   module _ (numbers : AreNumbered format) where
     -- the version decoded from a head is the version that was written, whatever follows the head
-    version_said : (version : V) (whole : ℕ) (rest : List ℕ) → format.numbered (number_of (head_in format version whole ++ rest)) ≡ Some version
-    version_said version whole rest = ap format.numbered (wide16.again (format.number version) (numbers.small version)) ∙ numbers.again version
+    version_said : (version : V) (whole : ℕ) (rest : List ℕ)
+        → format.numbered (number_of (head_in format version whole ++ rest)) ≡ Some version
+    version_said version whole rest =
+        ap format.numbered (wide16.again (format.number version) (numbers.small version))
+        ∙ numbers.again version
 
-    pub framed_again : (version : V) (body : List ℕ) → whole_of body < 2 ^ 32 → within_frame format (framed_in format version body) ≡ Ok (version, body)
+    pub framed_again : (version : V) (body : List ℕ) → whole_of body < 2 ^ 32
+        → within_frame format (framed_in format version body) ≡ Ok (version, body)
     framed_again version body small =
         let text = framed_in format version body in
         let head = head_in format version (whole_of body) in
         let front = head ++ body in
         let digest = hash_of Sha256 front in
         let whole = length-framed version body in
-        let place : length front ≡ length text - digest_bytes = omega (arith, whole, length-append head body) in
+        let place : length front ≡ length text - digest_bytes =
+        omega (arith, whole, length-append head body) in
         let before : before_digest text ≡ front = take_at front digest _ place in
         let is : IsFramed version text = record {
           long = omega (arith, whole);
           word = refl;
           number = version_said version (whole_of body) (body ++ digest);
-          whole = ap length_of (append_assoc head body digest) ∙ length_said version (whole_of body) (body ++ digest) small ∙ sym whole;
+          whole = ap length_of (append_assoc head body digest)
+              ∙ length_said version (whole_of body) (body ++ digest) small ∙ sym whole;
           digest = ap (hash_of Sha256) before ∙ sym (drop_at front digest _ place);
         } in
         passes version text is ∙ ap (λ (l : List ℕ). Ok (version, drop head_bytes l)) before
 
     -- ---- bytes that contain a body
 
-    head_is : (version : V) (text : List ℕ) → AreBytes text → IsFramed version text → take head_bytes text ≡ head_in format version (length text)
+    head_is : (version : V) (text : List ℕ) → AreBytes text → IsFramed version text
+        → take head_bytes text ≡ head_in format version (length text)
     head_is version text fits is =
         let number = take 2 (drop 4 text) in
         let size = take 4 (drop 6 text) in
-        let two : length number ≡ 2 = omega (arith, is.long, length-take 2 (drop 4 text), length-drop 4 text) in
-        let four : length size ≡ 4 = omega (arith, is.long, length-take 4 (drop 6 text), length-drop 6 text) in
-        let named : number ≡ to_be_bytes w16 (format.number version) = sym (wide16.back number two (AreBytes-take 2 (drop 4 text) (fits_behind text fits 4))) ∙ ap (to_be_bytes w16) (numbers.is (number_of text) version is.number) in
-        let whole : size ≡ to_be_bytes w32 (length text) = sym (wide32.back size four (AreBytes-take 4 (drop 6 text) (fits_behind text fits 6))) ∙ ap (to_be_bytes w32) is.whole in
+        let two : length number ≡ 2 =
+        omega (arith, is.long, length-take 2 (drop 4 text), length-drop 4 text) in
+        let four : length size ≡ 4 =
+        omega (arith, is.long, length-take 4 (drop 6 text), length-drop 6 text) in
+        let named : number ≡ to_be_bytes w16 (format.number version) =
+        sym (wide16.back number two (AreBytes-take 2 (drop 4 text) (fits_behind text fits 4)))
+        ∙ ap (to_be_bytes w16) (numbers.is (number_of text) version is.number) in
+        let whole : size ≡ to_be_bytes w32 (length text) =
+        sym (wide32.back size four (AreBytes-take 4 (drop 6 text) (fits_behind text fits 6)))
+        ∙ ap (to_be_bytes w32) is.whole in
         take-add 6 4 text
         ∙ ap (λ (l : List ℕ). l ++ size) (take-add 4 2 text)
         ∙ rw (is.word, named, whole) refl
 
-    pub framed_taken : (text : List ℕ) (said : V × List ℕ) → AreBytes text → within_frame format text ≡ Ok said → (text ≡ framed_in format said.0 said.1) × AreBytes said.1
+    pub framed_taken : (text : List ℕ) (said : V × List ℕ) → AreBytes text
+        → within_frame format text ≡ Ok said → (text ≡ framed_in format said.0 said.1)
+        × AreBytes said.1
     framed_taken text said fits e =
         let is = has_passed text said e in
         let before = before_digest text in
         let body = inner text in
         let place = length text - digest_bytes in
-        let size : length body ≡ place - head_bytes = omega (arith, is.1.long, length-drop head_bytes before, length-take place text) in
+        let size : length body ≡ place - head_bytes =
+        omega (arith, is.1.long, length-drop head_bytes before, length-take place text) in
         let whole : length text ≡ whole_of body = omega (arith, is.1.long, size) in
-        let head : take head_bytes before ≡ head_in format is.0 (whole_of body) = take-take head_bytes place text (omega (arith, is.1.long)) ∙ head_is is.0 text fits is.1 ∙ ap (head_in format is.0) whole in
-        let front : before ≡ head_in format is.0 (whole_of body) ++ body = sym (take-append-drop head_bytes before) ∙ ap (λ (l : List ℕ). l ++ body) head in
-        let parts : text ≡ digested_text before = sym (take-append-drop place text) ∙ ap (λ (l : List ℕ). before ++ l) (sym is.1.digest) in
-        subst (λ (s : V × List ℕ). (text ≡ framed_in format s.0 s.1) × AreBytes s.1) is.2 (parts ∙ ap digested_text front, fits_behind before (AreBytes-take place text fits) head_bytes)
+        let head : take head_bytes before ≡ head_in format is.0 (whole_of body) =
+        take-take head_bytes place text (omega (arith, is.1.long)) ∙ head_is is.0 text fits is.1
+        ∙ ap (head_in format is.0) whole in
+        let front : before ≡ head_in format is.0 (whole_of body) ++ body =
+        sym (take-append-drop head_bytes before) ∙ ap (λ (l : List ℕ). l ++ body) head in
+        let parts : text ≡ digested_text before =
+        sym (take-append-drop place text)
+        ∙ ap (λ (l : List ℕ). before ++ l) (sym is.1.digest) in
+        subst (λ (s : V × List ℕ). (text ≡ framed_in format s.0 s.1) × AreBytes s.1) is.2 (
+          parts ∙ ap digested_text front,
+          fits_behind before (AreBytes-take place text fits) head_bytes,
+        )
 
     -- if bytes begin with a head and are long enough for a digest too, but are shorter than the
     -- size that the head states, they are refused because of their size
-    other_length : (version : V) (whole : ℕ) (rest : List ℕ) → whole < 2 ^ 32 → (let text = head_in format version whole ++ rest in head_bytes + digest_bytes ≤ length text → length text < whole → within_frame format text ≡ Err format.whole)
+    other_length : (version : V) (whole : ℕ) (rest : List ℕ) → whole < 2 ^ 32
+        → (let text = head_in format version whole ++ rest in head_bytes + digest_bytes
+        ≤ length text → length text < whole → within_frame format text ≡ Err format.whole)
     unfolding within_frame
     other_length version whole rest small long less =
         let text = head_in format version whole ++ rest in
         let not_short = le-ltb (length text) (head_bytes + digest_bytes) long in
-        let word : bytes_eq (take 4 text) (word_of format.letter) ≡ true = (bytes_eq-Decides (take 4 text) (word_of format.letter)).1 refl in
-        let other : (length_of text == length text) ≡ false = ne_eqb (length_of text) (length text) (λ same. absurd (omega (arith, less, same, length_said version whole rest small))) in
+        let word : bytes_eq (take 4 text) (word_of format.letter) ≡ true =
+        (bytes_eq-Decides (take 4 text) (word_of format.letter)).1 refl in
+        let other : (length_of text == length text) ≡ false =
+        ne_eqb (length_of text) (length text)
+        (λ same. absurd (omega (arith, less, same, length_said version whole rest small))) in
         rw (not_short, word, version_said version whole rest, other) refl
 
-    pub cut_behind : (version : V) (body : List ℕ) (n : ℕ) → whole_of body < 2 ^ 32 → head_bytes + digest_bytes ≤ n → n < whole_of body → within_frame format (take n (framed_in format version body)) ≡ Err format.whole
+    pub cut_behind : (version : V) (body : List ℕ) (n : ℕ) → whole_of body < 2 ^ 32
+        → head_bytes + digest_bytes ≤ n → n < whole_of body
+        → within_frame format (take n (framed_in format version body)) ≡ Err format.whole
     cut_behind version body n small long less =
         let head = head_in format version (whole_of body) in
         let behind = body ++ hash_of Sha256 (head ++ body) in
         let left = take (n - head_bytes) behind in
         let parts : take n (framed_in format version body) ≡ head ++ left =
         ap (take n) (append_assoc head body (hash_of Sha256 (head ++ body)))
-        ∙ ap (λ m. take m (head ++ behind)) (let same : n ≡ head_bytes + (n - head_bytes) = omega (arith, long) in same)
+        ∙ ap (λ m. take m (head ++ behind)) (let same : n ≡ head_bytes + (n - head_bytes) =
+        omega (arith, long) in same)
         ∙ take-append-add head behind (n - head_bytes) in
         let size : length (head ++ left) ≡ n =
-        ap length (sym parts) ∙ length-take-le n (framed_in format version body) (omega (arith, less, length-framed version body)) in
-        ap (within_frame format) parts ∙ other_length version (whole_of body) left small (omega (arith, size, long)) (omega (arith, size, less))
+        ap length (sym parts) ∙ length-take-le n (framed_in format version body)
+        (omega (arith, less, length-framed version body)) in
+        ap (within_frame format) parts
+        ∙ other_length version (whole_of body) left small (omega (arith, size, long))
+        (omega (arith, size, less))

@@ -41,7 +41,8 @@ digest_small : (alg : HashAlg) → digest_size alg ≤ nv_data_limit
 digest_small Sha1 = omega arith
 digest_small Sha256 = omega arith
 
-type_size_small : (p : NvPublic) (of : Option NvType) → is_type_size p of ≡ true → p.data_size ≤ nv_data_limit
+type_size_small : (p : NvPublic) (of : Option NvType) → is_type_size p of ≡ true
+    → p.data_size ≤ nv_data_limit
 type_size_small p (Some type.Ordinary) is = leb-true _ _ is
 type_size_small p (Some type.Counter) is = omega (arith, eqb-true _ _ is)
 type_size_small p (Some type.Bits) is = omega (arith, eqb-true _ _ is)
@@ -82,9 +83,12 @@ fields_spelled : Spelled text_of HasFields fields_of_index_in
 unfolding index_text
 fields_spelled =
     let bytes = buffer_in_spelled nv_data_limit (omega arith) in
-    let fields = first (in_body_spelled sized_nv_public_spelled) (then auth_value_spelled (then bytes (all_read fields_of index_of (λ _. refl) (λ _. refl)))) in
+    let fields = first (in_body_spelled sized_nv_public_spelled)
+    (then auth_value_spelled
+    (then bytes (all_read fields_of index_of (λ _. refl) (λ _. refl)))) in
     respelled fields
-    (λ index. three_texts (sized_text (nv_public_text index.public)) (sized_text index.auth_value) (sized_text index.bytes))
+    (λ index. three_texts (sized_text (nv_public_text index.public)) (sized_text index.auth_value)
+    (sized_text index.bytes))
     (λ index is. record { public = is.0; auth_value = is.1.0; bytes = is.1.1.0 })
     (λ index is. (is.public, (is.auth_value, (is.bytes, tt))))
 
@@ -92,17 +96,33 @@ pub index_spelled : Spelled index_text (λ e. IsIndex e.0 e.1) index_in
 unfolding index_in index_text
 index_spelled = made_of keyed (λ e. e.1) to from (passing_spelled is_index fields_spelled)
   where
-    to : (index : NvIndex) → HasFields index × (is_index index ≡ true) → (index ≡ index) × IsIndex index.public.nv_index.number index
+    to : (index : NvIndex) → HasFields index × (is_index index ≡ true)
+        → (index ≡ index) × IsIndex index.public.nv_index.number index
     to index is =
-        let tests = are_both (has_type_size index.public) (length index.bytes == data_size index.public) is.1 in
-        (refl, record { named = refl; public = is.0.public; sized = tests.0; auth_value = is.0.auth_value; data_size = eqb-true _ _ tests.1 })
+        let tests = are_both (has_type_size index.public)
+        (length index.bytes == data_size index.public) is.1 in (
+          refl,
+          record {
+            named = refl;
+            public = is.0.public;
+            sized = tests.0;
+            auth_value =
+                is.0.auth_value;
+            data_size = eqb-true _ _ tests.1;
+          },
+        )
 
-    from : (e : ℕ × NvIndex) → IsIndex e.0 e.1 → (keyed e.1 ≡ e) × (HasFields e.1 × (is_index e.1 ≡ true))
+    from : (e : ℕ × NvIndex) → IsIndex e.0 e.1
+        → (keyed e.1 ≡ e) × (HasFields e.1 × (is_index e.1 ≡ true))
     from e is =
         let small = type_size_small e.1.public (index_type e.1.public.attributes) is.sized in
-        let few : length e.1.bytes ≤ nv_data_limit = omega (arith, small, is.data_size, data_within e.1.public) in
-        let tests = both (has_type_size e.1.public) (length e.1.bytes == data_size e.1.public) is.sized ((Decides-eqb _ _).1 is.data_size) in
-        (ap (λ (key : ℕ). (key, e.1)) (sym is.named), (record { public = is.public; auth_value = is.auth_value; bytes = few }, tests))
+        let few : length e.1.bytes ≤ nv_data_limit =
+        omega (arith, small, is.data_size, data_within e.1.public) in
+        let tests = both (has_type_size e.1.public) (length e.1.bytes == data_size e.1.public)
+        is.sized ((Decides-eqb _ _).1 is.data_size) in (
+          ap (λ (key : ℕ). (key, e.1)) (sym is.named),
+          (record { public = is.public; auth_value = is.auth_value; bytes = few }, tests),
+        )
 
 -- ---- all NV indices
 
@@ -121,23 +141,43 @@ are_each-again : (es : Entries NvIndex) → AreIndices es → AllByRecursion (λ
 are_each-again [] each = tt
 are_each-again (e ∷ es) each = (each.0, are_each-again es each.1)
 
-pub indices_spelled : (version : Version) → Spelled indices_text (AreStored version) (indices_in version)
+pub indices_spelled : (version : Version)
+    → Spelled indices_text (AreStored version) (indices_in version)
 unfolding indices_in indices_text
 indices_spelled version =
-    respelled (passing_spelled (have_space (space_limit version)) (passing_spelled (ascend_from 0) (counted_spelled (index_limit version) (omega (arith, indices_within version)) index_spelled))) (λ _. refl)
-    (λ es is. record { ascends = ascends 0 es is.0.1; few = is.0.0.0; small = leb-true _ _ is.1; each = are_each es is.0.0.1 })
-    (λ es are. (((are.few, are_each-again es are.each), ascends-again es are.ascends), le-leb _ _ are.small))
+    respelled (passing_spelled (have_space (space_limit version))
+    (passing_spelled (ascend_from 0)
+    (counted_spelled (index_limit version) (omega (arith, indices_within version))
+    index_spelled))) (λ _. refl)
+    (λ es is. record {
+      ascends = ascends 0 es is.0.1;
+      few = is.0.0.0;
+      small =
+          leb-true _ _ is.1;
+      each = are_each es is.0.0.1;
+    })
+    (λ es are. (
+      ((are.few, are_each-again es are.each), ascends-again es are.ascends),
+      le-leb _ _ are.small,
+    ))
 
 -- ---- the largest size of the encoded indices
 
 nv_public_short : (p : NvPublic) → IsNvPublic p → length (nv_public_text p) ≤ 46
 unfolding nv_public_text
 nv_public_short p is =
-    let front = nv_index_text p.nv_index ++ to_be_bytes w16 (hash_number p.name_alg) ++ nv_attributes_text p.attributes in
+    let front = nv_index_text p.nv_index ++ to_be_bytes w16 (hash_number p.name_alg)
+    ++ nv_attributes_text p.attributes in
     let policy = front ++ sized_text p.auth_policy in
-    omega (arith, is.auth_policy, length-append front (sized_text p.auth_policy), length-append policy (to_be_bytes w16 p.data_size))
+    omega (
+      arith,
+      is.auth_policy,
+      length-append front (sized_text p.auth_policy),
+      length-append policy (to_be_bytes w16 p.data_size),
+    )
 
-pub index_small : (e : ℕ × NvIndex) → IsIndex e.0 e.1 → length (index_text e) ≤ 84 + e.1.public.data_size
+pub index_small : (e : ℕ × NvIndex) → IsIndex e.0 e.1
+    → length (index_text e) ≤ 84 + e.1.public.data_size
 unfolding index_text
 index_small e is =
     let public = sized_text (nv_public_text e.1.public) in
@@ -151,10 +191,26 @@ index_small e is =
       length-append (public ++ sized_text e.1.auth_value) (sized_text e.1.bytes),
     )
 
-all_small : (es : Entries NvIndex) → AreIndices es → length (flat_map index_text es) ≤ 84 * length es + bytes_of es
+all_small : (es : Entries NvIndex) → AreIndices es
+    → length (flat_map index_text es) ≤ 84 * length es + bytes_of es
 all_small [] each = omega arith
-all_small (e ∷ es) each = omega (arith, index_small e each.0, all_small es each.1, length-append (index_text e) (flat_map index_text es), sum_by-cons (λ (d : ℕ × NvIndex). d.1.public.data_size) e es)
+all_small (e ∷ es) each =
+    omega (
+      arith,
+      index_small e each.0,
+      all_small es each.1,
+      length-append (index_text e) (flat_map index_text es),
+      sum_by-cons (λ (d : ℕ × NvIndex). d.1.public.data_size) e es,
+    )
 
-pub indices_small : (es : Entries NvIndex) → AreStored Two es → length (indices_text es) ≤ indices_size
+pub indices_small : (es : Entries NvIndex) → AreStored Two es
+    → length (indices_text es) ≤ indices_size
 unfolding indices_text
-indices_small es are = omega (arith, are.few, are.small, all_small es are.each, length-append (to_be_bytes w16 (length es)) (flat_map index_text es))
+indices_small es are =
+    omega (
+      arith,
+      are.few,
+      are.small,
+      all_small es are.each,
+      length-append (to_be_bytes w16 (length es)) (flat_map index_text es),
+    )

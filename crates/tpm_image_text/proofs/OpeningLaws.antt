@@ -21,9 +21,15 @@ use Rattle.tpm_image_text.specs.declared.version.Version.{Version}
 frame_fits : (text : List ℕ) → framed_body text ≡ Err fault.NoMemory → ⊥
 unfolding within_frame
 frame_fits text is =
-    by (nat_lt (length text) 42) (not (bytes_eq (take 4 text) (word_of 0x49))) (version_numbered (number_of text)) (not (length_of text == length text)) (not (bytes_eq (hash_of Sha256 (before_digest text)) (digest_of text))) _ is
+    by (nat_lt (length text) 42) (not (bytes_eq (take 4 text) (word_of 0x49)))
+    (version_numbered (number_of text)) (not (length_of text == length text))
+    (not (bytes_eq (hash_of Sha256 (before_digest text)) (digest_of text))) _ is
   where
-    by : (a b : Bool) (c : Option Version) (d e : Bool) (body : List ℕ) → (refused_if a fault.Short >>= λ long. refused_if b fault.Magic >>= λ word. ok_or c fault.Version >>= λ version. refused_if d fault.Length >>= λ whole. refused_if e fault.Digest >>= λ digest. let said : Version × List ℕ = (version, body) in Ok said) ≡ Err fault.NoMemory → ⊥
+    by : (a b : Bool) (c : Option Version) (d e : Bool) (body : List ℕ)
+        → (refused_if a fault.Short >>= λ long. refused_if b fault.Magic
+        >>= λ word. ok_or c fault.Version >>= λ version. refused_if d fault.Length
+        >>= λ whole. refused_if e fault.Digest >>= λ digest. let said : Version × List ℕ =
+        (version, body) in Ok said) ≡ Err fault.NoMemory → ⊥
     by true b c d e body is = absurd cc
     by false true c d e body is = absurd cc
     by false false None d e body is = absurd cc
@@ -32,14 +38,18 @@ frame_fits text is =
     by false false (Some version) false false body is = absurd cc
 
 module _ {M : Type 0} (record_of : M → Record) (can : Bool) where
-  pub unframed : (text : List ℕ) (f : ImageFault) → framed_body text ≡ Err f → Opens record_of can text (Err f)
+  pub unframed : (text : List ℕ) (f : ImageFault) → framed_body text ≡ Err f
+      → Opens record_of can text (Err f)
   unframed text fault.NoMemory is = absurd (frame_fits text is)
   unframed text f is = rw is refl
 
 -- if the body in a frame encodes a state, the framed bytes are an image
-pub is_image : (text : List ℕ) (version : Version) (body : List ℕ) → framed_body text ≡ Ok (version, body) → is_ok (body_of version body) ≡ true → (kept : NonVolatile) × (image_of text ≡ Ok kept)
+pub is_image : (text : List ℕ) (version : Version) (body : List ℕ)
+    → framed_body text ≡ Ok (version, body) → is_ok (body_of version body) ≡ true
+    → (kept : NonVolatile) × (image_of text ≡ Ok kept)
 is_image text version body framed ok = rw framed (by (body_of version body) ok)
   where
-    by : (r : Result NonVolatile Malformed) → is_ok r ≡ true → (kept : NonVolatile) × (or_fault r fault.Body ≡ Ok kept)
+    by : (r : Result NonVolatile Malformed) → is_ok r ≡ true
+        → (kept : NonVolatile) × (or_fault r fault.Body ≡ Ok kept)
     by (Ok kept) is = (kept, refl)
     by (Err f) is = absurd cc

@@ -11,10 +11,23 @@ use Rattle.tpm_image_text.specs.Filling.{with_state}
 use Rattle.tpm_image_text.specs.NonVolatile.{KeptState, powered_on}
 use Rattle.tpm_image_text.specs.declared.version.Version.{Version}
 
-pub powered : (r : Record) (old new : Fixed) (state : KeptState) (persistent : Entries Object) (nv : NvContents) → r ≡ manufactured (replicate 256 0) → old ≡ r.fixed → new ≡ with_state old state → nv.max_count ≡ state.max_count → record r { fixed = new; persistent = persistent; nv = nv } ≡ powered_on (record { state = state; persistent = persistent; indices = nv.indices })
+pub powered : (r : Record) (old new : Fixed) (state : KeptState) (persistent : Entries Object)
+    (nv : NvContents) → r ≡ manufactured (replicate 256 0) → old ≡ r.fixed
+    → new ≡ with_state old state → nv.max_count ≡ state.max_count
+    → record r { fixed = new; persistent = persistent; nv = nv }
+    ≡ powered_on (record { state = state; persistent = persistent; indices = nv.indices })
 powered r old new state persistent nv made is restored count = rw (restored, is, made, ← count) refl
 
 -- decoding the parts of the non-volatile state one after another yields the whole state
-pub kept_read : (version : Version) (text behind_limits behind_state behind_objects behind_indices : List ℕ) (state : KeptState) (persistent : Entries Object) (indices : Entries NvIndex) → limits_in version text ≡ Ok (tt, behind_limits) → state_in behind_limits ≡ Ok (state, behind_state) → objects_in behind_state ≡ Ok (persistent, behind_objects) → indices_in version behind_objects ≡ Ok (indices, behind_indices) → kept_in version text ≡ Ok (record { state = state; persistent = persistent; indices = indices }, behind_indices)
+pub kept_read : (version : Version)
+    (text behind_limits behind_state behind_objects behind_indices : List ℕ) (state : KeptState)
+    (persistent : Entries Object) (indices : Entries NvIndex)
+    → limits_in version text ≡ Ok (tt, behind_limits)
+    → state_in behind_limits ≡ Ok (state, behind_state)
+    → objects_in behind_state ≡ Ok (persistent, behind_objects)
+    → indices_in version behind_objects ≡ Ok (indices, behind_indices)
+    → kept_in version text
+    ≡ Ok (record { state = state; persistent = persistent; indices = indices }, behind_indices)
 unfolding kept_in
-kept_read version text behind_limits behind_state behind_objects behind_indices state persistent indices front first second third = rw (front, first, second, third) refl
+kept_read version text behind_limits behind_state behind_objects behind_indices state persistent
+    indices front first second third = rw (front, first, second, third) refl

@@ -20,13 +20,17 @@ use Rattle.tpm_image_text.proofs.ImageLaws.{front_cut, image_again, image_small,
 pub record_image : (r : Record) → IsRecord r → IsImage Two (kept_of r) (image_text Two (kept_of r))
 record_image r is = (within_device (kept_of r) (kept_is r is), refl)
 
-pub record_again : (version : Version) (r : Record) → IsRecord r → IsWithin version (kept_of r) → image_of (image_text version (kept_of r)) ≡ Ok (kept_of r)
+pub record_again : (version : Version) (r : Record) → IsRecord r → IsWithin version (kept_of r)
+    → image_of (image_text version (kept_of r)) ≡ Ok (kept_of r)
 record_again version r is within = image_again version (kept_of r) (kept_is r is) within
 
-pub record_small : (version : Version) (r : Record) → IsRecord r → length (image_text version (kept_of r)) ≤ image_size
+pub record_small : (version : Version) (r : Record) → IsRecord r
+    → length (image_text version (kept_of r)) ≤ image_size
 record_small version r is = image_small version (kept_of r) (kept_is r is)
 
-pub record_cut : (version : Version) (r : Record) (n : ℕ) → IsRecord r → 42 ≤ n → n < length (image_text version (kept_of r)) → image_of (take n (image_text version (kept_of r))) ≡ Err fault.Length
+pub record_cut : (version : Version) (r : Record) (n : ℕ) → IsRecord r → 42 ≤ n
+    → n < length (image_text version (kept_of r))
+    → image_of (take n (image_text version (kept_of r))) ≡ Err fault.Length
 record_cut version r n is long less = front_cut version (kept_of r) n (kept_is r is) long less
 
 -- ---- the non-volatile state without Clock
@@ -47,7 +51,8 @@ without_clock r is =
       nv = kept.nv;
     }
 
-pub kept_alike : (r s : Record) → IsRecord r → IsRecord s → kept_text r ≡ kept_text s → kept_but_clock r ≡ kept_but_clock s
+pub kept_alike : (r s : Record) → IsRecord r → IsRecord s → kept_text r ≡ kept_text s
+    → kept_but_clock r ≡ kept_but_clock s
 kept_alike r s is are same =
     ok_is {E = Malformed} (kept_but_clock r) (kept_but_clock s)
     (sym (again r is) ∙ ap (body_of Two) same ∙ again s are)
@@ -59,14 +64,19 @@ kept_alike r s is are same =
 
 module _ {M : Type 0} (record_of : M → Record) (can : Bool) (text : List ℕ) where
   -- bytes that can be opened are an image of the opened device's non-volatile state
-  pub opened_found : (result : Result M ImageFault) → AreBytes text → Opens record_of can text result → IfOk result (λ machine. (version : Version) × (kept : NonVolatile) × IsNonVolatile kept × IsImage version kept text × (record_of machine ≡ powered_on kept))
+  pub opened_found : (result : Result M ImageFault) → AreBytes text
+      → Opens record_of can text result
+      → IfOk result (λ machine. (version : Version) × (kept : NonVolatile) × IsNonVolatile kept
+      × IsImage version kept text × (record_of machine ≡ powered_on kept))
   opened_found (Ok machine) fits opens =
       let t = image_taken text opens.0 fits opens.1 in
       (t.0, opens.0, t.1, t.2, opens.2)
   opened_found (Err f) fits opens = tt
 
   -- opening the image of a record yields the record after a power cycle, unless an allocation fails
-  pub opened_only : (version : Version) (r : Record) (result : Result M ImageFault) → IsRecord r → IsImage version (kept_of r) text → Opens record_of can text result → OpensAgain record_of can r result
+  pub opened_only : (version : Version) (r : Record) (result : Result M ImageFault) → IsRecord r
+      → IsImage version (kept_of r) text → Opens record_of can text result
+      → OpensAgain record_of can r result
   opened_only version r result is image opens = by result opens
     where
       told : image_of text ≡ Ok (kept_of r)
@@ -75,10 +85,12 @@ module _ {M : Type 0} (record_of : M → Record) (can : Bool) (text : List ℕ) 
       one : (kept : NonVolatile) → image_of text ≡ Ok kept → kept_of r ≡ kept
       one kept other = ok_is {E = ImageFault} (kept_of r) kept (sym told ∙ other)
 
-      never : (f : ImageFault) → (let done : Result NonVolatile ImageFault = Ok (kept_of r) in done ≡ Err f) → ⊥
+      never : (f : ImageFault)
+          → (let done : Result NonVolatile ImageFault = Ok (kept_of r) in done ≡ Err f) → ⊥
       never f e = absurd cc
 
-      by : (result : Result M ImageFault) → Opens record_of can text result → OpensAgain record_of can r result
+      by : (result : Result M ImageFault) → Opens record_of can text result
+          → OpensAgain record_of can r result
       by (Ok machine) opens = opens.2 ∙ ap powered_on (sym (one opens.0 opens.1))
       by (Err fault.NoMemory) opens = opens.0
       by (Err f) opens = absurd (never f (sym told ∙ opens))

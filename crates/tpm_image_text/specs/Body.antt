@@ -21,7 +21,7 @@ use Rattle.tpm_record.specs.Saved.{SavedState, Nothing, Clear, State}
 use Rattle.tpm_record.specs.declared.hierarchy.Hierarchies.{Hierarchies}
 use Rattle.tpm_record.specs.declared.hierarchy.Hierarchy.{Hierarchy}
 use Rattle.tpm_record.specs.declared.hierarchy.Secrets.{Secrets}
-use Rattle.tpm_types.specs.Handle.{hierarchy_handle, hierarchy_of, is_persistent, numbered}
+use Rattle.tpm_types.specs.Handle.{hierarchy_handle, hierarchy_of, is_persistent, numbered_handle}
 use Rattle.tpm_types.specs.declared.handle.Handle.{Handle}
 use Rattle.tpm_types.specs.declared.handle.HierarchyHandle.{HierarchyHandle}
 use Rattle.tpm_types_nv.specs.NvAttributes.{has}
@@ -33,7 +33,7 @@ use Rattle.tpm_types_object.specs.Public.{object_type, object_type_number, publi
 use Rattle.tpm_types_object.specs.Sensitive.{sensitive_at, sensitive_text}
 use Rattle.tpm_types_object.specs.declared.public.Public.{Public}
 use Rattle.tpm_types_object.specs.declared.sensitive.Sensitive.{Sensitive}
-use Rattle.tpm_image_text.specs.Fields.{auth_value_in, buffer_in, bytes_in, counted_in, counted_text, filling, in_body, is_trimmed, malformed, number_in, passing, yes_no_in, yes_no_text}
+use Rattle.tpm_image_text.specs.Fields.{auth_value_in, buffer_in, bytes_in, counted_in, counted_text, filling, in_body, is_trimmed, malformed_fault, number_in, passing, yes_no_in, yes_no_text}
 use Rattle.tpm_image_text.specs.NonVolatile.{KeptState, NonVolatile}
 use Rattle.tpm_image_text.specs.Version.{index_limit, space_limit}
 use Rattle.tpm_image_text.specs.declared.fault.Malformed.{Malformed}
@@ -58,7 +58,7 @@ limits_in One text = Ok (tt, text)
 limits_in Two text = do
   indices ← number_in w16 text
   space ← number_in w32 indices.1
-  same ← refused_if (not (are_limits_of Two indices.0 space.0)) malformed
+  same ← refused_if (not (are_limits_of Two indices.0 space.0)) malformed_fault
   Ok (tt, space.1)
 
 -- ---- the hierarchies
@@ -172,7 +172,7 @@ abbrev pub saved_by_kind : ℕ → List ℕ → Result (SavedState × List ℕ) 
 saved_by_kind kind text =
     if kind == 0 then Ok (Nothing, text)
     else (if kind == 1 then Ok (Clear, text)
-    else (if kind == 2 then saved_values_in text else Err malformed))
+    else (if kind == 2 then saved_values_in text else Err malformed_fault))
 
 unfoldable pub saved_in : List ℕ → Result (SavedState × List ℕ) Malformed
 saved_in text = do
@@ -206,14 +206,14 @@ object_text e = to_be_bytes w32 e.0 ++ object_fields_text e.1
 unfoldable pub handle_in : List ℕ → Result (Handle × List ℕ) Malformed
 handle_in text = do
   number ← number_in w32 text
-  named ← refused_if (not (is_persistent (numbered number.0))) malformed
-  Ok (numbered number.0, number.1)
+  named ← refused_if (not (is_persistent (numbered_handle number.0))) malformed_fault
+  Ok (numbered_handle number.0, number.1)
 
 -- decodes the hierarchy of an object
 unfoldable pub object_hierarchy_in : List ℕ → Result (HierarchyHandle × List ℕ) Malformed
 object_hierarchy_in text = do
   number ← number_in w32 text
-  hierarchy ← ok_or (hierarchy_of (numbered number.0)) malformed
+  hierarchy ← ok_or (hierarchy_of (numbered_handle number.0)) malformed_fault
   Ok (hierarchy, number.1)
 
 -- whether a sensitive area has the type of this public area, and an authorization value that does

@@ -11,14 +11,14 @@ use Rattle.tpm_types.specs.Buffer.{buffer_at}
 use Rattle.tpm_types.specs.YesNo.{yes_no_at}
 use Rattle.tpm_image_text.specs.declared.fault.Malformed.{Malformed}
 
-abbrev pub malformed : Malformed
-malformed = record {}
+abbrev pub malformed_fault : Malformed
+malformed_fault = record {}
 
--- decodes a field, and turns every fault into `malformed`
+-- decodes a field, and turns every fault into `malformed_fault`
 abbrev pub in_body : {X E : Type 0}
     → (List ℕ → Result (X × List ℕ) E)
     → List ℕ → Result (X × List ℕ) Malformed
-in_body at text = or_fault (at text) malformed
+in_body at text = or_fault (at text) malformed_fault
 
 -- decodes a value that must pass a test
 abbrev pub passing : {X : Type 0}
@@ -27,7 +27,7 @@ abbrev pub passing : {X : Type 0}
     → List ℕ → Result (X × List ℕ) Malformed
 passing test at text = do
   x ← at text
-  passed ← refused_if (not (test x.0)) malformed
+  passed ← refused_if (not (test x.0)) malformed_fault
   Ok x
 
 -- decodes a value that must take up all of the bytes
@@ -36,7 +36,7 @@ abbrev pub filling : {X : Type 0}
     → List ℕ → Result X Malformed
 filling at text = do
   x ← at text
-  ended ← refused_if (not (length x.1 == 0)) malformed
+  ended ← refused_if (not (length x.1 == 0)) malformed_fault
   Ok x.0
 
 -- ---- numbers, yes-or-no values, and bytes of a field
@@ -89,5 +89,5 @@ abbrev pub counted_in : {X : Type 0}
     → List ℕ → Result (List X × List ℕ) Malformed
 counted_in most at text = do
   count ← number_in w16 text
-  few ← refused_if (nat_lt most count.0) malformed
+  few ← refused_if (nat_lt most count.0) malformed_fault
   many_at at count.0 count.1

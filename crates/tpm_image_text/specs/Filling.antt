@@ -1,10 +1,10 @@
 -- The results of calls that decode the state of a device, and the state after them.
 use Rattle.std.specs.Prelude.{◌≡◌, ℕ, ◌+◌, ◌<◌, ◌≤◌, Bool, true, List, [], ◌∷◌, ◌++◌, Result, Ok, Err, IfOk}
 use Rattle.tpm_containers.specs.SortedMap.{Entries}
-use Rattle.tpm_lockout.specs.Lockout.{restored}
+use Rattle.tpm_lockout.specs.Lockout.{restored_lockout}
 use Rattle.tpm_record.specs.Record.{Record}
 use Rattle.tpm_record.specs.declared.fixed.Fixed.{Fixed}
-use Rattle.tpm_image_text.specs.Fields.{malformed}
+use Rattle.tpm_image_text.specs.Fields.{malformed_fault}
 use Rattle.tpm_image_text.specs.NonVolatile.{KeptState, NonVolatile, powered_on}
 use Rattle.tpm_image_text.specs.declared.fault.FillFault.{FillFault}
 use Rattle.tpm_image_text.specs.declared.fault.FillFault.TheVariants as unfilled
@@ -16,7 +16,7 @@ abbrev pub Fills : {X : Type 0}
     → Bool → Result (X × List ℕ) Malformed → X
     → Result (Unit {0}) FillFault → List ℕ → Type 0
 Fills can read filled (Ok done) rest = read ≡ Ok (filled, rest)
-Fills can read filled (Err unfilled.Malformed) rest = read ≡ Err malformed
+Fills can read filled (Err unfilled.Malformed) rest = read ≡ Err malformed_fault
 Fills can read filled (Err unfilled.NoMemory) rest = can ≡ true
 
 -- Every key of these entries is below this key.
@@ -43,7 +43,7 @@ with_state fixed state = record fixed {
   saved = state.saved;
   hierarchies = state.hierarchies;
   disable_clear = state.disable_clear;
-  lockout = restored state.lockout;
+  lockout = restored_lockout state.lockout;
   clock = state.clock;
   reset_count = state.reset_count;
   restart_count = state.restart_count;
@@ -64,7 +64,7 @@ Restores read old (Err fault) new rest = read ≡ Err fault
 abbrev pub PowersOn : Bool → Result NonVolatile Malformed → Result (Unit {0}) FillFault
     → Record → Type 0
 PowersOn can read (Ok done) new = (kept : NonVolatile) × (read ≡ Ok kept) × (new ≡ powered_on kept)
-PowersOn can read (Err unfilled.Malformed) new = read ≡ Err malformed
+PowersOn can read (Err unfilled.Malformed) new = read ≡ Err malformed_fault
 PowersOn can read (Err unfilled.NoMemory) new = can ≡ true
 
 -- On success, the record describes a device that was powered on with the non-volatile state at the
@@ -74,7 +74,7 @@ abbrev pub PowersOnFrom : Bool → Result (NonVolatile × List ℕ) Malformed
     → Result (Unit {0}) FillFault → Record → (rest : List ℕ) → Type 0
 PowersOnFrom can read (Ok done) new rest =
     (kept : NonVolatile) × (read ≡ Ok (kept, rest)) × (new ≡ powered_on kept)
-PowersOnFrom can read (Err unfilled.Malformed) new rest = read ≡ Err malformed
+PowersOnFrom can read (Err unfilled.Malformed) new rest = read ≡ Err malformed_fault
 PowersOnFrom can read (Err unfilled.NoMemory) new rest = can ≡ true
 
 -- On success, the result is the state of a device that was powered on with the encoded non-volatile
@@ -83,5 +83,5 @@ abbrev pub Filled : {K : Type 0} → (K → Record) → Bool → Result NonVolat
     → Result K FillFault → Type 0
 Filled record_of can read (Ok keep) =
     (kept : NonVolatile) × (read ≡ Ok kept) × (record_of keep ≡ powered_on kept)
-Filled record_of can read (Err unfilled.Malformed) = read ≡ Err malformed
+Filled record_of can read (Err unfilled.Malformed) = read ≡ Err malformed_fault
 Filled record_of can read (Err unfilled.NoMemory) = can ≡ true

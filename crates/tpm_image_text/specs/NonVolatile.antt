@@ -2,7 +2,7 @@
 -- and 37 (NV memory).
 use Rattle.std.specs.Prelude.{ℕ, ◌<◌, ◌^◌, Bool, false}
 use Rattle.tpm_containers.specs.SortedMap.{Entries}
-use Rattle.tpm_lockout.specs.Lockout.{IsLockout, restored}
+use Rattle.tpm_lockout.specs.Lockout.{IsLockout, restored_lockout}
 use Rattle.tpm_lockout.specs.declared.fields.LockoutFields.{LockoutFields}
 use Rattle.tpm_nv.specs.Index.{NvContents, NvIndex}
 use Rattle.tpm_nv.specs.IsContents.{IsContents}
@@ -63,7 +63,7 @@ powered_on kept = record {
     saved = kept.state.saved;
     hierarchies = kept.state.hierarchies;
     disable_clear = kept.state.disable_clear;
-    lockout = restored kept.state.lockout;
+    lockout = restored_lockout kept.state.lockout;
     banks = new_banks;
     time = 0;
     clock = kept.state.clock;
@@ -80,7 +80,7 @@ powered_on kept = record {
 -- every record.
 pub record IsKeptState (state : KeptState) : Type 0 where
   pub hierarchies : IsHierarchies state.hierarchies
-  pub lockout : IsLockout (restored state.lockout)
+  pub lockout : IsLockout (restored_lockout state.lockout)
   pub clock : state.clock < 2 ^ 64
   pub reset_count : state.reset_count < 2 ^ 32
   pub restart_count : state.restart_count < 2 ^ 32

@@ -1,6 +1,6 @@
 -- The results of opening an image.
 use Rattle.std.specs.Prelude.{◌≡◌, Bool, true, List, ℕ, Result, Ok, Err}
-use Rattle.tpm_record.specs.Cycle.{cycled}
+use Rattle.tpm_record.specs.Cycle.{after_cycle}
 use Rattle.tpm_record.specs.Record.{Record}
 use Rattle.tpm_image_text.specs.Image.{image_of}
 use Rattle.tpm_image_text.specs.NonVolatile.{NonVolatile, powered_on}
@@ -20,6 +20,6 @@ Opens record_of can text (Err fault) = image_of text ≡ Err fault
 -- Opening the image of a record resulted in the record after a power cycle, or an allocation
 -- failed.
 abbrev pub OpensAgain : {M : Type 0} → (M → Record) → Bool → Record → Result M ImageFault → Type 0
-OpensAgain record_of can r (Ok machine) = record_of machine ≡ cycled r
+OpensAgain record_of can r (Ok machine) = record_of machine ≡ after_cycle r
 OpensAgain record_of can r (Err NoMemory) = can ≡ true
 OpensAgain record_of can r (Err fault) = ⊥

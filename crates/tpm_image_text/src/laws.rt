@@ -8,7 +8,7 @@ ghost use Rattle.tpm_image_text.specs.NonVolatile.{kept_of, powered_on};
 ghost use Rattle.tpm_image_text.specs.declared.fault.ImageFault.TheVariants as fault;
 ghost use Rattle.tpm_image_text.specs.declared.version.Version.{Version};
 ghost use Rattle.tpm_image_text.specs.declared.version.Version.TheVariants.{Two};
-ghost use Rattle.tpm_record.specs.Cycle.{cycled};
+ghost use Rattle.tpm_record.specs.Cycle.{after_cycle};
 ghost use Rattle.tpm_record.specs.IsRecord.{IsRecord};
 ghost use Rattle.tpm_record.specs.Record.{Record};
 
@@ -25,7 +25,7 @@ pub fn image_laws()
         → image_of (image_text version (kept_of r)) ≡ Ok (kept_of r) }
     ensures small { (version : Version) (r : Record) → IsRecord r
         → length (image_text version (kept_of r)) ≤ image_size }
-    ensures cycled { (r : Record) → powered_on (kept_of r) ≡ cycled r }
+    ensures cycled { (r : Record) → powered_on (kept_of r) ≡ after_cycle r }
 {}
 
 /// If two records have the same `kept_text`, they have the same non-volatile state, except for

@@ -10,14 +10,14 @@ use Rattle.tpm_journal_text.specs.Entry.{IsEntry, PlainEntry}
 use Rattle.tpm_journal_text.specs.Head.{head_sum, head_text}
 use Rattle.tpm_journal_text.specs.Journal.{IsTorn, entries_text, sum_after_all}
 use Rattle.tpm_journal_text.specs.declared.head.HeadKind.TheVariants.{Image, State}
-use Rattle.tpm_record.specs.Cycle.{cycled}
+use Rattle.tpm_record.specs.Cycle.{after_cycle}
 use Rattle.tpm_record.specs.IsRecord.{IsRecord}
 use Rattle.tpm_record.specs.Record.{Record}
 use Rattle.tpm_state_text.specs.Body.{IsWholeState, WholeState}
 use Rattle.tpm_state_text.specs.State.{state_text}
 use Rattle.tpm_state_text.proofs.StateLaws.{current_told}
 use Rattle.tpm_snapshot.proofs.Layers.{layer_again}
-use Rattle.tpm_journal.specs.Checkpoint.{checkpointed, state_beside}
+use Rattle.tpm_journal.specs.Checkpoint.{checkpointed_journal, state_beside}
 use Rattle.tpm_journal.specs.Living.{Lives}
 use Rattle.tpm_journal.specs.Opening.{IsOpenedAgain, OpensJournal}
 use Rattle.tpm_journal.specs.Starting.{BeginsWith, start_by, start_by_image, start_by_state}
@@ -28,28 +28,52 @@ use Rattle.tpm_journal.specs.declared.opening.Opened.{Opened}
 use Rattle.tpm_journal.proofs.Again.{opened_again}
 use Rattle.tpm_journal.proofs.Ignoring.{lives_alike}
 
-pub image_starts : (clock : ℕ) (r : Record) → IsRecord r → start_by Image clock (image_text Two (kept_of r))
-    ≡ Ok (record { journal = journal_begun clock (image_text Two (kept_of r)); device = cycled r })
-image_starts clock r is = ap (start_by_image clock (image_text Two (kept_of r))) (record_again Two r is (record_image r is).0)
+pub image_starts : (clock : ℕ) (r : Record) → IsRecord r
+    → start_by Image clock (image_text Two (kept_of r))
+    ≡ Ok (record {
+      journal = journal_begun clock (image_text Two (kept_of r));
+      device =
+          after_cycle r;
+    })
+image_starts clock r is = ap (start_by_image clock (image_text Two (kept_of r)))
+    (record_again Two r is (record_image r is).0)
 
-pub state_starts : (clock : ℕ) (state : WholeState) → IsWholeState state → start_by State clock (state_text state)
-    ≡ Ok (record { journal = journal_resumed (head_sum clock (state_text state)) clock state.layer; device = state.device })
+pub state_starts : (clock : ℕ) (state : WholeState) → IsWholeState state
+    → start_by State clock (state_text state)
+    ≡ Ok (record {
+      journal = journal_resumed (head_sum clock (state_text state)) clock state.layer;
+      device = state.device;
+    })
 state_starts clock state is = ap (start_by_state clock (state_text state)) (current_told state is)
 
 -- ---- a checkpoint
 
 pub checkpoint_starts : (j : Journal) (clock : ℕ) (r : Record) → IsWholeState (state_beside j r)
-    → start_by State clock (state_text (state_beside j r)) ≡ Ok (record { journal = checkpointed j clock r; device = r })
+    → start_by State clock (state_text (state_beside j r))
+    ≡ Ok (record { journal = checkpointed_journal j clock r; device = r })
 checkpoint_starts j clock r is =
     state_starts clock (state_beside j r) is
-    ∙ ap (λ (c : Completion). Ok (record { journal = record (checkpointed j clock r) { layer = c }; device = r })) (layer_again j.layer)
+    ∙ ap (λ (c : Completion).
+    Ok (record {
+      journal = record (checkpointed_journal j clock r) { layer = c };
+      device =
+          r;
+    })) (layer_again j.layer)
 
-pub checkpoint_opened : (j : Journal) (clock : ℕ) (r : Record) (entries : List PlainEntry) (rest : List ℕ) (layer : Completion) (final : Record)
+pub checkpoint_opened : (j : Journal) (clock : ℕ) (r : Record) (entries : List PlainEntry)
+    (rest : List ℕ) (layer : Completion) (final : Record)
     (text : List ℕ) → IsWholeState (state_beside j r)
-    → BeginsWith text State clock (state_text (state_beside j r)) (entries_text (checkpointed j clock r).sum entries ++ rest)
-    → AllByRecursion IsEntry entries → IsTorn (sum_after_all (checkpointed j clock r).sum entries) rest → Lives j.layer r entries layer final
+    → BeginsWith text State clock (state_text (state_beside j r))
+    (entries_text (checkpointed_journal j clock r).sum entries ++ rest)
+    → AllByRecursion IsEntry entries
+    → IsTorn (sum_after_all (checkpointed_journal j clock r).sum entries) rest
+    → Lives j.layer r entries layer final
     → (result : Result Opened OpenFault) (new : Record) → OpensJournal text result new
-    → IsOpenedAgain (head_text State clock (state_text (state_beside j r))) (checkpointed j clock r) entries layer final result new
+    → IsOpenedAgain (head_text State clock (state_text (state_beside j r)))
+    (checkpointed_journal j clock r) entries layer final result new
 checkpoint_opened j clock r entries rest layer final text is begins are torn lives =
-    opened_again State clock (state_text (state_beside j r)) (record { journal = checkpointed j clock r; device = r }) entries rest layer final text
-    (checkpoint_starts j clock r is) begins are torn (lives_alike j.layer r entries layer final lives)
+    opened_again State clock (state_text (state_beside j r))
+    (record { journal = checkpointed_journal j clock r; device = r }) entries rest layer final
+    text
+    (checkpoint_starts j clock r is) begins are torn
+    (lives_alike j.layer r entries layer final lives)

@@ -14,8 +14,8 @@ state_beside journal device = record { device = device; layer = Some (layer_of j
 
 -- the journal after a checkpoint: its checksum is the checksum of the new head, its time is the
 -- clock in this head, and its layer is unchanged
-abbrev pub checkpointed : Journal → (clock : ℕ) → Record → Journal
-checkpointed journal clock device = record journal {
+abbrev pub checkpointed_journal : Journal → (clock : ℕ) → Record → Journal
+checkpointed_journal journal clock device = record journal {
   sum = head_sum clock (state_text (state_beside journal device));
   time = clock;
 }

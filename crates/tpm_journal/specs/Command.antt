@@ -17,8 +17,8 @@ pub record Command : Type 0 where
   pub completes : Bool
   pub random : List ℕ
 
-abbrev pub given : Command → PlainEvent
-given c = Given c.buffer c.locality c.elapsed c.random
+abbrev pub command_event : Command → PlainEvent
+command_event c = Given c.buffer c.locality c.elapsed c.random
 
 -- the elapsed time of a command: the host's clock minus the time of the journal, limited to 0 ..
 -- 2^32 - 1
@@ -40,7 +40,7 @@ command_at buffer locality elapsed completes random = record {
 -- Executing the command on the record `old` has the effect `seen`. The command says whether the
 -- completing layer takes part.
 abbrev pub Executed : (can : Bool) → Completion → Record → Command → Seen → Type 0
-Executed can layer old c seen = CompletesIf can c.completes layer old (given c) seen
+Executed can layer old c seen = CompletesIf can c.completes layer old (command_event c) seen
 
 -- the entry that records a command and its effect; the entry contains only the random bytes that
 -- the command drew

@@ -7,7 +7,7 @@
 
 ghost use Rattle.std.specs.Prelude.{◌≡◌, ℕ, Bool, false, IfOk, List, Ok, take};
 ghost use Rattle.tpm_record.specs.rows.Request.{Request};
-ghost use Rattle.tpm_journal.specs.draw_laws.Bytes.{ActsAlike, AgreeOnDrawn, replayed, with_random};
+ghost use Rattle.tpm_journal.specs.draw_laws.Bytes.{ActsAlike, AgreeOnDrawn, replayed_event, with_random};
 ghost use Rattle.tpm_machine.specs.Drawn.{drawn_by};
 ghost use Rattle.tpm_record.specs.Record.{Record};
 ghost use Rattle.tpm_step.specs.step.Events.{Given, PlainEvent};
@@ -70,8 +70,8 @@ pub fn execution_laws()
 #[tactic(auto, using(crate::proofs::draw_laws::Executions::replays, crate::proofs::draw_laws::Executions::replay_draws))]
 pub fn replay_laws()
     ensures executes { (r : Record) (event : PlainEvent) (x : Stepped)
-        → Executes false r event x → Executes false r (replayed r event x.row.check) x }
+        → Executes false r event x → Executes false r (replayed_event r event x.row.check) x }
     ensures drawn { (r : Record) (event : PlainEvent) (x : Stepped) → Executes false r event x
-        → drawn_by r (replayed r event x.row.check) x.row.check
+        → drawn_by r (replayed_event r event x.row.check) x.row.check
         ≡ drawn_by r event x.row.check }
 {}

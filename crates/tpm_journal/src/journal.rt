@@ -7,7 +7,7 @@ ghost use Rattle.tpm_image_text.specs.Image.{image_text};
 ghost use Rattle.tpm_image_text.specs.NonVolatile.{kept_of};
 ghost use Rattle.tpm_image_text.specs.Saving.{PutsFront};
 ghost use Rattle.tpm_image_text.specs.declared.version.Version.TheVariants.{Two};
-ghost use Rattle.tpm_journal.specs.Checkpoint.{checkpointed, state_beside};
+ghost use Rattle.tpm_journal.specs.Checkpoint.{checkpointed_journal, state_beside};
 ghost use Rattle.tpm_journal.specs.Command.{Executed, command_at, elapsed_of, entry_of};
 ghost use Rattle.tpm_journal.specs.Starting.{start_by};
 ghost use Rattle.tpm_journal.specs.State.{journal_after, journal_begun, journal_of, journal_resumed, layer_in};
@@ -15,7 +15,7 @@ ghost use Rattle.tpm_journal_text.specs.Entry.{IsEntry, entry_text};
 ghost use Rattle.tpm_journal_text.specs.Head.{content_limit, head_sum, head_text};
 ghost use Rattle.tpm_journal_text.specs.declared.head.HeadKind.TheVariants.{Image, State};
 ghost use Rattle.tpm_machine.specs.State.{state_of};
-ghost use Rattle.tpm_record.specs.Cycle.{cycled};
+ghost use Rattle.tpm_record.specs.Cycle.{after_cycle};
 ghost use Rattle.tpm_record.specs.IsRecord.{IsRecord};
 ghost use Rattle.tpm_state_text.specs.Filling.{state_of as whole_state};
 ghost use Rattle.tpm_state_text.specs.State.{state_text};
@@ -83,7 +83,7 @@ impl Journal {
         buffer: &mut [u8],
     ) -> usize
         ensures head { PutsFront (head_text Image now_ms
-            (image_text Two (kept_of (cycled (state_of K.record_of machine.old)))))
+            (image_text Two (kept_of (after_cycle (state_of K.record_of machine.old)))))
             buffer.old result buffer.new }
         ensures executes { result ≤ length buffer.old → Executes K.can_refuse
             (state_of K.record_of machine.old) Cycled
@@ -92,7 +92,7 @@ impl Journal {
             (state_of K.record_of machine.old) Cycled
             (outcome_step (state_of K.record_of machine.new) outcome.new) }
         ensures journal { result ≤ length buffer.old → self.new ≡ journal_begun now_ms
-            (image_text Two (kept_of (cycled (state_of K.record_of machine.old)))) }
+            (image_text Two (kept_of (after_cycle (state_of K.record_of machine.old)))) }
         ensures no_room { length buffer.old < result
             → state_of K.record_of machine.new ≡ state_of K.record_of machine.old }
         ensures no_journal { length buffer.old < result → self.new ≡ self.old }
@@ -121,7 +121,7 @@ impl Journal {
             (state_text (state_beside self.old (state_of K.record_of machine.now))))
             buffer.old result buffer.new }
         ensures journal { result ≤ length buffer.old
-            → self.new ≡ checkpointed self.old clock_ms (state_of K.record_of machine.now) }
+            → self.new ≡ checkpointed_journal self.old clock_ms (state_of K.record_of machine.now) }
         ensures no_journal { length buffer.old < result → self.new ≡ self.old }
         // Opening the written head yields this device and the new state of this journal.
         ensures starts { result ≤ length buffer.old → start_by State clock_ms

@@ -9,7 +9,7 @@ ghost use Rattle.tpm_machine.specs.History.{History};
 ghost use Rattle.tpm_image_text.specs.Image.{image_text};
 ghost use Rattle.tpm_image_text.specs.NonVolatile.{kept_of};
 ghost use Rattle.tpm_image_text.specs.declared.version.Version.TheVariants.{Two};
-ghost use Rattle.tpm_journal.specs.Checkpoint.{checkpointed, state_beside};
+ghost use Rattle.tpm_journal.specs.Checkpoint.{checkpointed_journal, state_beside};
 ghost use Rattle.tpm_journal.specs.Living.{Answers, Lives};
 ghost use Rattle.tpm_journal.specs.Opening.{IsOpenedAgain, OpensJournal};
 ghost use Rattle.tpm_journal.specs.Replay.{IsFollowedWhole, Repeats, Replays, run_of_all};
@@ -25,7 +25,7 @@ ghost use Rattle.tpm_journal_text.specs.Head.{head_sum, head_text};
 ghost use Rattle.tpm_journal_text.specs.Journal.{IsTorn, entries_text, sum_after_all};
 ghost use Rattle.tpm_journal_text.specs.declared.head.HeadKind.{HeadKind};
 ghost use Rattle.tpm_journal_text.specs.declared.head.HeadKind.TheVariants.{Image, State};
-ghost use Rattle.tpm_record.specs.Cycle.{cycled};
+ghost use Rattle.tpm_record.specs.Cycle.{after_cycle};
 ghost use Rattle.tpm_record.specs.IsRecord.{IsRecord};
 ghost use Rattle.tpm_record.specs.Record.{Record};
 ghost use Rattle.tpm_state_text.specs.Body.{IsWholeState, WholeState};
@@ -63,7 +63,7 @@ pub fn starting_laws()
     ensures image { (clock : ℕ) (r : Record) → IsRecord r
         → start_by Image clock (image_text Two (kept_of r)) ≡ Ok (record {
           journal = journal_begun clock (image_text Two (kept_of r));
-          device = cycled r;
+          device = after_cycle r;
         }) }
     ensures state { (clock : ℕ) (state : WholeState) → IsWholeState state
         → start_by State clock (state_text state) ≡ Ok (record {
@@ -72,7 +72,7 @@ pub fn starting_laws()
         }) }
     ensures checkpoint { (j : Journal) (clock : ℕ) (r : Record) → IsWholeState (state_beside j r)
         → start_by State clock (state_text (state_beside j r))
-        ≡ Ok (record { journal = checkpointed j clock r; device = r }) }
+        ≡ Ok (record { journal = checkpointed_journal j clock r; device = r }) }
 {}
 
 /// Suppose that the input consists of a head that starts a journal, entries, and perhaps an
@@ -102,13 +102,13 @@ pub fn checkpoint_laws()
     ensures { (j : Journal) (clock : ℕ) (r : Record) (entries : List PlainEntry) (rest : List ℕ)
         (layer : Completion) (final : Record) (text : List ℕ) → IsWholeState (state_beside j r)
         → BeginsWith text State clock (state_text (state_beside j r))
-        (entries_text (checkpointed j clock r).sum entries ++ rest)
+        (entries_text (checkpointed_journal j clock r).sum entries ++ rest)
         → AllByRecursion IsEntry entries
-        → IsTorn (sum_after_all (checkpointed j clock r).sum entries) rest
+        → IsTorn (sum_after_all (checkpointed_journal j clock r).sum entries) rest
         → Lives j.layer r entries layer final
         → (result : Result Opened OpenFault) (new : Record) → OpensJournal text result new
         → IsOpenedAgain (head_text State clock (state_text (state_beside j r)))
-        (checkpointed j clock r) entries layer final result new }
+        (checkpointed_journal j clock r) entries layer final result new }
 {}
 
 /// If a device executes entries again, everything that it accepts from them is added to the history

@@ -12,15 +12,18 @@ use Rattle.tpmsim_script.specs.Line.{lines_of}
 abbrev pub Unbroken : List ℕ → Type 0
 Unbroken text = AllByRecursion (λ byte. (byte == 10) ≡ false) text
 
-pub unbroken_joined : (front back : List ℕ) → Unbroken front → Unbroken back → Unbroken (front ++ back)
+pub unbroken_joined : (front back : List ℕ) → Unbroken front → Unbroken back
+    → Unbroken (front ++ back)
 unbroken_joined [] back f b = b
 unbroken_joined (byte ∷ front) back f b = (f.0, unbroken_joined front back f.1 b)
 
 -- The first line of a text ends before the first line feed.
-pub line_first : (line rest : List ℕ) → Unbroken line → lines_of (line ++ 10 ∷ rest) ≡ line ∷ lines_of rest
+pub line_first : (line rest : List ℕ) → Unbroken line
+    → lines_of (line ++ 10 ∷ rest) ≡ line ∷ lines_of rest
 line_first [] rest h = refl
 line_first (byte ∷ line) rest h =
-    ap (λ (b : Bool). cond b ([] ∷ lines_of (line ++ 10 ∷ rest)) (onto_first byte (lines_of (line ++ 10 ∷ rest)))) h.0
+    ap (λ (b : Bool). cond b ([] ∷ lines_of (line ++ 10 ∷ rest))
+    (onto_first byte (lines_of (line ++ 10 ∷ rest)))) h.0
     ∙ ap (onto_first byte) (line_first line rest h.1)
 
 digit_unbroken : (d : ℕ) → (slice_index lower_digits d == 10) ≡ false
@@ -30,7 +33,8 @@ digit_unbroken d = other (slice_index lower_digits d) (digit_is_no_feed d)
     digit_is_no_feed d e =
         elim (cases_lt d 16) [
           | inl small ↦
-              let some : Some d ≡ None = sym (IsDigits-lower_digits d small) ∙ ap hex_digit_value e in
+              let some : Some d ≡ None = sym (IsDigits-lower_digits d small)
+              ∙ ap hex_digit_value e in
               cc some
           | inr large ↦
               let past : 0 ≡ 10 = sym (get_or_past lower_digits d 0 large) ∙ e in

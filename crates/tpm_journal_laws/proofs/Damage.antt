@@ -14,7 +14,8 @@ whole_front : (n : ℕ) (xs : List ℕ) → take n (take n xs) ≡ take n xs
 whole_front n xs = take_whole n (take n xs) (omega (arith, length-take n xs))
 
 nothing_is_torn : (sum : ℕ) (left : List ℕ) → left ≡ [] → IsTorn sum left
-nothing_is_torn sum left none = record { front = []; zeros = 0; is = none; cut_off = inl (omega arith) }
+nothing_is_torn sum left none =
+    record { front = []; zeros = 0; is = none; cut_off = inl (omega arith) }
 
 pub front_is_followed : FrontIsFollowed
 front_is_followed can before old text taken after new replays =
@@ -28,5 +29,6 @@ front_is_followed can before old text taken after new replays =
         leads = r.leads;
         answers = r.answers;
       };
-      ends = nothing_is_torn after.sum (drop taken (take taken text)) (drop_all taken (take taken text) (omega (arith, length-take taken text)));
+      ends = nothing_is_torn after.sum (drop taken (take taken text))
+          (drop_all taken (take taken text) (omega (arith, length-take taken text)));
     }

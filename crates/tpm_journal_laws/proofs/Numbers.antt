@@ -17,7 +17,8 @@ digit_holds : (number place : ℕ) → is_digit 10 (digit_at number place) ≡ t
 digit_holds number place = lt-ltb _ 10 (omega (arith, value_at number place))
 
 -- After one more digit is read, the value is the number without its later digits.
-one_more : (number place tens : ℕ) → tens ≡ number / (place * 10) → number / (place * 10) * 10 + number / place % 10 ≡ number / place
+one_more : (number place tens : ℕ) → tens ≡ number / (place * 10)
+    → number / (place * 10) * 10 + number / place % 10 ≡ number / place
     → tens * 10 + digit_value (digit_at number place) ≡ number / place
 one_more number place tens so step = omega (arith, so, step, value_at number place)
 

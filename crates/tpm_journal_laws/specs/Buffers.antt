@@ -3,7 +3,7 @@ use Rattle.std.specs.Prelude.{◌≡◌, ℕ, ◌<◌, ◌≤◌, Bool, List, le
 use Rattle.tpm_record.specs.Record.{Record}
 use Rattle.tpm_step.specs.step.Events.{Given}
 use Rattle.tpm_step.specs.step.Step.{step_where}
-use Rattle.tpm_journal.specs.Command.{command_at, given}
+use Rattle.tpm_journal.specs.Command.{command_at, command_event}
 
 -- A buffer of up to 4,096 bytes is recorded whole.
 abbrev pub IsRecordedWhole : Type 0
@@ -15,5 +15,5 @@ IsRecordedWhole = (buffer : List ℕ) (locality elapsed : ℕ) (completes : Bool
 abbrev pub LongerAreRefusedAlike : Type 0
 LongerAreRefusedAlike = (refused : Bool) (r : Record) (buffer : List ℕ) (locality elapsed : ℕ)
     (completes : Bool) (random : List ℕ) → 4096 < length buffer
-    → step_where refused r (given (command_at buffer locality elapsed completes random))
+    → step_where refused r (command_event (command_at buffer locality elapsed completes random))
     ≡ step_where refused r (Given buffer locality elapsed random)

@@ -14,15 +14,15 @@ use Rattle.tpmsim_script.specs.Script.{at_first, play, printed_response, repeate
 
 -- the event that the lines of an entry execute; its random bytes repeat the bytes that the entry's
 -- command drew
-abbrev pub scripted : PlainEntry → PlainEvent
-scripted e = Given e.buffer e.locality e.elapsed (repeated (shown e.drawn))
+abbrev pub scripted_event : PlainEntry → PlainEvent
+scripted_event e = Given e.buffer e.locality e.elapsed (repeated (shown e.drawn))
 
 -- the output for entries executed one after another: each response, as a line of hex
 abbrev pub printed_answers : Record → List PlainEntry → List ℕ
 printed_answers r [] = []
 printed_answers r (e ∷ entries) =
-    printed_response (step r (scripted e)).response
-    ++ printed_answers (step r (scripted e)).after entries
+    printed_response (step r (scripted_event e)).response
+    ++ printed_answers (step r (scripted_event e)).after entries
 
 -- If the content of a journal's head has at most 32,767 bytes, the journal can be played as a
 -- script to its end. The script prints the device's responses to the entries.
@@ -38,4 +38,4 @@ JournalPlays = (kind : HeadKind) (clock : ℕ) (content : List ℕ) (entries : L
 abbrev pub PlaysAsExecuted : Type 0
 PlaysAsExecuted = (r : Record) (e : PlainEntry) (random : List ℕ) → length random ≡ 256
     → e.drawn ≡ take (drawn_by r (Given e.buffer e.locality e.elapsed random) 0) random
-    → step r (scripted e) ≡ step r (Given e.buffer e.locality e.elapsed random)
+    → step r (scripted_event e) ≡ step r (Given e.buffer e.locality e.elapsed random)

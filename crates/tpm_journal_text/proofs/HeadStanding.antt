@@ -23,27 +23,80 @@ head_mark_many clock content = refl
 
 pub head_mark_bytes : (clock : ℕ) (content : List ℕ) → AreBytes (head_mark clock content)
 unfolding head_mark
-head_mark_bytes clock content = all_small (head_mark clock content) (omega arith, (omega arith, (omega arith, (omega arith, (omega arith, (omega arith, (omega arith, (omega arith, (omega arith, (omega arith, (omega arith, (omega arith, (omega arith, (omega arith, (omega arith, (omega arith, (omega arith, (omega arith, (omega arith, (omega arith, tt))))))))))))))))))))
+head_mark_bytes clock content =
+    all_small (head_mark clock content) (
+      omega arith,
+      (
+        omega arith,
+        (
+          omega arith,
+          (
+            omega arith,
+            (
+              omega arith,
+              (
+                omega arith,
+                (
+                  omega arith,
+                  (
+                    omega arith,
+                    (
+                      omega arith,
+                      (
+                        omega arith,
+                        (
+                          omega arith,
+                          (
+                            omega arith,
+                            (
+                              omega arith,
+                              (
+                                omega arith,
+                                (
+                                  omega arith,
+                                  (
+                                    omega arith,
+                                    (omega arith, (omega arith, (omega arith, (omega arith, tt)))),
+                                  ),
+                                ),
+                              ),
+                            ),
+                          ),
+                        ),
+                      ),
+                    ),
+                  ),
+                ),
+              ),
+            ),
+          ),
+        ),
+      ),
+    )
 
 limit_small : (kind : HeadKind) → content_limit kind ≤ 40960
 limit_small Image = omega arith
 limit_small State = omega arith
 
-clock_is : (kind : HeadKind) (clock : ℕ) (content : List ℕ) → HasHead kind clock content → from_be_bytes w64 (take 8 (head_mark clock content)) ≡ clock
+clock_is : (kind : HeadKind) (clock : ℕ) (content : List ℕ) → HasHead kind clock content
+    → from_be_bytes w64 (take 8 (head_mark clock content)) ≡ clock
 unfolding head_mark
 clock_is kind clock content has = from_be_bytes-to_be_bytes_8 clock has.in_time
 
-count_is : (kind : HeadKind) (clock : ℕ) (content : List ℕ) → HasHead kind clock content → from_be_bytes w32 (take 4 (drop 8 (head_mark clock content))) ≡ length content
+count_is : (kind : HeadKind) (clock : ℕ) (content : List ℕ) → HasHead kind clock content
+    → from_be_bytes w32 (take 4 (drop 8 (head_mark clock content))) ≡ length content
 unfolding head_mark
 count_is kind clock content has =
     from_be_bytes-to_be_bytes_4 (length content) (omega (arith, has.small, limit_small kind))
 
-regrouped : (line word content end rest : List ℕ) → (line ++ word ++ content ++ end) ++ rest ≡ (line ++ word) ++ (content ++ (end ++ rest))
+regrouped : (line word content end rest : List ℕ)
+    → (line ++ word ++ content ++ end) ++ rest ≡ (line ++ word) ++ (content ++ (end ++ rest))
 regrouped line word content end rest = simp append_assoc refl
 
 -- the line for a head's mark
 head_line : HeadKind → (clock : ℕ) → (content : List ℕ) → List ℕ
-head_line kind clock content = marked_line (head_word kind) (head_mark clock content) (head_sum clock content)
+head_line kind clock content =
+    marked_line (head_word kind) (head_mark clock content) (head_sum clock content)
 
 parts : (kind : HeadKind) (clock : ℕ) (content rest : List ℕ) → head_text kind clock content ++ rest
     ≡ (head_line kind clock content ++ codes "# ") ++ (encode_lower content ++ (10 ∷ [] ++ rest))
@@ -55,10 +108,16 @@ pub word_many : (kind : HeadKind) → length (head_word kind) ≡ 19
 word_many Image = refl
 word_many State = refl
 
-head_line_many : (kind : HeadKind) (clock : ℕ) (content : List ℕ) → length (head_line kind clock content) ≡ 77
+head_line_many : (kind : HeadKind) (clock : ℕ) (content : List ℕ)
+    → length (head_line kind clock content) ≡ 77
 unfolding head_line
 head_line_many kind clock content =
-    omega (arith, line_length (head_word kind) (head_mark clock content) (head_sum clock content) 20 (head_mark_many clock content), word_many kind)
+    omega (
+      arith,
+      line_length (head_word kind) (head_mark clock content) (head_sum clock content) 20
+          (head_mark_many clock content),
+      word_many kind,
+    )
 
 before_many : (kind : HeadKind) (clock : ℕ) (content : List ℕ) → length (head_line kind clock content ++ codes "# ") ≡ 79
 before_many kind clock content = omega (arith, head_line_many kind clock content, length-append (head_line kind clock content) (codes "# "))
@@ -68,33 +127,43 @@ before_many kind clock content = omega (arith, head_line_many kind clock content
 behind_line : (content rest : List ℕ) → List ℕ
 behind_line content rest = codes "# " ++ (encode_lower content ++ (10 ∷ [] ++ rest))
 
-line_first : (kind : HeadKind) (clock : ℕ) (content rest : List ℕ) → head_text kind clock content ++ rest ≡ head_line kind clock content ++ behind_line content rest
+line_first : (kind : HeadKind) (clock : ℕ) (content rest : List ℕ)
+    → head_text kind clock content ++ rest ≡ head_line kind clock content
+    ++ behind_line content rest
 unfolding behind_line
 line_first kind clock content rest =
     parts kind clock content rest ∙ append_assoc (head_line kind clock content) (codes "# ") (encode_lower content ++ (10 ∷ [] ++ rest))
 
 -- An encoded head begins with the line for its mark.
-pub head_line_stands : (kind : HeadKind) (clock : ℕ) (content text rest : List ℕ) → text ≡ head_text kind clock content ++ rest
+pub head_line_stands : (kind : HeadKind) (clock : ℕ) (content text rest : List ℕ)
+    → text ≡ head_text kind clock content ++ rest
     → take 77 text ≡ marked_line (head_word kind) (head_mark clock content) (head_sum clock content)
 unfolding head_line
 head_line_stands kind clock content text rest t =
-    front_of (head_line kind clock content) (behind_line content rest) text 77 (head_line_many kind clock content)
+    front_of (head_line kind clock content) (behind_line content rest) text 77
+    (head_line_many kind clock content)
     (t ∙ line_first kind clock content rest)
 
-line_word : (word bytes rest : List ℕ) (sum : ℕ) → (more : List ℕ) × (marked_line word bytes sum ++ rest ≡ word ++ more)
+line_word : (word bytes rest : List ℕ) (sum : ℕ)
+    → (more : List ℕ) × (marked_line word bytes sum ++ rest ≡ word ++ more)
 unfolding marked_line
-line_word word bytes rest sum =
-    (encode_lower bytes ++ (32 ∷ [] ++ (encode_lower (to_be_bytes w64 sum) ++ (10 ∷ [] ++ rest))), simp append_assoc refl)
+line_word word bytes rest sum = (
+  encode_lower bytes ++ (32 ∷ [] ++ (encode_lower (to_be_bytes w64 sum) ++ (10 ∷ [] ++ rest))),
+  simp append_assoc refl,
+)
 
 -- If the input begins with a head, it begins with the word for the head's kind.
-word_stands : (kind : HeadKind) (clock : ℕ) (content text rest : List ℕ) → text ≡ head_text kind clock content ++ rest
+word_stands : (kind : HeadKind) (clock : ℕ) (content text rest : List ℕ)
+    → text ≡ head_text kind clock content ++ rest
     → (more : List ℕ) × (text ≡ head_word kind ++ more)
 unfolding head_line
 word_stands kind clock content text rest t =
-    let line = line_word (head_word kind) (head_mark clock content) (behind_line content rest) (head_sum clock content) in
+    let line = line_word (head_word kind) (head_mark clock content) (behind_line content rest)
+    (head_sum clock content) in
     (line.0, t ∙ line_first kind clock content rest ∙ line.1)
 
-one_word : (kind other : HeadKind) (x y : List ℕ) → head_word kind ++ x ≡ head_word other ++ y → kind ≡ other
+one_word : (kind other : HeadKind) (x y : List ℕ) → head_word kind ++ x ≡ head_word other ++ y
+    → kind ≡ other
 one_word Image Image x y same = refl
 one_word State State x y same = refl
 one_word Image State x y same =
@@ -106,22 +175,28 @@ one_word State Image x y same =
 
 -- If the input begins with the word for a state text, its head contains a state text; otherwise its
 -- head contains an image.
-pub is_state : (word text rest : List ℕ) (kind : HeadKind) (clock : ℕ) (content : List ℕ) → word ≡ head_word State → take (length word) text ≡ word
+pub is_state : (word text rest : List ℕ) (kind : HeadKind) (clock : ℕ) (content : List ℕ)
+    → word ≡ head_word State → take (length word) text ≡ word
     → text ≡ head_text kind clock content ++ rest → State ≡ kind
 is_state word text rest kind clock content is front t =
     let stands = word_stands kind clock content text rest t in
     one_word State kind (drop (length word) text) stands.0
-    (ap (λ (l : List ℕ). l ++ drop (length word) text) (sym is ∙ sym front) ∙ take-append-drop (length word) text ∙ stands.1)
+    (ap (λ (l : List ℕ). l ++ drop (length word) text) (sym is ∙ sym front)
+    ∙ take-append-drop (length word) text ∙ stands.1)
 
-pub is_image : (word text rest : List ℕ) (found : Bool) (kind : HeadKind) (clock : ℕ) (content : List ℕ) → word ≡ head_word State
-    → ((rest : List ℕ) → text ≡ word ++ rest → found ≡ true) → found ≡ false → text ≡ head_text kind clock content ++ rest → Image ≡ kind
+pub is_image : (word text rest : List ℕ) (found : Bool) (kind : HeadKind) (clock : ℕ)
+    (content : List ℕ) → word ≡ head_word State
+    → ((rest : List ℕ) → text ≡ word ++ rest → found ≡ true) → found ≡ false
+    → text ≡ head_text kind clock content ++ rest → Image ≡ kind
 is_image word text rest found Image clock content is none not_found t = refl
 is_image word text rest found State clock content is none not_found t =
     let stands = word_stands State clock content text rest t in
-    let both : true ≡ false = sym (none stands.0 (stands.1 ∙ ap (λ (l : List ℕ). l ++ stands.0) (sym is))) ∙ not_found in
+    let both : true ≡ false =
+    sym (none stands.0 (stands.1 ∙ ap (λ (l : List ℕ). l ++ stands.0) (sym is))) ∙ not_found in
     absurd cc
 
-pub head_text_many : (kind : HeadKind) (clock : ℕ) (content : List ℕ) → length (head_text kind clock content) ≡ head_size (length content)
+pub head_text_many : (kind : HeadKind) (clock : ℕ) (content : List ℕ)
+    → length (head_text kind clock content) ≡ head_size (length content)
 unfolding head_text head_line
 head_text_many kind clock content =
     let line = head_line_many kind clock content in
@@ -131,60 +206,92 @@ head_text_many kind clock content =
     omega (arith, line, a, b, c, length-encode_with lower_digits content)
 
 -- If a mark was read from input that begins with a head, it is the mark of that head.
-pub head_mark_stands : (kind : HeadKind) (clock : ℕ) (content mark text rest : List ℕ) → length mark ≡ 20 → AreBytes mark
-    → take 77 text ≡ marked_line (head_word kind) mark (sum_from offset_basis mark) → text ≡ head_text kind clock content ++ rest
+pub head_mark_stands : (kind : HeadKind) (clock : ℕ) (content mark text rest : List ℕ)
+    → length mark ≡ 20 → AreBytes mark
+    → take 77 text ≡ marked_line (head_word kind) mark (sum_from offset_basis mark)
+    → text ≡ head_text kind clock content ++ rest
     → mark ≡ head_mark clock content
 head_mark_stands kind clock content mark text rest many are line t =
-    line_same (head_word kind) mark (head_mark clock content) (sum_from offset_basis mark) (head_sum clock content) are (head_mark_bytes clock content)
-    (many ∙ sym (head_mark_many clock content)) (sym line ∙ head_line_stands kind clock content text rest t)
+    line_same (head_word kind) mark (head_mark clock content) (sum_from offset_basis mark)
+    (head_sum clock content) are (head_mark_bytes clock content)
+    (many ∙ sym (head_mark_many clock content))
+    (sym line ∙ head_line_stands kind clock content text rest t)
 
-pub head_stands : (kind : HeadKind) (clock : ℕ) (content mark text rest : List ℕ) → HasHead kind clock content → length mark ≡ 20 → AreBytes mark
-    → take 77 text ≡ marked_line (head_word kind) mark (sum_from offset_basis mark) → text ≡ head_text kind clock content ++ rest
+pub head_stands : (kind : HeadKind) (clock : ℕ) (content mark text rest : List ℕ)
+    → HasHead kind clock content → length mark ≡ 20 → AreBytes mark
+    → take 77 text ≡ marked_line (head_word kind) mark (sum_from offset_basis mark)
+    → text ≡ head_text kind clock content ++ rest
     → HeadStands kind clock content mark text
 head_stands kind clock content mark text rest has many are line t =
-    let same : mark ≡ head_mark clock content = head_mark_stands kind clock content mark text rest many are line t in
+    let same : mark ≡ head_mark clock content =
+    head_mark_stands kind clock content mark text rest many are line t in
     record {
       has = has;
-      clock_told = ap (λ (l : List ℕ). from_be_bytes w64 (take 8 l)) same ∙ clock_is kind clock content has;
-      count_told = ap (λ (l : List ℕ). from_be_bytes w32 (take 4 (drop 8 l))) same ∙ count_is kind clock content has;
-      content_told = ap (λ (l : List ℕ). take (2 * length content) (drop 79 l)) (t ∙ parts kind clock content rest)
+      clock_told = ap (λ (l : List ℕ). from_be_bytes w64 (take 8 l)) same
+          ∙ clock_is kind clock content has;
+      count_told = ap (λ (l : List ℕ). from_be_bytes w32 (take 4 (drop 8 l))) same
+          ∙ count_is kind clock content has;
+      content_told = ap (λ (l : List ℕ). take (2 * length content) (drop 79 l))
+          (t ∙ parts kind clock content rest)
           ∙ rw (drop_at (head_line kind clock content ++ codes "# ") (encode_lower content ++ (10 ∷ [] ++ rest)) 79 (before_many kind clock content))
-          (take_at (encode_lower content) (10 ∷ [] ++ rest) (2 * length content) (length-encode_with lower_digits content));
-      long = omega (arith, ap length t, length-append (head_text kind clock content) rest, head_text_many kind clock content);
+          (take_at (encode_lower content) (10 ∷ [] ++ rest) (2 * length content)
+          (length-encode_with lower_digits content));
+      long = omega (
+        arith,
+        ap length t,
+        length-append (head_text kind clock content) rest,
+        head_text_many kind clock content,
+      );
     }
 
 -- The line for the content follows the line for the mark.
-pub content_line_stands : (kind : HeadKind) (clock : ℕ) (content text rest : List ℕ) → text ≡ head_text kind clock content ++ rest
+pub content_line_stands : (kind : HeadKind) (clock : ℕ) (content text rest : List ℕ)
+    → text ≡ head_text kind clock content ++ rest
     → drop 77 text ≡ codes "# " ++ (encode_lower content ++ (10 ∷ [] ++ rest))
 unfolding behind_line
 content_line_stands kind clock content text rest t =
     ap (drop 77) (t ∙ line_first kind clock content rest)
-    ∙ drop_at (head_line kind clock content) (behind_line content rest) 77 (head_line_many kind clock content)
+    ∙ drop_at (head_line kind clock content) (behind_line content rest) 77
+    (head_line_many kind clock content)
 
 -- If the input consists of the line for a head's mark, the line for its content, and further bytes,
 -- it begins with this head.
-head_whole : (kind : HeadKind) (clock : ℕ) (content text rest : List ℕ) → take 77 text ≡ head_line kind clock content
+head_whole : (kind : HeadKind) (clock : ℕ) (content text rest : List ℕ)
+    → take 77 text ≡ head_line kind clock content
     → drop 77 text ≡ behind_line content rest → text ≡ head_text kind clock content ++ rest
 head_whole kind clock content text rest line behind =
-    sym (take-append-drop 77 text) ∙ ap (λ (l : List ℕ). l ++ drop 77 text) line ∙ ap (λ (l : List ℕ). head_line kind clock content ++ l) behind
+    sym (take-append-drop 77 text) ∙ ap (λ (l : List ℕ). l ++ drop 77 text) line
+    ∙ ap (λ (l : List ℕ). head_line kind clock content ++ l) behind
     ∙ sym (line_first kind clock content rest)
 
-pub head_found : (text mark rest : List ℕ) (head : Head) → HasHead head.kind head.clock head.content.now → head_mark head.clock head.content.now ≡ mark
-    → head.sum ≡ sum_from offset_basis mark → take 77 text ≡ marked_line (head_word head.kind) mark head.sum
+pub head_found : (text mark rest : List ℕ) (head : Head)
+    → HasHead head.kind head.clock head.content.now → head_mark head.clock head.content.now ≡ mark
+    → head.sum ≡ sum_from offset_basis mark
+    → take 77 text ≡ marked_line (head_word head.kind) mark head.sum
     → drop 77 text ≡ codes "# " ++ (encode_lower head.content.now ++ (10 ∷ [] ++ rest)) → head.size ≡ head_size (length head.content.now)
     → IsHeadOf text head
 unfolding head_line behind_line
 head_found text mark rest head has is sum line behind size =
-    let after : head.sum ≡ head_sum head.clock head.content.now = sum ∙ ap (sum_from offset_basis) (sym is) in
+    let after : head.sum ≡ head_sum head.clock head.content.now =
+    sum ∙ ap (sum_from offset_basis) (sym is) in
     let line_is : take 77 text ≡ head_line head.kind head.clock head.content.now =
     line ∙ ap (λ (m : List ℕ). marked_line (head_word head.kind) m head.sum) (sym is)
     ∙ ap (marked_line (head_word head.kind) (head_mark head.clock head.content.now)) after in
-    let whole : text ≡ head_text head.kind head.clock head.content.now ++ rest = head_whole head.kind head.clock head.content.now text rest line_is behind in
+    let whole : text ≡ head_text head.kind head.clock head.content.now ++ rest =
+    head_whole head.kind head.clock head.content.now text rest line_is behind in
     let many = head_text_many head.kind head.clock head.content.now in
     record {
       has = has;
-      whole = omega (arith, ap length whole, length-append (head_text head.kind head.clock head.content.now) rest, many, size);
-      is = front_of (head_text head.kind head.clock head.content.now) rest text head.size (many ∙ sym size) whole;
+      whole =
+          omega (
+            arith,
+            ap length whole,
+            length-append (head_text head.kind head.clock head.content.now) rest,
+            many,
+            size,
+          );
+      is = front_of (head_text head.kind head.clock head.content.now) rest text head.size
+          (many ∙ sym size) whole;
       after = after;
     }
 
@@ -197,14 +304,18 @@ same_kind kind other clock time content bytes x y same =
     one_word kind other a.0 b.0 (sym a.1 ∙ b.1)
 
 -- Two heads of the same kind with which the same input begins are equal.
-pub same_head : (kind : HeadKind) (clock other : ℕ) (content bytes x y : List ℕ) → HasHead kind clock content → HasHead kind other bytes
-    → head_text kind clock content ++ x ≡ head_text kind other bytes ++ y → (clock ≡ other) × (content ≡ bytes)
+pub same_head : (kind : HeadKind) (clock other : ℕ) (content bytes x y : List ℕ)
+    → HasHead kind clock content → HasHead kind other bytes
+    → head_text kind clock content ++ x ≡ head_text kind other bytes ++ y
+    → (clock ≡ other) × (content ≡ bytes)
 same_head kind clock other content bytes x y has others same =
     let text = head_text kind clock content ++ x in
     let mark = head_mark clock content in
     let line = head_line_stands kind clock content text x refl in
-    let a = head_stands kind clock content mark text x has (head_mark_many clock content) (head_mark_bytes clock content) line refl in
-    let b = head_stands kind other bytes mark text y others (head_mark_many clock content) (head_mark_bytes clock content) line same in
+    let a = head_stands kind clock content mark text x has (head_mark_many clock content)
+    (head_mark_bytes clock content) line refl in
+    let b = head_stands kind other bytes mark text y others (head_mark_many clock content)
+    (head_mark_bytes clock content) line same in
     let many : length content ≡ length bytes = sym a.count_told ∙ b.count_told in (
       sym a.clock_told ∙ b.clock_told,
       hex_same content bytes has.are_bytes others.are_bytes

@@ -30,7 +30,8 @@ no_feed (byte ∷ text) all (suc place) e = no_feed text all.1 place e
 no_feed_joined : (front back : List ℕ) → NoFeed front → NoFeed back → NoFeed (front ++ back)
 no_feed_joined [] back none none_behind place e = none_behind place e
 no_feed_joined (byte ∷ front) back none none_behind zero e = none 0 e
-no_feed_joined (byte ∷ front) back none none_behind (suc place) e = no_feed_joined front back (λ p. none (suc p)) none_behind place e
+no_feed_joined (byte ∷ front) back none none_behind (suc place) e =
+    no_feed_joined front back (λ p. none (suc p)) none_behind place e
 
 digit_is_no_feed : (d : ℕ) → slice_index lower_digits d ≡ 10 → ⊥
 digit_is_no_feed d e =
@@ -53,7 +54,8 @@ hex_no_feed (byte ∷ bytes) (suc (suc place)) e = hex_no_feed bytes place e
 -- ---- a line, and the bytes after it
 
 feed_at : (line rest : List ℕ) (place : ℕ) → NoFeed line → get_or (line ++ 10 ∷ rest) place 0 ≡ 10
-    → (place ≡ length line) ⊎ ((more : ℕ) × (place ≡ length line + (1 + more)) × (get_or rest more 0 ≡ 10))
+    → (place ≡ length line)
+    ⊎ ((more : ℕ) × (place ≡ length line + (1 + more)) × (get_or rest more 0 ≡ 10))
 feed_at [] rest zero none e = inl refl
 feed_at [] rest (suc place) none e = inr (place, omega arith, e)
 feed_at (byte ∷ line) rest zero none e = absurd (none 0 e)
@@ -81,11 +83,16 @@ cmd_line : PlainEntry → List ℕ
 cmd_line e = codes "cmd " ++ encode_lower e.buffer
 
 lines_of : PlainEntry → List ℕ
-lines_of e = wait_line e ++ 10 ∷ (loc_line e ++ 10 ∷ (entropy_line e ++ 10 ∷ (cmd_line e ++ 10 ∷ [])))
+lines_of e = wait_line e ++ 10
+    ∷ (loc_line e ++ 10 ∷ (entropy_line e ++ 10 ∷ (cmd_line e ++ 10 ∷ [])))
 
 lines_grouped : (wait digits feed loc locality entropy drawn cmd buffer : List ℕ)
-    → (wait ++ digits ++ (feed ++ loc) ++ locality ++ feed) ++ (entropy ++ drawn ++ (feed ++ cmd) ++ buffer ++ feed)
-    ≡ (wait ++ digits) ++ (feed ++ ((loc ++ locality) ++ (feed ++ ((entropy ++ drawn) ++ (feed ++ ((cmd ++ buffer) ++ feed))))))
+    → (wait ++ digits ++ (feed ++ loc) ++ locality ++ feed)
+    ++ (entropy ++ drawn ++ (feed ++ cmd) ++ buffer ++ feed)
+    ≡ (wait ++ digits)
+    ++ (feed
+    ++ ((loc ++ locality)
+    ++ (feed ++ ((entropy ++ drawn) ++ (feed ++ ((cmd ++ buffer) ++ feed))))))
 lines_grouped wait digits feed loc locality entropy drawn cmd buffer = simp append_assoc refl
 
 lines_are : (e : PlainEntry) → setting_lines e ++ executing_lines e ≡ lines_of e
@@ -116,7 +123,16 @@ wait_none e = no_feed (codes "wait " ++ ten_digits e.elapsed) (
                   λ h. omega (arith, h),
                   (
                     λ h. omega (arith, h),
-                    (λ h. omega (arith, h), (λ h. omega (arith, h), (λ h. omega (arith, h), (λ h. omega (arith, h), (λ h. omega (arith, h), tt))))),
+                    (
+                      λ h. omega (arith, h),
+                      (
+                        λ h. omega (arith, h),
+                        (
+                          λ h. omega (arith, h),
+                          (λ h. omega (arith, h), (λ h. omega (arith, h), tt)),
+                        ),
+                      ),
+                    ),
                   ),
                 ),
               ),
@@ -130,8 +146,13 @@ wait_none e = no_feed (codes "wait " ++ ten_digits e.elapsed) (
 
 loc_none : (e : PlainEntry) → NoFeed (loc_line e)
 unfolding loc_line
-loc_none e = no_feed (codes "loc " ++ (48 + e.locality) ∷ [])
-    (λ h. omega (arith, h), (λ h. omega (arith, h), (λ h. omega (arith, h), (λ h. omega (arith, h), (λ h. omega (arith, h), tt)))))
+loc_none e = no_feed (codes "loc " ++ (48 + e.locality) ∷ []) (
+  λ h. omega (arith, h),
+  (
+    λ h. omega (arith, h),
+    (λ h. omega (arith, h), (λ h. omega (arith, h), (λ h. omega (arith, h), tt))),
+  ),
+)
 
 entropy_none : (e : PlainEntry) → NoFeed (entropy_line e)
 unfolding entropy_line
@@ -144,7 +165,10 @@ entropy_none e = no_feed_joined (codes "entropy ") (encode_lower (shown e.drawn)
           λ h. omega (arith, h),
           (
             λ h. omega (arith, h),
-            (λ h. omega (arith, h), (λ h. omega (arith, h), (λ h. omega (arith, h), (λ h. omega (arith, h), tt)))),
+            (
+              λ h. omega (arith, h),
+              (λ h. omega (arith, h), (λ h. omega (arith, h), (λ h. omega (arith, h), tt))),
+            ),
           ),
         ),
       ),
@@ -180,7 +204,8 @@ last_end e = 35 + 2 * max 1 (length e.drawn) + 2 * length e.buffer
 
 abbrev Ends : (e : PlainEntry) (place : ℕ) → Type 0
 Ends e place =
-    ((place ≡ 15) ⊎ ((place ≡ 21) ⊎ (place ≡ drawn_line_end (length e.drawn)))) ⊎ (place ≡ last_end e)
+    ((place ≡ 15) ⊎ ((place ≡ 21) ⊎ (place ≡ drawn_line_end (length e.drawn))))
+    ⊎ (place ≡ last_end e)
 
 -- Each line feed in the lines of an entry is at the end of one of these lines.
 feeds_end : (e : PlainEntry) (place : ℕ) → get_or (lines_of e) place 0 ≡ 10 → Ends e place
@@ -224,52 +249,62 @@ feed_within text place e =
           absurd (omega (arith, no))
     ]
 
-entry_lines : (sum : ℕ) (e : PlainEntry) → entry_text sum e ≡ mark_line sum (mark_of e) ++ lines_of e
+entry_lines : (sum : ℕ) (e : PlainEntry)
+    → entry_text sum e ≡ mark_line sum (mark_of e) ++ lines_of e
 unfolding entry_text
 entry_lines sum e =
     append_assoc (mark_line sum (mark_of e)) (setting_lines e) (executing_lines e)
     ∙ ap (λ (l : List ℕ). mark_line sum (mark_of e) ++ l) (lines_are e)
 
 -- Each line feed after the line for an entry's mark is at the end of a line of the entry.
-pub feed_in_entry : (sum : ℕ) (e : PlainEntry) (place : ℕ) → get_or (entry_text sum e) (72 + place) 0 ≡ 10 → Ends e place
+pub feed_in_entry : (sum : ℕ) (e : PlainEntry) (place : ℕ)
+    → get_or (entry_text sum e) (72 + place) 0 ≡ 10 → Ends e place
 feed_in_entry sum e place is =
     let line = mark_line sum (mark_of e) in
     let many : length line ≡ 72 = mark_line_many sum (mark_of e) (mark_many e) in
     feeds_end e place
-    (sym (get_or-append-add line (lines_of e) place 0) ∙ ap (λ (n : ℕ). get_or (line ++ lines_of e) (n + place) 0) many
+    (sym (get_or-append-add line (lines_of e) place 0)
+    ∙ ap (λ (n : ℕ). get_or (line ++ lines_of e) (n + place) 0) many
     ∙ ap (λ (l : List ℕ). get_or l (72 + place) 0) (sym (entry_lines sum e)) ∙ is)
 
 -- The lines of a prefix of an entry end only where the lines of the entry end.
-pub front_lines_end : (sum : ℕ) (e : PlainEntry) (size : ℕ) → IsEntry e → size ≤ 72 + last_end e → LinesEnd (mark_of e) (take size (entry_text sum e))
+pub front_lines_end : (sum : ℕ) (e : PlainEntry) (size : ℕ) → IsEntry e → size ≤ 72 + last_end e
+    → LinesEnd (mark_of e) (take size (entry_text sum e))
 front_lines_end sum e size is less place there =
     let text = entry_text sum e in
-    let in_front : get_or (take size text) (72 + place) 0 ≡ 10 = sym (get_or-drop 72 (take size text) place 0) ∙ there in
+    let in_front : get_or (take size text) (72 + place) 0 ≡ 10 =
+    sym (get_or-drop 72 (take size text) place 0) ∙ there in
     let within = feed_within (take size text) (72 + place) in_front in
     let small : 72 + place < size = omega (arith, within, length-take size text) in
     let told = drawn_told e is in
     elim (feed_in_entry sum e place (sym (get_or-take size text (72 + place) 0 small) ∙ in_front)) [
-      | inl end ↦ subst (λ (n : ℕ). (place ≡ 15) ⊎ ((place ≡ 21) ⊎ (place ≡ drawn_line_end n))) (sym told) end
+      | inl end ↦ subst (λ (n : ℕ). (place ≡ 15) ⊎ ((place ≡ 21) ⊎ (place ≡ drawn_line_end n)))
+          (sym told) end
       | inr last ↦ absurd (omega (arith, last, small, less))
     ]
 
 -- If all lines of the input end where lines of the mark's entry end (`LinesEnd`), this is also true
 -- of each prefix of the input.
-pub lines_end_front : (mark front back : List ℕ) → LinesEnd mark (front ++ back) → LinesEnd mark front
+pub lines_end_front : (mark front back : List ℕ) → LinesEnd mark (front ++ back)
+    → LinesEnd mark front
 lines_end_front mark front back end place there =
     let at : get_or front (72 + place) 0 ≡ 10 = sym (get_or-drop 72 front place 0) ∙ there in
     end place (get_or-drop 72 (front ++ back) place 0
     ∙ get_or_append_left front back 0 (72 + place) (feed_within front (72 + place) at) ∙ at)
 
 -- Appending zeros to the input adds no line end.
-pub lines_end_zeros : (mark front : List ℕ) (count : ℕ) → LinesEnd mark front → LinesEnd mark (front ++ replicate count 0)
+pub lines_end_zeros : (mark front : List ℕ) (count : ℕ) → LinesEnd mark front
+    → LinesEnd mark (front ++ replicate count 0)
 lines_end_zeros mark front count end place there =
     let text = front ++ replicate count 0 in
     let at : get_or text (72 + place) 0 ≡ 10 = sym (get_or-drop 72 text place 0) ∙ there in
     elim (cases_lt (72 + place) (length front)) [
       | inl within ↦
-          end place (get_or-drop 72 front place 0 ∙ sym (get_or_append_left front (replicate count 0) 0 (72 + place) within) ∙ at)
+          end place (get_or-drop 72 front place 0
+          ∙ sym (get_or_append_left front (replicate count 0) 0 (72 + place) within) ∙ at)
       | inr past ↦
-          let no : 10 ≡ 0 = sym at ∙ get_or-append_right front (replicate count 0) (72 + place) 0 past ∙ zero_at count (72 + place - length front) in
+          let no : 10 ≡ 0 = sym at ∙ get_or-append_right front (replicate count 0) (72 + place) 0
+          past ∙ zero_at count (72 + place - length front) in
           absurd (omega (arith, no))
     ]
 
@@ -277,14 +312,19 @@ lines_end_zeros mark front count end place there =
 
 -- All line feeds after the line for a mark are at the offsets that the mark determines.
 abbrev EndAt : (lines : List ℕ) → (drawn_end : ℕ) → Type 0
-EndAt lines drawn_end = (place : ℕ) → get_or lines place 0 ≡ 10 → (place ≡ 15) ⊎ ((place ≡ 21) ⊎ (place ≡ drawn_end))
+EndAt lines drawn_end = (place : ℕ) → get_or lines place 0 ≡ 10
+    → (place ≡ 15) ⊎ ((place ≡ 21) ⊎ (place ≡ drawn_end))
 
-pub lines_end_so : (mark text lines : List ℕ) (drawn_end : ℕ) → lines ≡ drop 72 text → drawn_end ≡ drawn_line_end (drawn_size mark)
+pub lines_end_so : (mark text lines : List ℕ) (drawn_end : ℕ) → lines ≡ drop 72 text
+    → drawn_end ≡ drawn_line_end (drawn_size mark)
     → EndAt lines drawn_end → LinesEnd mark text
 lines_end_so mark text lines drawn_end split told end =
-    subst (λ (l : List ℕ). EndAt l (drawn_line_end (drawn_size mark))) split (subst (EndAt lines) told end)
+    subst (λ (l : List ℕ). EndAt l (drawn_line_end (drawn_size mark))) split
+    (subst (EndAt lines) told end)
 
-pub lines_end_not : (mark text lines : List ℕ) (drawn_end : ℕ) → lines ≡ drop 72 text → drawn_end ≡ drawn_line_end (drawn_size mark)
+pub lines_end_not : (mark text lines : List ℕ) (drawn_end : ℕ) → lines ≡ drop 72 text
+    → drawn_end ≡ drawn_line_end (drawn_size mark)
     → (EndAt lines drawn_end → ⊥) → LinesEnd mark text → ⊥
 lines_end_not mark text lines drawn_end split told not end =
-    not (subst (EndAt lines) (sym told) (subst (λ (l : List ℕ). EndAt l (drawn_line_end (drawn_size mark))) (sym split) end))
+    not (subst (EndAt lines) (sym told)
+    (subst (λ (l : List ℕ). EndAt l (drawn_line_end (drawn_size mark))) (sym split) end))

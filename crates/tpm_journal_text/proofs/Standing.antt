@@ -21,7 +21,80 @@ mark_many e = refl
 
 pub mark_bytes : (e : PlainEntry) → AreBytes (mark_of e)
 unfolding mark_of
-mark_bytes e = all_small (mark_of e) (omega arith, (omega arith, (omega arith, (omega arith, (omega arith, (omega arith, (omega arith, (omega arith, (omega arith, (omega arith, (omega arith, (omega arith, (omega arith, (omega arith, (omega arith, (omega arith, (omega arith, (omega arith, (omega arith, (omega arith, (omega arith, (omega arith, (omega arith, (omega arith, (omega arith, (omega arith, tt))))))))))))))))))))))))))
+mark_bytes e =
+    all_small (mark_of e) (
+      omega arith,
+      (
+        omega arith,
+        (
+          omega arith,
+          (
+            omega arith,
+            (
+              omega arith,
+              (
+                omega arith,
+                (
+                  omega arith,
+                  (
+                    omega arith,
+                    (
+                      omega arith,
+                      (
+                        omega arith,
+                        (
+                          omega arith,
+                          (
+                            omega arith,
+                            (
+                              omega arith,
+                              (
+                                omega arith,
+                                (
+                                  omega arith,
+                                  (
+                                    omega arith,
+                                    (
+                                      omega arith,
+                                      (
+                                        omega arith,
+                                        (
+                                          omega arith,
+                                          (
+                                            omega arith,
+                                            (
+                                              omega arith,
+                                              (
+                                                omega arith,
+                                                (
+                                                  omega arith,
+                                                  (
+                                                    omega arith,
+                                                    (omega arith, (omega arith, tt)),
+                                                  ),
+                                                ),
+                                              ),
+                                            ),
+                                          ),
+                                        ),
+                                      ),
+                                    ),
+                                  ),
+                                ),
+                              ),
+                            ),
+                          ),
+                        ),
+                      ),
+                    ),
+                  ),
+                ),
+              ),
+            ),
+          ),
+        ),
+      ),
+    )
 
 elapsed_told : (e : PlainEntry) → IsEntry e → from_be_bytes w32 (take 4 (mark_of e)) ≡ e.elapsed
 unfolding mark_of
@@ -43,7 +116,8 @@ pub buffer_told : (e : PlainEntry) → IsEntry e → buffer_size (mark_of e) ≡
 unfolding mark_of
 buffer_told e is = from_be_bytes-to_be_bytes_2 (length e.buffer) (omega (arith, is.buffer))
 
-answered_told : (e : PlainEntry) → IsEntry e → from_be_bytes w64 (take 8 (drop 18 (mark_of e))) ≡ e.answered
+answered_told : (e : PlainEntry) → IsEntry e → from_be_bytes w64 (take 8 (drop 18 (mark_of e)))
+    ≡ e.answered
 unfolding mark_of
 answered_told e is = from_be_bytes-to_be_bytes_8 e.answered is.answered
 
@@ -89,11 +163,15 @@ encoded_none : [] ≡ encode_lower []
 unfolding encode_with
 encoded_none = refl
 
-drawn_front : (drawn back : List ℕ) → take (2 * length drawn) (encode_lower (shown drawn) ++ back) ≡ encode_lower drawn
+drawn_front : (drawn back : List ℕ) → take (2 * length drawn) (encode_lower (shown drawn) ++ back)
+    ≡ encode_lower drawn
 drawn_front [] back = encoded_none
-drawn_front (byte ∷ drawn) back = take_at (encode_lower (byte ∷ drawn)) back (2 * length (byte ∷ drawn)) (length-encode_with lower_digits (byte ∷ drawn))
+drawn_front (byte ∷ drawn) back =
+    take_at (encode_lower (byte ∷ drawn)) back (2 * length (byte ∷ drawn))
+    (length-encode_with lower_digits (byte ∷ drawn))
 
-pub stands : (sum : ℕ) (e : PlainEntry) (mark text rest : List ℕ) → IsEntry e → mark ≡ mark_of e → text ≡ entry_text sum e ++ rest → Stands e mark text
+pub stands : (sum : ℕ) (e : PlainEntry) (mark text rest : List ℕ) → IsEntry e → mark ≡ mark_of e
+    → text ≡ entry_text sum e ++ rest → Stands e mark text
 stands sum e mark text rest is m t =
     let after_drawn = codes "\ncmd " ++ (encode_lower e.buffer ++ (10 ∷ [] ++ rest)) in
     let drawn = encode_lower (shown e.drawn) in
@@ -115,29 +193,43 @@ stands sum e mark text rest is m t =
       buffer_size = ap buffer_size m ∙ buffer_told e is;
       answered = ap (λ (l : List ℕ). from_be_bytes w64 (take 8 (drop 18 l))) m ∙ answered_told e is;
       drawn = ap (λ (l : List ℕ). take (2 * length e.drawn) (drop 102 l)) split
-          ∙ rw (drop_at (before_drawn sum e) (drawn ++ after_drawn) 102 (before_many sum e)) (drawn_front e.drawn after_drawn);
-      buffer = ap (λ (l : List ℕ). take (2 * length e.buffer) (drop (102 + 2 * max 1 (length e.drawn) + 5) l)) further
+          ∙ rw (drop_at (before_drawn sum e) (drawn ++ after_drawn) 102 (before_many sum e))
+          (drawn_front e.drawn after_drawn);
+      buffer =
+          ap (λ (l : List ℕ). take (2 * length e.buffer)
+          (drop (102 + 2 * max 1 (length e.drawn) + 5) l)) further
           ∙ rw (drop_at (before_drawn sum e ++ drawn ++ codes "\ncmd ") (encode_lower e.buffer ++ (10 ∷ [] ++ rest)) _ place)
-          (take_at (encode_lower e.buffer) (10 ∷ [] ++ rest) (2 * length e.buffer) (length-encode_with lower_digits e.buffer));
+          (take_at (encode_lower e.buffer) (10 ∷ [] ++ rest) (2 * length e.buffer)
+          (length-encode_with lower_digits e.buffer));
     }
 
 -- An encoded entry begins with the line for its mark.
-pub line_stands : (sum : ℕ) (e : PlainEntry) (text rest : List ℕ) → text ≡ entry_text sum e ++ rest → take 72 text ≡ mark_line sum (mark_of e)
+pub line_stands : (sum : ℕ) (e : PlainEntry) (text rest : List ℕ) → text ≡ entry_text sum e ++ rest
+    → take 72 text ≡ mark_line sum (mark_of e)
 unfolding entry_text
 line_stands sum e text rest t =
     let line = mark_line sum (mark_of e) in
-    front_of line (setting_lines e ++ executing_lines e ++ rest) text 72 (mark_line_many sum (mark_of e) (mark_many e))
-    (t ∙ append_assoc (line ++ setting_lines e) (executing_lines e) rest ∙ append_assoc line (setting_lines e) (executing_lines e ++ rest)
-    ∙ ap (λ (l : List ℕ). line ++ l) (sym (append_assoc (setting_lines e) (executing_lines e) rest)))
+    front_of line (setting_lines e ++ executing_lines e ++ rest) text 72
+    (mark_line_many sum (mark_of e) (mark_many e))
+    (t ∙ append_assoc (line ++ setting_lines e) (executing_lines e) rest
+    ∙ append_assoc line (setting_lines e) (executing_lines e ++ rest)
+    ∙ ap (λ (l : List ℕ). line ++ l)
+    (sym (append_assoc (setting_lines e) (executing_lines e) rest)))
 
 -- The encoding of an entry is not empty.
 pub entry_text_some : (sum : ℕ) (e : PlainEntry) → 0 < length (entry_text sum e)
 unfolding entry_text
 entry_text_some sum e =
     let line = mark_line sum (mark_of e) in
-    omega (arith, mark_line_many sum (mark_of e) (mark_many e), length-append line (setting_lines e), length-append (line ++ setting_lines e) (executing_lines e))
+    omega (
+      arith,
+      mark_line_many sum (mark_of e) (mark_many e),
+      length-append line (setting_lines e),
+      length-append (line ++ setting_lines e) (executing_lines e),
+    )
 
-executing_many : (e : PlainEntry) → length (executing_lines e) ≡ 14 + 2 * max 1 (length e.drawn) + 2 * length e.buffer
+executing_many : (e : PlainEntry) → length (executing_lines e)
+    ≡ 14 + 2 * max 1 (length e.drawn) + 2 * length e.buffer
 unfolding executing_lines
 executing_many e =
     let word = codes "entropy " in
@@ -148,14 +240,25 @@ executing_many e =
     let b = length-append (word ++ drawn) middle in
     let c = length-append (word ++ drawn ++ middle) buffer in
     let d = length-append (word ++ drawn ++ middle ++ buffer) (10 ∷ []) in
-    omega (arith, a, b, c, d, length-encode_with lower_digits (shown e.drawn), length-encode_with lower_digits e.buffer, shown_many e.drawn)
+    omega (
+      arith,
+      a,
+      b,
+      c,
+      d,
+      length-encode_with lower_digits (shown e.drawn),
+      length-encode_with lower_digits e.buffer,
+      shown_many e.drawn,
+    )
 
-pub entry_text_many : (sum : ℕ) (e : PlainEntry) → IsEntry e → length (entry_text sum e) ≡ entry_size (mark_of e)
+pub entry_text_many : (sum : ℕ) (e : PlainEntry) → IsEntry e
+    → length (entry_text sum e) ≡ entry_size (mark_of e)
 unfolding entry_text
 entry_text_many sum e is =
     let line = mark_line sum (mark_of e) in
     let a = mark_line_many sum (mark_of e) (mark_many e) in
     let b = length-append line (setting_lines e) in
     let c = length-append (line ++ setting_lines e) (executing_lines e) in
-    let drawn : max 1 (drawn_size (mark_of e)) ≡ max 1 (length e.drawn) = ap (max 1) (drawn_told e is) in
+    let drawn : max 1 (drawn_size (mark_of e)) ≡ max 1 (length e.drawn) =
+    ap (max 1) (drawn_told e is) in
     omega (arith, a, b, c, setting_many e, executing_many e, drawn, buffer_told e is)

@@ -2,7 +2,8 @@
 use Rattle.std.proofs.Common.{◌≡◌, ℕ, ◌+◌, List, [], ◌∷◌, ◌++◌, length, refl, sym, length-append}
 use Rattle.tpm_journal_text.specs.Sum.{sum_from, sum_of, with_byte, offset_basis}
 
-pub sum_parts : (sum : ℕ) (front back : List ℕ) → sum_from sum (front ++ back) ≡ sum_from (sum_from sum front) back
+pub sum_parts : (sum : ℕ) (front back : List ℕ)
+    → sum_from sum (front ++ back) ≡ sum_from (sum_from sum front) back
 sum_parts sum [] back = refl
 sum_parts sum (byte ∷ front) back = sum_parts (with_byte sum byte) front back
 

@@ -14,7 +14,8 @@ use Rattle.tpm_keeping.specs.declared.holder.Phase.{Phase}
 use Rattle.tpm_keeping.specs.declared.holder.Phase.TheVariants.{Ended, Locking, Looking, Reading, Putting, Forcing, Making, Naming, Settling, Leaving}
 
 -- if a call ends with a fault, either the holder is unchanged, or the keeper requests the job `Cut`
-ended_so : (f : Fault) (c : Caller) → IsOrIsAsked c.holder (goes_on_in IsCut (Ended (ending.Failed f)) c).holder
+ended_so : (f : Fault) (c : Caller)
+    → IsOrIsAsked c.holder (goes_on_in IsCut (Ended (ending.Failed f)) c).holder
 ended_so fault.Damaged c = inr (Cut, [], refl)
 ended_so fault.Idle c = inl refl
 ended_so fault.Lock c = inl refl
@@ -55,7 +56,8 @@ going BeginsAgain Naming c = inl refl
 going BeginsAgain Settling c = inl refl
 going BeginsAgain (Leaving e) c = inl refl
 
-pub cuts_are_calls : (j : Journal) (c : Caller) (told : Told) → IsOrIsAsked (next_of j c.holder told) (next_call j c told).holder
+pub cuts_are_calls : (j : Journal) (c : Caller) (told : Told)
+    → IsOrIsAsked (next_of j c.holder told) (next_call j c told).holder
 cuts_are_calls j c told =
     let k = next_of j c.holder told in
     going c.on_damage k.phase (record c { holder = k })

@@ -1,7 +1,7 @@
 -- The invariant of the folder and of each holder. It holds after every event.
 use Rattle.std.proofs.Common.{◌≡◌, ◌⊎◌, ℕ, ◌+◌, ◌<◌, ◌≤◌, Bool, true, false, cond, List, [], ◌∷◌, ◌++◌, length, take, drop, Some, None, Option}
 use Rattle.std.specs.List.{AllByRecursion}
-use Rattle.tpm_keeping.specs.Journal.{Entered, Journal, Spot, entries, run, started, trail}
+use Rattle.tpm_keeping.specs.Journal.{Entered, Journal, Spot, entries, first_spot, run, trail}
 use Rattle.tpm_keeping.specs.Holder.{Holder, is_always, is_never}
 use Rattle.tpm_keeping.specs.World.{Answer, Content, File, Shared, World, adds, leads}
 use Rattle.tpm_keeping.specs.Kept.{Ascend, IsTrue}
@@ -37,7 +37,8 @@ pub record IsText (j : Journal) (head : List ℕ) (start : Spot) (c : Content) :
 -- `surely`. They all have entries, and they follow the commands `before` in the history. If the
 -- file exists, the contents are the head, these entries, and a torn end, which may be empty. If the
 -- file does not exist, there are no commands.
-pub record IsContent (j : Journal) (head : List ℕ) (start : Spot) (number : ℕ) (history before surely : List (List ℕ)) (c : Content) : Type 0 where
+pub record IsContent (j : Journal) (head : List ℕ) (start : Spot) (number : ℕ)
+    (history before surely : List (List ℕ)) (c : Content) : Type 0 where
   pub rest : List (List ℕ)
   pub has : c.commands ≡ surely ++ rest
   pub more : List (List ℕ)
@@ -48,7 +49,8 @@ pub record IsContent (j : Journal) (head : List ℕ) (start : Spot) (number : �
 
 -- A file's head decodes to the position `start`. The state at this position is valid, and is the
 -- result of executing the commands `before`, which precede the file's first entry.
-pub record IsHeaded (j : Journal) (origin head : List ℕ) (start : Spot) (before : List (List ℕ)) : Type 0 where
+pub record IsHeaded (j : Journal) (origin head : List ℕ) (start : Spot)
+    (before : List (List ℕ)) : Type 0 where
   pub after : j.after_head head ≡ Some start
   pub lives : j.is_state start.state ≡ true
   pub state : start.state ≡ run j origin before
@@ -56,7 +58,8 @@ pub record IsHeaded (j : Journal) (origin head : List ℕ) (start : Spot) (befor
 -- The invariant of a file: whatever a crash leaves of the file is a journal that contains all
 -- promised commands. The entries of `surely` are on the disk, and each promised command is in
 -- `before` or `surely`.
-pub record IsFile (j : Journal) (origin : List ℕ) (history : List (List ℕ)) (promised : ℕ) (lasting : Bool) (next : ℕ) (f : File) : Type 0 where
+pub record IsFile (j : Journal) (origin : List ℕ) (history : List (List ℕ)) (promised : ℕ)
+    (lasting : Bool) (next : ℕ) (f : File) : Type 0 where
   pub surely : List (List ℕ)
   pub enough : 0 < f.number → length (whole j f.head f.start surely) ≤ f.forced
   pub kept : promised ≤ length f.before + length surely
@@ -68,11 +71,13 @@ pub record IsFile (j : Journal) (origin : List ℕ) (history : List (List ℕ)) 
   pub past : AllByRecursion (IsContent j f.head f.start f.number history f.before surely) f.past
 
 abbrev pub Each : Journal → List ℕ → List (List ℕ) → List Answer → Type 0
-Each j origin history answers = AllByRecursion (λ a. a.is_gone ≡ false → IsTrue j origin history a) answers
+Each j origin history answers =
+    AllByRecursion (λ a. a.is_gone ≡ false → IsTrue j origin history a) answers
 
 abbrev pub Safe : ℕ → List Answer → Type 0
 Safe promised answers =
-    AllByRecursion (λ a. is_always a.force ≡ true → (a.is_gone ≡ false) × (a.place ≤ promised)) answers
+    AllByRecursion (λ a. is_always a.force ≡ true → (a.is_gone ≡ false) × (a.place ≤ promised))
+    answers
 
 pub record Still (j : Journal) (s : Shared) : Type 0 where
   pub told : s.history ≡ s.file.before ++ s.file.now.commands
@@ -111,7 +116,8 @@ sight s = record {
 -- The holder's device has executed the commands `done`, whose entries are the first in the file and
 -- end at the offset `place`. If the holder syncs before each response, all executed bytes except
 -- `unsure` are on the disk.
-pub record IsAt (j : Journal) (head : List ℕ) (start : Spot) (cs : List (List ℕ)) (forced : ℕ) (force : Force) (spot : Spot) (place : ℕ) (unsure : List ℕ) : Type 0 where
+pub record IsAt (j : Journal) (head : List ℕ) (start : Spot) (cs : List (List ℕ)) (forced : ℕ)
+    (force : Force) (spot : Spot) (place : ℕ) (unsure : List ℕ) : Type 0 where
   pub done : List (List ℕ)
   pub ahead : List (List ℕ)
   pub parts : cs ≡ done ++ ahead
@@ -123,7 +129,8 @@ pub record IsAt (j : Journal) (head : List ℕ) (start : Spot) (cs : List (List 
 
 -- If the holder has a device, and the file from which it was read is still the journal, then `IsAt`
 -- holds for this device. If the holder has no device, it has executed no bytes.
-pub record Knows (j : Journal) (f : File) (force : Force) (file : ℕ) (device : Option Spot) (place : ℕ) (unsure : List ℕ) : Type 0 where
+pub record Knows (j : Journal) (f : File) (force : Force) (file : ℕ) (device : Option Spot)
+    (place : ℕ) (unsure : List ℕ) : Type 0 where
   pub at : (s : Spot) → device ≡ Some s → file ≡ f.number
       → IsAt j f.head f.start f.now.commands f.forced force s place unsure
   pub empty : device ≡ None → (place ≡ 0) × (unsure ≡ [])
@@ -133,7 +140,8 @@ KnowsOf j v k = Knows j v.file k.force k.file k.device k.place k.unsure
 
 -- The holder has executed all complete entries of the journal. If it syncs before each response,
 -- all bytes of these entries except `unsure` are on the disk.
-pub record HasAll (j : Journal) (f : File) (force : Force) (file place : ℕ) (unsure : List ℕ) : Type 0 where
+pub record HasAll (j : Journal) (f : File) (force : Force) (file place : ℕ) (unsure : List ℕ) : Type
+    0 where
   pub same : file ≡ f.number
   pub named : 0 < f.number
   pub front : List ℕ
@@ -150,13 +158,15 @@ Gives job j state c response = Unit {0}
 
 -- `command` is the last command of the history, and `response` is the device's response to it. No
 -- response at this position has been sent yet.
-pub record IsLast (j : Journal) (origin : List ℕ) (history : List (List ℕ)) (answers : List Answer) (command response : List ℕ) : Type 0 where
+pub record IsLast (j : Journal) (origin : List ℕ) (history : List (List ℕ)) (answers : List Answer)
+    (command response : List ℕ) : Type 0 where
   pub before : List (List ℕ)
   pub is : history ≡ before ++ command ∷ []
   pub gives : response ≡ j.response (run j origin before) command
   pub new : AllByRecursion (λ a. a.is_gone ≡ false → a.place < length history) answers
 
-abbrev pub LastIf : Job → Journal → (origin : List ℕ) → (history : List (List ℕ)) → List Answer → (command response : List ℕ) → Type 0
+abbrev pub LastIf : Job → Journal → (origin : List ℕ) → (history : List (List ℕ)) → List Answer
+    → (command response : List ℕ) → Type 0
 LastIf Execute j origin history answers c response = IsLast j origin history answers c response
 LastIf Show j origin history answers c response = response ≡ j.head (run j origin history)
 LastIf job j origin history answers c response = Unit {0}
@@ -190,37 +200,45 @@ pub record Puts (j : Journal) (f : File) (job : Job) (k : Holder) : Type 0 where
 -- The holder has executed all complete entries of the journal. If its job is `Execute`, its command
 -- is the last command of the history. If its job is `Show`, its response is the head for the
 -- current state.
-pub record Stays (j : Journal) (origin : List ℕ) (f : File) (history : List (List ℕ)) (answers : List Answer) (force : Force) (file : ℕ) (device : Option Spot) (place : ℕ) (unsure : List ℕ) (job : Job) (command response : List ℕ) : Type 0 where
+pub record Stays (j : Journal) (origin : List ℕ) (f : File) (history : List (List ℕ))
+    (answers : List Answer) (force : Force) (file : ℕ) (device : Option Spot) (place : ℕ)
+    (unsure : List ℕ) (job : Job) (command response : List ℕ) : Type 0 where
   pub all : HasAll j f force file place unsure
   pub has : device ≡ Some (spot_of j f)
   pub last : LastIf job j origin history answers command response
 
 abbrev pub StaysOf : Journal → Sight → Holder → Type 0
-StaysOf j v k = Stays j v.origin v.file v.history v.answers k.force k.file k.device k.place k.unsure k.job k.command k.response
+StaysOf j v k = Stays j v.origin v.file v.history v.answers k.force k.file k.device k.place k.unsure
+    k.job k.command k.response
 
 -- the bytes of a journal that begins in a state and contains the entries of these commands
 abbrev pub begun : Journal → List ℕ → List (List ℕ) → List ℕ
-begun j state cs = whole j (j.head state) (started j state) cs
+begun j state cs = whole j (j.head state) (first_spot j state) cs
 
 -- A journal exists, and the holder's output is a new journal that replaces it.
-pub record Follows (j : Journal) (f : File) (job : Job) (command : List ℕ) (device : Option Spot) (out response : List ℕ) : Type 0 where
+pub record Follows (j : Journal) (f : File) (job : Job) (command : List ℕ) (device : Option Spot)
+    (out response : List ℕ) : Type 0 where
   pub named : 0 < f.number
-  pub has : device ≡ Some (trail j (started j (run j (state_of j f) (leads j job command))) (adds j job command))
+  pub has : device
+      ≡ Some (trail j (first_spot j (run j (state_of j f) (leads j job command)))
+      (adds j job command))
   pub text : out ≡ begun j (run j (state_of j f) (leads j job command)) (adds j job command)
   pub gives : Gives job j (state_of j f) command response
 
 -- No journal exists, and the holder's output is the head of the first journal.
-pub record Founds (j : Journal) (f : File) (job : Job) (device : Option Spot) (out : List ℕ) : Type 0 where
+pub record Founds (j : Journal) (f : File) (job : Job) (device : Option Spot) (out : List ℕ) : Type
+    0 where
   pub unnamed : f.number ≡ 0
   pub is : job ≡ Begin
   pub state : List ℕ
   pub lives : j.is_state state ≡ true
-  pub has : device ≡ Some (started j state)
+  pub has : device ≡ Some (first_spot j state)
   pub text : out ≡ j.head state
 
 abbrev pub Makes : Journal → Sight → Holder → Type 0
 Makes j v k =
-    Follows j v.file k.job k.command k.device k.out k.response ⊎ Founds j v.file k.job k.device k.out
+    Follows j v.file k.job k.command k.device k.out k.response
+    ⊎ Founds j v.file k.job k.device k.out
 
 -- All complete entries of the file are on the disk, and a crash leaves no earlier content of the
 -- file.

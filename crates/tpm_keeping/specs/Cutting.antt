@@ -38,14 +38,14 @@ abbrev pub idle : Holder → Caller
 idle k = record { holder = k; on_damage = Ends; job = Show; command = [] }
 
 -- the keeper after it begins a call; a call that was still in progress is dropped
-abbrev pub called : (cuts : Bool) → Job → List ℕ → Holder → Caller
-called true job command k = record {
+abbrev pub caller_after_ask : (cuts : Bool) → Job → List ℕ → Holder → Caller
+caller_after_ask true job command k = record {
   holder = holder_after_ask (rests k) job command;
   on_damage = IsCut;
   job = job;
   command = command;
 }
-called false job command k =
+caller_after_ask false job command k =
     record {
       holder = holder_after_ask (rests k) job command;
       on_damage = Ends;

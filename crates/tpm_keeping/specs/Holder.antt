@@ -2,7 +2,7 @@
 -- keeper decides what it does: in the code the keeper is a `Keeper`, and in the definitions it is
 -- this record.
 use Rattle.std.specs.Prelude.{ℕ, ◌+◌, ◌-◌, ◌/◌, ◌==◌, ◌&&◌, ◌||◌, Bool, true, false, cond, List, [], ◌++◌, length, nat_le, take, Option, Some, None}
-use Rattle.tpm_keeping.specs.Journal.{Journal, Spot, started, stepped}
+use Rattle.tpm_keeping.specs.Journal.{Journal, Spot, first_spot, next_spot}
 use Rattle.tpm_keeping.specs.declared.holder.Force.{Force}
 use Rattle.tpm_keeping.specs.declared.holder.Force.TheVariants.{Never, Always}
 use Rattle.tpm_keeping.specs.declared.holder.Job.{Job}
@@ -144,13 +144,13 @@ is_grown j k p = nat_le k.limit k.place && nat_le (length (j.head p.state)) (k.p
 abbrev pub enters : Journal → Holder → (p : Spot) → (grown : Bool) → Holder
 enters j k p true = record k {
   phase = Making;
-  device = Some (stepped j (started j p.state) k.command);
-  out = j.head p.state ++ j.entry (started j p.state) k.command;
+  device = Some (next_spot j (first_spot j p.state) k.command);
+  out = j.head p.state ++ j.entry (first_spot j p.state) k.command;
   response = j.response p.state k.command;
 }
 enters j k p false = record k {
   phase = Putting;
-  device = Some (stepped j p k.command);
+  device = Some (next_spot j p k.command);
   out = k.unsure ++ j.entry p k.command;
   response = j.response p.state k.command;
 }
@@ -159,7 +159,7 @@ enters j k p false = record k {
 abbrev pub renews : Journal → Holder → (state response : List ℕ) → Holder
 renews j k state response = record k {
   phase = Making;
-  device = Some (started j state);
+  device = Some (first_spot j state);
   out = j.head state;
   response = response;
 }
@@ -223,16 +223,16 @@ abbrev pub finishes : Journal → Holder → Option (Spot × ℕ) → Holder
 finishes j k None = salvages j k.job k.device k
 finishes j k (Some found) = acts j k.job (caught_up k found.1) found.0
 
-abbrev pub found : Journal → Option Spot → List ℕ → Option (Spot × ℕ)
-found j None text = j.opened text
-found j (Some p) text = j.followed p text
+abbrev pub found_spot : Journal → Option Spot → List ℕ → Option (Spot × ℕ)
+found_spot j None text = j.opened text
+found_spot j (Some p) text = j.followed p text
 
 -- whether the whole file was read, so that it can be executed
 abbrev pub is_read : Holder → Bool
 is_read k = nat_le k.size k.seen
 
 abbrev pub reads_on : Journal → Holder → Holder
-reads_on j k = cond (is_read k) (finishes j k (found j k.device k.read)) (goes Reading k)
+reads_on j k = cond (is_read k) (finishes j k (found_spot j k.device k.read)) (goes Reading k)
 
 -- the holder after a read; an empty read means that the file was truncated
 abbrev pub has_read : Journal → Holder → List ℕ → Holder

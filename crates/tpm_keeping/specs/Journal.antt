@@ -53,29 +53,29 @@ run j s [] = s
 run j s (c ∷ cs) = run j (j.after s c) cs
 
 -- the position after the head for a state
-abbrev pub started : Journal → List ℕ → Spot
-started j s = record { state = s; chain = j.first s }
+abbrev pub first_spot : Journal → List ℕ → Spot
+first_spot j s = record { state = s; chain = j.first s }
 
 -- the position after the entry of one command
-abbrev pub stepped : Journal → Spot → List ℕ → Spot
-stepped j p c = record { state = j.after p.state c; chain = j.link p c }
+abbrev pub next_spot : Journal → Spot → List ℕ → Spot
+next_spot j p c = record { state = j.after p.state c; chain = j.link p c }
 
 -- the position after the entries of several commands
 abbrev pub trail : Journal → Spot → List (List ℕ) → Spot
 trail j p [] = p
-trail j p (c ∷ cs) = trail j (stepped j p c) cs
+trail j p (c ∷ cs) = trail j (next_spot j p c) cs
 
 -- the entries for commands, one after another
 abbrev pub entries : Journal → Spot → List (List ℕ) → List ℕ
 entries j p [] = []
-entries j p (c ∷ cs) = j.entry p c ++ entries j (stepped j p c) cs
+entries j p (c ∷ cs) = j.entry p c ++ entries j (next_spot j p c) cs
 
 -- the commands whose entries are complete within the first `count` bytes
 abbrev pub whole_in : Journal → Spot → List (List ℕ) → (count : ℕ) → List (List ℕ)
 whole_in j p [] count = []
 whole_in j p (c ∷ cs) count =
     cond (nat_le (length (j.entry p c)) count)
-    (c ∷ whole_in j (stepped j p c) cs (count - length (j.entry p c)))
+    (c ∷ whole_in j (next_spot j p c) cs (count - length (j.entry p c)))
     []
 
 -- each of these commands has an entry
@@ -89,7 +89,7 @@ pub record IsJournal (j : Journal) : Type 0 where
   -- a device that has a valid state before a command has a valid state after it
   pub leads : (s c : List ℕ) → j.is_state s ≡ true → j.is_state (j.after s c) ≡ true
   -- the head that is written for a state decodes to the position with this state
-  pub heads : (s : List ℕ) → j.is_state s ≡ true → j.after_head (j.head s) ≡ Some (started j s)
+  pub heads : (s : List ℕ) → j.is_state s ≡ true → j.after_head (j.head s) ≡ Some (first_spot j s)
   -- if a journal consists of a head, complete entries and a torn rest, opening it executes these
   -- entries, beginning at the position after the head
   pub opens : (head : List ℕ) (p : Spot) (cs : List (List ℕ)) (tail : List ℕ)

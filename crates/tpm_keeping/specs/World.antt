@@ -37,7 +37,7 @@
 -- - The removal of the lock's file while a holder has the lock.
 -- - Anybody else who writes to the folder.
 use Rattle.std.specs.Prelude.{◌≡◌, ℕ, zero, suc, ◌+◌, ◌-◌, ◌<◌, ◌≤◌, ◌==◌, ◌&&◌, Bool, true, false, cond, List, [], ◌∷◌, ◌++◌, drop, length, max, min, nat_le, take, Option, Some, None}
-use Rattle.tpm_keeping.specs.Journal.{Entered, Journal, Spot, entries, run, started, trail, whole_in}
+use Rattle.tpm_keeping.specs.Journal.{Entered, Journal, Spot, entries, first_spot, run, trail, whole_in}
 use Rattle.tpm_keeping.specs.Holder.{Holder, Told, Done, Stands, Gone, Bytes, Failed, Starved, holder_after_ask, is_never, newborn, next_in, rests, sure}
 use Rattle.tpm_keeping.specs.View.{ask_in}
 use Rattle.tpm_keeping.specs.declared.keeper.Ask.{Ask}
@@ -218,7 +218,7 @@ named_from j origin s k =
       file = record {
         number = s.next;
         head = j.head base;
-        start = started j base;
+        start = first_spot j base;
         before = before;
         now = record { text = s.fresh; commands = adds j k.job k.command };
         past = [];

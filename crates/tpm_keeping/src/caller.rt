@@ -2,7 +2,7 @@
 //! and begins the call again.
 
 ghost use Rattle.std.specs.Prelude.{◌≡◌, OnErr, OnOk};
-ghost use Rattle.tpm_keeping.specs.Cutting.{called, caller_of, goes_on, idle, next_call};
+ghost use Rattle.tpm_keeping.specs.Cutting.{caller_after_ask, caller_of, goes_on, idle, next_call};
 ghost use Rattle.tpm_keeping.specs.Holder.{Starved, newborn};
 ghost use Rattle.tpm_keeping.specs.View.{ask_of, told_of};
 
@@ -53,7 +53,7 @@ impl<D: Device> CuttingKeeper<D> {
     /// changed.
     pub fn begin(&mut self, cuts: bool, job: Job, command: Vec<u8>) -> Result<(), Exhausted>
         ensures ok { OnOk result (caller_of D.spot self.new
-            ≡ called cuts job command.items (caller_of D.spot self.old).holder) }
+            ≡ caller_after_ask cuts job command.items (caller_of D.spot self.old).holder) }
         ensures err { OnErr result (self.new ≡ self.old) }
     {
         if cuts {

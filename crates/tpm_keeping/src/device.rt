@@ -3,7 +3,7 @@
 ghost use Rattle.std.specs.Prelude.{◌≡◌, ◌++◌, ℕ, List, IfOk, OnOk, false, true};
 ghost use Rattle.std.specs.Option.{MatchOption};
 ghost use Rattle.std.specs.declared.option.Option.TheVariants.{None, Some};
-ghost use Rattle.tpm_keeping.specs.Journal.{Journal, IsJournal, Spot, started, stepped};
+ghost use Rattle.tpm_keeping.specs.Journal.{Journal, IsJournal, Spot, first_spot, next_spot};
 
 use std::alloc::Global;
 
@@ -65,7 +65,7 @@ pub trait Device: Drop + Sized {
         response: &mut Vec<u8>,
     ) -> Result<(), Exhausted>
         requires { journal.is_entered command.now ≡ true }
-        ensures spot { OnOk result (spot self.new ≡ stepped journal (spot self.old) command.now) }
+        ensures spot { OnOk result (spot self.new ≡ next_spot journal (spot self.old) command.now) }
         ensures entry { OnOk result (out.new.items
             ≡ out.old.items ++ journal.entry (spot self.old) command.now) }
         ensures response { OnOk result (response.new.items
@@ -89,7 +89,7 @@ pub trait Device: Drop + Sized {
     /// Like `show`, but the device's next entry then continues the journal that begins with this
     /// head.
     fn renew(&mut self, out: &mut Vec<u8>) -> Result<(), Exhausted>
-        ensures spot { OnOk result (spot self.new ≡ started journal (spot self.old).state) }
+        ensures spot { OnOk result (spot self.new ≡ first_spot journal (spot self.old).state) }
         ensures head { OnOk result (out.new.items
             ≡ out.old.items ++ journal.head (spot self.old).state) };
 }

@@ -3,7 +3,7 @@
 
 ghost use Rattle.std.specs.Prelude.{◌≡◌, ◌+◌, ◌++◌, ℕ, List, [], IfOk, OnErr, OnOk, length};
 ghost use Rattle.tpm_keeping.specs.Holder.{acts, begins, caught_up, executes, holder_after_ask, holder_after_fault};
-ghost use Rattle.tpm_keeping.specs.Holder.{finishes, forgets, found, has_named, has_put, has_read};
+ghost use Rattle.tpm_keeping.specs.Holder.{finishes, forgets, found_spot, has_named, has_put, has_read};
 ghost use Rattle.tpm_keeping.specs.Holder.{Starved, holder_after_look, newborn, next_of, reads_on, rests};
 ghost use Rattle.tpm_keeping.specs.Holder.{settles, shows, sure};
 ghost use Rattle.tpm_keeping.specs.declared.holder.End.{End};

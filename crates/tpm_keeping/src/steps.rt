@@ -4,7 +4,7 @@ ghost use Rattle.std.specs.Prelude.{◌≡◌, ◌+◌, ◌++◌, ℕ, List, [],
 ghost use Rattle.std.specs.Prelude.{false, take, true};
 ghost use Rattle.std.specs.declared.option.Option.TheVariants.{None, Some};
 ghost use Rattle.tpm_keeping.specs.Holder.{acts, begins, caught_up, enters, executes, finishes, holder_after_fault};
-ghost use Rattle.tpm_keeping.specs.Holder.{found, has_named, has_put, has_read, holder_after_look, is_grown, leaps};
+ghost use Rattle.tpm_keeping.specs.Holder.{found_spot, has_named, has_put, has_read, holder_after_look, is_grown, leaps};
 ghost use Rattle.tpm_keeping.specs.Holder.{reads_on, renews, settles, shows};
 ghost use Rattle.tpm_keeping.specs.Holder.{begins_of, salvages};
 ghost use Rattle.tpm_keeping.specs.declared.holder.Fault.TheVariants.{Memory};
@@ -80,7 +80,7 @@ impl<D: Device> Keeper<D> {
     fn finishes(&mut self) -> Result<(), Exhausted>
         ensures ok { OnOk result (holder_of D.spot self.new ≡ finishes D.journal
             (holder_of D.spot self.old)
-            (found D.journal (holder_of D.spot self.old).device self.old.read.items)) }
+            (found_spot D.journal (holder_of D.spot self.old).device self.old.read.items)) }
         ensures err { OnErr result (holder_after_fault Memory (holder_of D.spot self.new)
             ≡ holder_after_fault Memory (holder_of D.spot self.old)) }
     {

@@ -1,7 +1,7 @@
 -- The journal of the echoing device satisfies what a keeper requires.
 use Rattle.std.proofs.Common.{◌≡◌, ℕ, zero, suc, ◌+◌, ◌<◌, true, List, [], ◌∷◌, ◌++◌, length, take, Some, refl, sym, ap, ◌∙◌, arith}
 use Rattle.std.proofs.lemmas.List.{append-nil}
-use Rattle.tpm_keeping.specs.Journal.{IsJournal, Spot, entries, started, trail}
+use Rattle.tpm_keeping.specs.Journal.{IsJournal, Spot, entries, first_spot, trail}
 use Rattle.tpm_keeping_tests.specs.Echo.{echo, followed_at, headed_at, is_empty, nothing, opened_at, salvaged_at}
 
 none : (text : List ℕ) → is_empty text ≡ true → text ≡ []
@@ -34,8 +34,8 @@ salvages (b ∷ text) p size is =
     size_is : (a b : Spot × ℕ) → Some a ≡ Some b → a.1 ≡ b.1
     size_is a b e = let same : a ≡ b = cc in ap (λ (x : Spot × ℕ). x.1) same
 
-begun : (s : List ℕ) → is_empty s ≡ true → started echo s ≡ nothing
-begun s is = ap (λ (x : List ℕ). started echo x) (none s is)
+begun : (s : List ℕ) → is_empty s ≡ true → first_spot echo s ≡ nothing
+begun s is = ap (λ (x : List ℕ). first_spot echo x) (none s is)
 
 -- A head is one byte, and the position after it is `nothing`.
 head_is : (head : List ℕ) (p : Spot) → headed_at head ≡ Some p

@@ -12,20 +12,21 @@ use Rattle.tpm_keeping.specs.Journal.{Spot}
 use Rattle.tpm_record.specs.Record.{Record}
 use Rattle.tpm_state_text.specs.State.{state_text}
 use Rattle.tpm_state_text.proofs.StateLaws.{text_small}
-use Rattle.tpm_kept_journal.specs.Opening.{head_of, head_sum_of, walked}
+use Rattle.tpm_kept_journal.specs.Opening.{head_of, head_sum_of, spot_after_walk}
 use Rattle.tpm_kept_journal.specs.State.{DeviceState, IsDeviceState, bytes_of, spot_of, state_in, whole_of}
 use Rattle.tpm_kept_journal.proofs.Following.{Tells, followed_so}
 use Rattle.tpm_kept_journal.proofs.Shown.{head_shown, sum_shown}
 
 -- ---- executing entries
 
-module _ (before : Journal) (old : Record) (text : List ℕ) (followed : Followed) (after : Journal) (new : Record) (is : IsDeviceState (state_in before old))
+module _ (before : Journal) (old : Record) (text : List ℕ) (followed : Followed) (after : Journal)
+    (new : Record) (is : IsDeviceState (state_in before old))
     (replays : Replays false before old text followed after new) where
   abbrev there : Spot
   there = spot_of after new
 
   abbrev found : Option (Spot × ℕ)
-  found = walked (spot_of before old) 0 text
+  found = spot_after_walk (spot_of before old) 0 text
 
   pub followed_whole : followed.fault ≡ None → found ≡ Some (there, followed.taken)
   followed_whole whole =
@@ -41,7 +42,8 @@ module _ (before : Journal) (old : Record) (text : List ℕ) (followed : Followe
 
 -- ---- writing a head
 
-module _ (s : DeviceState) (is : IsDeviceState s) (text : List ℕ) (same : text ≡ state_text (whole_of s)) where
+module _ (s : DeviceState) (is : IsDeviceState s) (text : List ℕ)
+    (same : text ≡ state_text (whole_of s)) where
   pub text_fits : length text ≤ content_limit State
   text_fits = omega (arith, ap length same, text_small (whole_of s) is.whole)
 

@@ -2,7 +2,7 @@
 use Rattle.std.specs.Prelude.{ℕ, List, length, nat_lt, Result, Ok}
 use Rattle.std.specs.Int.{w8, w16, w32}
 use Rattle.tpm_bytes.specs.Reading.{◌>>=◌, refused_if}
-use Rattle.tpm_image_text.specs.Fields.{malformed, number_in}
+use Rattle.tpm_image_text.specs.Fields.{malformed_fault, number_in}
 use Rattle.tpm_image_text.specs.declared.fault.Malformed.{Malformed}
 use Rattle.tpm_types.specs.Limits.{buffer_limit}
 use Rattle.tpm_kept_device.specs.declared.answer.Answer.{Answer}
@@ -27,5 +27,5 @@ answer_of text = do
   code ← number_in w32 text
   check ← number_in w8 code.1
   drawn ← number_in w16 check.1
-  few ← refused_if (nat_lt buffer_limit (length drawn.1)) malformed
+  few ← refused_if (nat_lt buffer_limit (length drawn.1)) malformed_fault
   Ok (record { code = code.0; check = check.0; drawn = drawn.0; response = drawn.1 })

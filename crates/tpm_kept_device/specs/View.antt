@@ -5,7 +5,7 @@ use Rattle.tpm_keeping.specs.Journal.{Spot}
 use Rattle.tpm_slots.specs.SlotRecord.{slot_record}
 use Rattle.tpm_types.specs.Locality.{locality_number}
 use Rattle.tpm_kept_journal.specs.Command.{After, At, Begins, Cycles, Executes, KeptCommand, Moment}
-use Rattle.tpm_kept_journal.specs.Effect.{reported}
+use Rattle.tpm_kept_journal.specs.Effect.{report_and_response}
 use Rattle.tpm_kept_journal.specs.Seed.{Seed}
 use Rattle.tpm_kept_journal.specs.State.{DeviceState, spot_of, state_in}
 use Rattle.tpm_kept_device.specs.declared.command.Command.{Command}
@@ -49,7 +49,7 @@ seen_in parts = seen_of slot_record parts.machine parts.journal.layer parts.outc
 
 -- the report on a device's latest command, followed by the device's response
 abbrev pub answer_in : Parts → List ℕ
-answer_in parts = reported (seen_in parts)
+answer_in parts = report_and_response (seen_in parts)
 
 -- A device was created in this state, or there is neither a state nor a device.
 abbrev pub BeginsAs : {B : Type 0} → (B → Parts) → Option DeviceState → Option B → Type 0

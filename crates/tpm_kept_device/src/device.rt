@@ -110,9 +110,6 @@ impl KeptDevice {
         if let Some(parts) = begun {
             self.parts = parts;
         }
-        match told {
-            Ok(()) => Ok(()),
-            Err(_) => Err(Exhausted),
-        }
+        told.map_err(|_| Exhausted)
     }
 }

@@ -8,10 +8,10 @@ ghost use Rattle.tpm_completion.specs.Execution.{seen_of};
 ghost use Rattle.tpm_journal.specs.Opening.{OpensJournal};
 ghost use Rattle.tpm_journal.specs.Replay.{Replays};
 ghost use Rattle.tpm_journal.specs.State.{journal_after};
-ghost use Rattle.tpm_keeping.specs.Journal.{started, stepped};
+ghost use Rattle.tpm_keeping.specs.Journal.{first_spot, next_spot};
 ghost use Rattle.tpm_kept_journal.specs.DeviceJournal.{device_journal};
 ghost use Rattle.tpm_kept_journal.specs.Effect.{command_on, cycled_at};
-ghost use Rattle.tpm_kept_journal.specs.Opening.{head_of, head_sum_of, opened_text, walked};
+ghost use Rattle.tpm_kept_journal.specs.Opening.{head_of, head_sum_of, opened_text, spot_after_walk};
 ghost use Rattle.tpm_kept_journal.specs.Salvage.{salvaged_text};
 ghost use Rattle.tpm_kept_journal.specs.Seed.{begun_in, layer_restored, state_made, state_opened, state_restored};
 ghost use Rattle.tpm_kept_journal.specs.State.{IsDeviceState, bytes_of, whole_of};
@@ -190,8 +190,9 @@ impl Parts {
 
     /// Executes entries. Returns None if they do not continue the device's journal.
     pub fn follow(&mut self, text: &[u8]) -> Option<usize>
-        ensures { MatchOption result (walked (spot_in self.old) 0 text.now ≡ None)
-            (λ taken. walked (spot_in self.old) 0 text.now ≡ Some (spot_in self.new, taken)) }
+        ensures { MatchOption result (spot_after_walk (spot_in self.old) 0 text.now ≡ None)
+            (λ taken. spot_after_walk (spot_in self.old) 0 text.now
+            ≡ Some (spot_in self.new, taken)) }
     {
         self.read_widths();
         let followed = self
@@ -213,7 +214,7 @@ impl Parts {
     ) -> Result<(), Exhausted>
         requires { device_journal.is_entered command.now ≡ true }
         ensures spot { OnOk result (spot_in self.new
-            ≡ stepped device_journal (spot_in self.old) command.now) }
+            ≡ next_spot device_journal (spot_in self.old) command.now) }
         ensures entry { OnOk result (out.new.items
             ≡ out.old.items ++ device_journal.entry (spot_in self.old) command.now) }
         ensures response { OnOk result (response.new.items
@@ -250,7 +251,7 @@ impl Parts {
     /// `outcome` and in the machine.
     fn perform(&mut self, command: &[u8]) -> usize
         requires { device_journal.is_entered command.now ≡ true }
-        ensures spot { spot_in self.new ≡ stepped device_journal (spot_in self.old) command.now }
+        ensures spot { spot_in self.new ≡ next_spot device_journal (spot_in self.old) command.now }
         ensures entry { take result self.new.entry
             ≡ device_journal.entry (spot_in self.old) command.now }
         ensures fits { result ≤ length self.new.entry }
@@ -287,7 +288,7 @@ impl Parts {
 
     /// Power-cycles the device. The completing layer keeps its start number, and forgets its
     /// sequence objects and the contexts of sessions.
-    #[tactic(auto, unfolding(tpm_completion::specs::Completed::passed))]
+    #[tactic(auto, unfolding(tpm_completion::specs::Completed::device_effect))]
     pub fn cycle_power(&mut self, now_ms: u64)
         ensures { state_of self.new ≡ cycled_at (state_of self.old) now_ms }
     {

@@ -14,11 +14,13 @@ abbrev HasStart : ℕ → Option DeviceState → Type 0
 HasStart start (Some s) = s.layer.start ≡ start
 HasStart start None = Unit {0}
 
-either : (start : ℕ) (b : Bool) (x y : Option DeviceState) → HasStart start x → HasStart start y → HasStart start (cond b x y)
+either : (start : ℕ) (b : Bool) (x y : Option DeviceState) → HasStart start x → HasStart start y
+    → HasStart start (cond b x y)
 either start true x y p q = p
 either start false x y p q = q
 
-opened_start : (seed : Seed) (read : Result NonVolatile ImageFault) → HasStart seed.start (state_opened seed read)
+opened_start : (seed : Seed) (read : Result NonVolatile ImageFault)
+    → HasStart seed.start (state_opened seed read)
 opened_start seed (Ok kept) = refl
 opened_start seed (Err why) = tt
 
@@ -26,7 +28,8 @@ layer_start : (start : ℕ) (layer : Option Layer) → (layer_restored start lay
 layer_start start (Some layer) = refl
 layer_start start None = refl
 
-restored_start : (seed : Seed) (read : Result WholeState StateFault) → HasStart seed.start (state_restored seed read)
+restored_start : (seed : Seed) (read : Result WholeState StateFault)
+    → HasStart seed.start (state_restored seed read)
 restored_start seed (Ok whole) = layer_start seed.start whole.layer
 restored_start seed (Err why) = tt
 
@@ -37,8 +40,11 @@ begun_start : (seed : Seed) → HasStart seed.start (begun_of seed)
 unfolding begun_of
 begun_start seed =
     either seed.start (seed.kind == 0) (state_made seed) _ (made_start seed)
-    (either seed.start (seed.kind == 1) (state_opened seed (image_of seed.content)) _ (opened_start seed (image_of seed.content))
-    (either seed.start (seed.kind == 2) (state_restored seed (state_of_text seed.content)) None (restored_start seed (state_of_text seed.content)) tt))
+    (either seed.start (seed.kind == 1) (state_opened seed (image_of seed.content)) _
+    (opened_start seed (image_of seed.content))
+    (either seed.start (seed.kind == 2) (state_restored seed (state_of_text seed.content)) None
+    (restored_start seed (state_of_text seed.content)) tt))
 
-pub begins_with : (seed : Seed) (s : DeviceState) → begun_of seed ≡ Some s → s.layer.start ≡ seed.start
+pub begins_with : (seed : Seed) (s : DeviceState) → begun_of seed ≡ Some s
+    → s.layer.start ≡ seed.start
 begins_with seed s is = subst (HasStart seed.start) is (begun_start seed)

@@ -61,7 +61,8 @@ in_slot_is c slot is =
       | inr le ↦ subst IsSlot (sym (get_or_past c.sequences slot None le)) tt
     ]
 
-pub with_sequence_fine : (c : Completion) (slot : ℕ) (object : SequenceObject) → IsFine c → IsSequenceObject object → IsFine (with_sequence c slot object)
+pub with_sequence_fine : (c : Completion) (slot : ℕ) (object : SequenceObject) → IsFine c
+    → IsSequenceObject object → IsFine (with_sequence c slot object)
 with_sequence_fine c slot object is one = record {
   start = is.start;
   count = is.count;
@@ -71,7 +72,8 @@ with_sequence_fine c slot object is one = record {
   each_sequence = All-set IsSlot c.sequences slot (Some object) one is.each_sequence;
 }
 
-pub without_sequence_fine : (c : Completion) (slot : ℕ) → IsFine c → IsFine (without_sequence c slot)
+pub without_sequence_fine : (c : Completion) (slot : ℕ) → IsFine c
+    → IsFine (without_sequence c slot)
 without_sequence_fine c slot is = record {
   start = is.start;
   count = is.count;

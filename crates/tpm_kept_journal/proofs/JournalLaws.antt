@@ -21,21 +21,26 @@ front_torn p c k (Further e is text performed) less =
     let own : List ℕ = entry_text p.chain e in
     ap (λ (l : List ℕ). is_torn_text p.chain (take k l)) text
     ∙ ap (is_torn_text p.chain) (sym (append-nil (take k own)))
-    ∙ torn_so p.chain (take k own ++ replicate 0 0) (torn_entry p.chain e k 0 is (omega (arith, less, ap length text)))
+    ∙ torn_so p.chain (take k own ++ replicate 0 0)
+    (torn_entry p.chain e k 0 is (omega (arith, less, ap length text)))
 
-littered : (sum : ℕ) (tail : List ℕ) (k : ℕ) (litter : List ℕ) → is_torn_text sum tail ≡ true → are_zeros litter ≡ true
+littered : (sum : ℕ) (tail : List ℕ) (k : ℕ) (litter : List ℕ) → is_torn_text sum tail ≡ true
+    → are_zeros litter ≡ true
     → is_torn_text sum (take k tail ++ litter) ≡ true
 littered sum tail k litter torn zeros =
     ap (λ (l : List ℕ). is_torn_text sum (take k tail ++ l)) (zeros_are litter zeros)
     ∙ torn_so sum _ (torn_again sum tail k (length litter) ((is_torn_text-Decides sum tail).0 torn))
 
-opens : (head : List ℕ) (p : Spot) (cs : List (List ℕ)) (tail : List ℕ) → device_journal.after_head head ≡ Some p
+opens : (head : List ℕ) (p : Spot) (cs : List (List ℕ)) (tail : List ℕ)
+    → device_journal.after_head head ≡ Some p
     → Entered device_journal cs → is_torn_text (end_of p cs).chain tail ≡ true
-    → device_journal.opened (head ++ (all p cs ++ tail)) ≡ Some (end_of p cs, length head + length (all p cs))
+    → device_journal.opened (head ++ (all p cs ++ tail))
+    ≡ Some (end_of p cs, length head + length (all p cs))
 opens head p cs tail starts are torn =
     opened_after head (all p cs ++ tail) p starts ∙ walked_all p cs (length head) tail are torn
 
-follows : (p : Spot) (cs : List (List ℕ)) (tail : List ℕ) → Entered device_journal cs → is_torn_text (end_of p cs).chain tail ≡ true
+follows : (p : Spot) (cs : List (List ℕ)) (tail : List ℕ) → Entered device_journal cs
+    → is_torn_text (end_of p cs).chain tail ≡ true
     → device_journal.followed p (all p cs ++ tail) ≡ Some (end_of p cs, length (all p cs))
 follows p cs tail are torn =
     let none : 0 + length (all p cs) ≡ length (all p cs) = omega arith in

@@ -18,12 +18,21 @@ use Rattle.tpm_image_text.proofs.Bytes.{are_bytes-Decides}
 bytes_joined : (front back : List ℕ) → AreBytes front → AreBytes back → AreBytes (front ++ back)
 bytes_joined [] back are others i = others i
 bytes_joined (byte ∷ front) back are others zero = are 0
-bytes_joined (byte ∷ front) back are others (suc i) = bytes_joined front back (λ k. are (suc k)) others i
+bytes_joined (byte ∷ front) back are others (suc i) =
+    bytes_joined front back (λ k. are (suc k)) others i
 
 number_bytes : (n : ℕ) → AreBytes (to_be_bytes w64 n)
 number_bytes n =
-    all_small (to_be_bytes w64 n)
-    (omega arith, (omega arith, (omega arith, (omega arith, (omega arith, (omega arith, (omega arith, (omega arith, tt))))))))
+    all_small (to_be_bytes w64 n) (
+      omega arith,
+      (
+        omega arith,
+        (
+          omega arith,
+          (omega arith, (omega arith, (omega arith, (omega arith, (omega arith, tt))))),
+        ),
+      ),
+    )
 
 both : (a b : Bool) → a ≡ true → b ≡ true → (a && b) ≡ true
 both a b is so = ap (λ (x : Bool). x && b) is ∙ so
@@ -34,7 +43,8 @@ module _ (s : DeviceState) (is : IsDeviceState s) (are : AreBytes (state_text (w
 
   all_bytes : AreBytes text
   unfolding bytes_of
-  all_bytes = bytes_joined (to_be_bytes w64 s.time) (state_text (whole_of s)) (number_bytes s.time) are
+  all_bytes = bytes_joined (to_be_bytes w64 s.time) (state_text (whole_of s)) (number_bytes s.time)
+      are
 
   small : length (content_in text) ≤ content_limit State
   small = omega (arith, ap length (content_of s), text_small (whole_of s) is.whole)
@@ -49,7 +59,8 @@ module _ (s : DeviceState) (is : IsDeviceState s) (are : AreBytes (state_text (w
   unfolding head_of
   head_shown =
       sym (
-      ap (λ (b : Bool). cond b (head_text State (time_in text) (content_in text)) (no_head text)) writable
+      ap (λ (b : Bool). cond b (head_text State (time_in text) (content_in text)) (no_head text))
+      writable
       ∙ ap (λ (n : ℕ). head_text State n (content_in text)) (time_of s is.time)
       ∙ ap (head_text State s.time) (content_of s)
       )

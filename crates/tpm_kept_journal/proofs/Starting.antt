@@ -32,7 +32,7 @@ use Rattle.tpm_state_text.specs.declared.layer.Layer.{Layer}
 use Rattle.tpm_state_text.proofs.StateLaws.{current_found}
 use Rattle.tpm_step.proofs.step.PowerCycles.{none_taken, starting_banks}
 use Rattle.tpm_types.specs.Limits.{object_limit, session_limit}
-use Rattle.tpm_kept_journal.specs.Opening.{walked_after, opened_text, spot_by, started_at, started_by, started_no_head, walked}
+use Rattle.tpm_kept_journal.specs.Opening.{walked_after, opened_text, spot_by, started_at, started_by, started_no_head, spot_after_walk}
 use Rattle.tpm_kept_journal.specs.State.{IsDeviceState, spot_of, state_in}
 use Rattle.tpm_kept_journal.specs.texts.HeadAt.{PlainHead, head_at}
 use Rattle.tpm_kept_journal.proofs.Entries.{sum_small}
@@ -62,47 +62,57 @@ powered_record kept is = record {
 }
 
 -- A time of 64 bits, a valid layer and a valid record form a valid state.
-pub device_is : (time : ℕ) (layer : Completion) (device : Record) → time < 2 ^ 64 → IsFine layer → IsRecord device
+pub device_is : (time : ℕ) (layer : Completion) (device : Record) → time < 2 ^ 64 → IsFine layer
+    → IsRecord device
     → IsDeviceState (record { time = time; layer = layer; device = device })
 device_is time layer device small fine is = record {
   time = small;
   whole = record { device = is; layer = fine };
 }
 
-pub layer_in_fine : (sum : ℕ) (state : WholeState) → sum < 2 ^ 64 → IsWholeState state → IsFine (layer_in sum state.layer)
+pub layer_in_fine : (sum : ℕ) (state : WholeState) → sum < 2 ^ 64 → IsWholeState state
+    → IsFine (layer_in sum state.layer)
 layer_in_fine sum state small is = by state.layer is.layer
   where
     by : (layer : Option Layer) → IfSome layer IsLayer → IsFine (layer_in sum layer)
     by (Some layer) is = is
     by None is = new_fine sum small
 
-module _ (clock : ℕ) (content : List ℕ) (small : clock < 2 ^ 64) (are : AreBytes content) (start : Start) where
+module _ (clock : ℕ) (content : List ℕ) (small : clock < 2 ^ 64) (are : AreBytes content)
+    (start : Start) where
   sum_is : head_sum clock content < 2 ^ 64
   sum_is = sum_small offset_basis (head_mark clock content) (omega arith)
 
-  by_image : (read : Result NonVolatile ImageFault) → image_of content ≡ read → start_by_image clock content read ≡ Ok start
+  by_image : (read : Result NonVolatile ImageFault) → image_of content ≡ read
+      → start_by_image clock content read ≡ Ok start
       → IsDeviceState (state_in start.journal start.device)
   by_image (Ok kept) e is =
-      subst (λ (s : Start). IsDeviceState (state_in s.journal s.device)) (ok_is {E = OpenFault} _ start is)
+      subst (λ (s : Start). IsDeviceState (state_in s.journal s.device))
+      (ok_is {E = OpenFault} _ start is)
       (device_is clock _ (powered_on kept) small (new_fine (head_sum clock content) sum_is)
       (powered_record kept (image_taken content kept are e).1))
   by_image (Err why) e is = absurd cc
 
-  by_state : (read : Result WholeState StateFault) → current_state_of_text content ≡ read → start_by_state clock content read ≡ Ok start
+  by_state : (read : Result WholeState StateFault) → current_state_of_text content ≡ read
+      → start_by_state clock content read ≡ Ok start
       → IsDeviceState (state_in start.journal start.device)
   by_state (Ok whole) e is =
       let found = (current_found content whole are e).0 in
-      subst (λ (s : Start). IsDeviceState (state_in s.journal s.device)) (ok_is {E = OpenFault} _ start is)
-      (device_is clock _ whole.device small (layer_in_fine (head_sum clock content) whole sum_is found) found.device)
+      subst (λ (s : Start). IsDeviceState (state_in s.journal s.device))
+      (ok_is {E = OpenFault} _ start is)
+      (device_is clock _ whole.device small
+      (layer_in_fine (head_sum clock content) whole sum_is found) found.device)
   by_state (Err why) e is = absurd cc
 
-  starts_whole : (kind : HeadKind) → start_by kind clock content ≡ Ok start → IsDeviceState (state_in start.journal start.device)
+  starts_whole : (kind : HeadKind) → start_by kind clock content ≡ Ok start
+      → IsDeviceState (state_in start.journal start.device)
   starts_whole Image is = by_image (image_of content) refl is
   starts_whole State is = by_state (current_state_of_text content) refl is
 
 -- ---- bytes that begin with a head
 
-module _ (text : List ℕ) (kind : HeadKind) (clock : ℕ) (content rest : List ℕ) (begins : BeginsWith text kind clock content rest) where
+module _ (text : List ℕ) (kind : HeadKind) (clock : ℕ) (content rest : List ℕ)
+    (begins : BeginsWith text kind clock content rest) where
   abbrev head : List ℕ
   head = head_text kind clock content
 
@@ -113,18 +123,23 @@ module _ (text : List ℕ) (kind : HeadKind) (clock : ℕ) (content rest : List 
       → opened_text text ≡ walked_after text found
   unfolding opened_text
   behind found is =
-      ap (walked_after text) (ap started_at begins.is ∙ head_starts head_of_text rest begins.has ∙ is)
+      ap (walked_after text) (ap started_at begins.is ∙ head_starts head_of_text rest begins.has
+      ∙ is)
 
   -- If the head starts a device, opening the journal makes this device execute the bytes after the
   -- head.
   pub opens_by : (start : Start) → start_by kind clock content ≡ Ok start
-      → opened_text text ≡ walked (spot_of start.journal start.device) (length head) rest
+      → opened_text text ≡ spot_after_walk (spot_of start.journal start.device) (length head) rest
   opens_by start is =
-      behind (Some (spot_of start.journal start.device, length head)) (ap (spot_by (length head)) is)
-      ∙ ap (λ (l : List ℕ). walked (spot_of start.journal start.device) (length head) (drop (length head) l)) begins.is
-      ∙ ap (walked (spot_of start.journal start.device) (length head)) (drop_at head rest (length head) refl)
+      behind (Some (spot_of start.journal start.device, length head))
+      (ap (spot_by (length head)) is)
+      ∙ ap (λ (l : List ℕ). spot_after_walk (spot_of start.journal start.device) (length head)
+      (drop (length head) l)) begins.is
+      ∙ ap (spot_after_walk (spot_of start.journal start.device) (length head))
+      (drop_at head rest (length head) refl)
 
-  pub opens_not : (why : OpenFault) → start_by kind clock content ≡ Err why → opened_text text ≡ None
+  pub opens_not : (why : OpenFault) → start_by kind clock content ≡ Err why
+      → opened_text text ≡ None
   opens_not why is = behind None (ap (spot_by (length head)) is)
 
 -- ---- bytes that do not begin with a head
@@ -135,7 +150,9 @@ started_none (first ∷ []) are none = refl
 started_none (first ∷ second ∷ text) are none =
     by (first == 256) refl
   where
-    by : (same : Bool) → (first == 256) ≡ same → cond same (started_no_head second text) (started_by (head_at (first ∷ second ∷ text))) ≡ None
+    by : (same : Bool) → (first == 256) ≡ same
+        → cond same (started_no_head second text) (started_by (head_at (first ∷ second ∷ text)))
+        ≡ None
     by true same = absurd (omega (arith, are 0, eqb-true first 256 same))
     by false same = ap started_by none
 
@@ -146,15 +163,19 @@ opens_none text are none = ap (walked_after text) (started_none text are none)
 -- ---- the result of opening a journal
 
 -- `opened_text` agrees with the result of executing the journal's entries.
-read_so : (text : List ℕ) (followed : Followed) (journal : Journal) (new : Record) (reads : Reads text followed journal new)
-    → Tells followed.fault (opened_text text) (spot_of journal new) (length (head_text reads.starts.kind reads.starts.clock reads.starts.content) + followed.taken)
+read_so : (text : List ℕ) (followed : Followed) (journal : Journal) (new : Record)
+    (reads : Reads text followed journal new)
+    → Tells followed.fault (opened_text text) (spot_of journal new)
+    (length (head_text reads.starts.kind reads.starts.clock reads.starts.content)
+    + followed.taken)
 read_so text followed journal new reads =
     let s = reads.starts in
     let start = reads.start in
     let size : ℕ = length (head_text s.kind s.clock s.content) in
     let is : IsDeviceState (state_in start.journal start.device) =
     starts_whole s.clock s.content s.begins.has.in_time s.begins.has.are_bytes start s.kind s.is in
-    subst (λ (o : Option (Spot × ℕ)). Tells followed.fault o (spot_of journal new) (size + followed.taken))
+    subst (λ (o : Option (Spot × ℕ)). Tells followed.fault o (spot_of journal new)
+    (size + followed.taken))
     (sym (opens_by text s.kind s.clock s.content reads.rest s.begins start s.is))
     (followed_so start.journal start.device reads.rest size followed journal new is reads.replays)
 
@@ -162,19 +183,25 @@ pub opened_so : (text : List ℕ) (opened : Opened) (new : Record) → OpensJour
     → opened_text text ≡ Some (spot_of opened.journal new, opened.taken)
 opened_so text opened new is =
     let found = read_so text is.followed opened.journal new is.reads in
-    let size : ℕ = length (head_text is.reads.starts.kind is.reads.starts.clock is.reads.starts.content) in
-    subst (λ (f : Option FollowFault). Tells f (opened_text text) (spot_of opened.journal new) (size + is.followed.taken)) is.whole found
+    let size : ℕ =
+    length (head_text is.reads.starts.kind is.reads.starts.clock is.reads.starts.content) in
+    subst (λ (f : Option FollowFault). Tells f (opened_text text) (spot_of opened.journal new)
+    (size + is.followed.taken)) is.whole found
     ∙ ap (λ (n : ℕ). Some (spot_of opened.journal new, n)) (sym is.size)
 
 holds_fault : (text : List ℕ) (why : OpenFault) → HoldsFault text why → opened_text text ≡ None
 holds_fault text why holds = opens_not text holds.0 holds.1 holds.2 holds.3 holds.4 why holds.5
 
-pub opened_not : (text : List ℕ) (why : OpenFault) (new : Record) → AreBytes text → OpensJournal text (Err why) new → opened_text text ≡ None
+pub opened_not : (text : List ℕ) (why : OpenFault) (new : Record) → AreBytes text
+    → OpensJournal text (Err why) new → opened_text text ≡ None
 opened_not text fault.NoJournal new are none =
-    opens_none text are (no_head text (λ h rest has is. none h.kind h.clock h.content rest (record { has = has; is = is })))
+    opens_none text are
+    (no_head text
+    (λ h rest has is. none h.kind h.clock h.content rest (record { has = has; is = is })))
 opened_not text (fault.Image why) new are holds = holds_fault text (fault.Image why) holds
 opened_not text (fault.State why) new are holds = holds_fault text (fault.State why) holds
 opened_not text (fault.Follow why) new are follow =
     subst (λ (f : Option FollowFault). Tells f (opened_text text) (spot_of follow.1 new)
-    (length (head_text follow.2.starts.kind follow.2.starts.clock follow.2.starts.content) + follow.0.taken)) follow.3
+    (length (head_text follow.2.starts.kind follow.2.starts.clock follow.2.starts.content)
+    + follow.0.taken)) follow.3
     (read_so text follow.0 follow.1 new follow.2)

@@ -17,12 +17,15 @@ use Rattle.tpm_kept_journal.specs.State.{DeviceState, IsDeviceState, bytes_of, c
 
 state_of : (s : DeviceState) → state_with s.time s.device (Some (layer_of s.layer)) ≡ Some s
 state_of s =
-    ap (λ (c : Completion). let made : DeviceState = record s { layer = c } in Some made) (layer_again s.layer)
+    ap (λ (c : Completion). let made : DeviceState = record s { layer = c } in Some made)
+    (layer_again s.layer)
 
 pub time_of : (s : DeviceState) → s.time < 2 ^ 64 → time_in (bytes_of s) ≡ s.time
 unfolding bytes_of
 time_of s small =
-    ap (from_be_bytes w64) (take_at (to_be_bytes w64 s.time) (state_text (whole_of s)) 8 (wide64.len s.time)) ∙ wide64.again s.time small
+    ap (from_be_bytes w64)
+    (take_at (to_be_bytes w64 s.time) (state_text (whole_of s)) 8 (wide64.len s.time))
+    ∙ wide64.again s.time small
 
 pub content_of : (s : DeviceState) → content_in (bytes_of s) ≡ state_text (whole_of s)
 unfolding bytes_of
@@ -45,17 +48,21 @@ layer_back layer = refl
 pub record IsStateText (text : List ℕ) : Type 0 where
   pub layer : Layer
   pub device : Record
-  pub says : current_state_of_text (content_in text) ≡ Ok (record { device = device; layer = Some layer })
-  pub is : state_of_bytes text ≡ Some (record { time = time_in text; layer = completion_of (Some layer); device = device })
+  pub says : current_state_of_text (content_in text)
+      ≡ Ok (record { device = device; layer = Some layer })
+  pub is : state_of_bytes text
+      ≡ Some (record { time = time_in text; layer = completion_of (Some layer); device = device })
 
 said_with : (text : List ℕ) (device : Record) (layer : Option Layer) (s : DeviceState)
     → current_state_of_text (content_in text) ≡ Ok (record { device = device; layer = layer })
     → state_with (time_in text) device layer ≡ Some s → IsStateText text
 unfolding state_of_bytes
-said_with text device (Some layer) s e is = record { layer = layer; device = device; says = e; is = ap (state_by (time_in text)) e }
+said_with text device (Some layer) s e is =
+    record { layer = layer; device = device; says = e; is = ap (state_by (time_in text)) e }
 said_with text device None s e is = absurd cc
 
-said_by : (text : List ℕ) (read : Result WholeState StateFault) (s : DeviceState) → current_state_of_text (content_in text) ≡ read
+said_by : (text : List ℕ) (read : Result WholeState StateFault) (s : DeviceState)
+    → current_state_of_text (content_in text) ≡ read
     → state_by (time_in text) read ≡ Some s → IsStateText text
 said_by text (Ok whole) s e is = said_with text whole.device whole.layer s e is
 said_by text (Err why) s e is = absurd cc

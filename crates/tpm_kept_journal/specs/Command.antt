@@ -3,7 +3,7 @@
 use Rattle.std.specs.Prelude.{◌≡◌, ℕ, ◌≤◌, ◌==◌, nat_le, not, Bool, true, false, List, length, if◌then◌else◌, Result, Ok, Err}
 use Rattle.std.specs.Int.{w8, w32, w64}
 use Rattle.tpm_bytes.specs.Reading.{◌>>=◌, AreBytes, refused_if}
-use Rattle.tpm_image_text.specs.Fields.{bytes_in, malformed, number_in, passing, yes_no_in}
+use Rattle.tpm_image_text.specs.Fields.{bytes_in, malformed_fault, number_in, passing, yes_no_in}
 use Rattle.tpm_image_text.specs.declared.fault.Malformed.{Malformed}
 use Rattle.tpm_image_text.specs.Fields.{are_bytes}
 
@@ -54,7 +54,7 @@ unfoldable pub cycled_in : List ℕ → Result KeptCommand Malformed
 cycled_in text = do
   now ← number_in w64 text
   start ← number_in w64 now.1
-  ended ← refused_if (not (length start.1 == 0)) malformed
+  ended ← refused_if (not (length start.1 == 0)) malformed_fault
   Ok (Cycles now.0 start.0)
 
 abbrev pub by_kind : (kind : ℕ) → List ℕ → Result KeptCommand Malformed
@@ -62,7 +62,7 @@ by_kind kind text =
     if kind == 0 then executed_at_in text
     else (if kind == 1 then cycled_in text
     else (if kind == 2 then Ok (Begins text)
-    else (if kind == 3 then executed_after_in text else Err malformed)))
+    else (if kind == 3 then executed_after_in text else Err malformed_fault)))
 
 -- the command that the bytes encode: a byte for its kind, and the fields of this kind
 unfoldable pub command_in : List ℕ → Result KeptCommand Malformed
@@ -72,7 +72,7 @@ command_in text = do
 
 -- the command that a list encodes; the list must consist of bytes
 unfoldable pub command_of : List ℕ → Result KeptCommand Malformed
-command_of text = if are_bytes text then command_in text else Err malformed
+command_of text = if are_bytes text then command_in text else Err malformed_fault
 
 -- whether the bytes were decoded as a command
 abbrev pub is_command_read : Result KeptCommand Malformed → Bool

@@ -4,7 +4,7 @@ use Rattle.std.specs.Option.{option_map}
 use Rattle.tpm_keeping.specs.Journal.{Journal}
 use Rattle.tpm_kept_journal.specs.Command.{command_of, is_command_read, is_entered_read}
 use Rattle.tpm_kept_journal.specs.Effect.{after_command, entry_at_spot, response_to, sum_if, text_if}
-use Rattle.tpm_kept_journal.specs.Opening.{after_head_text, head_of, head_sum_of, opened_text, walked}
+use Rattle.tpm_kept_journal.specs.Opening.{after_head_text, head_of, head_sum_of, opened_text, spot_after_walk}
 use Rattle.tpm_kept_journal.specs.Salvage.{salvaged_text}
 use Rattle.tpm_kept_journal.specs.Seed.{begun_in}
 use Rattle.tpm_kept_journal.specs.State.{bytes_of}
@@ -24,7 +24,7 @@ device_journal = record {
   first = head_sum_of;
   after_head = after_head_text;
   opened = opened_text;
-  followed = λ p text. walked p 0 text;
+  followed = λ p text. spot_after_walk p 0 text;
   salvaged = salvaged_text;
   is_torn = λ p text. is_torn_text p.chain text;
   is_litter = are_zeros;

@@ -1,6 +1,6 @@
 -- How a journal is opened: its head starts a device, which executes the entries again.
 use Rattle.std.specs.Prelude.{ℕ, zero, suc, ◌+◌, ◌==◌, ◌&&◌, nat_le, Bool, cond, List, [], ◌∷◌, drop, is_some, length, take, Option, Some, None, Result, Ok, Err}
-use Rattle.tpm_completion.specs.Completed.{completed}
+use Rattle.tpm_completion.specs.Completed.{completed_effect}
 use Rattle.tpm_completion.specs.Execution.{Seen}
 use Rattle.tpm_journal.specs.Command.{event_of}
 use Rattle.tpm_journal.specs.Starting.{Start, start_by}
@@ -21,7 +21,7 @@ use Rattle.tpm_kept_journal.specs.texts.Parts.{where_so}
 
 -- the effect of executing an entry's command again
 abbrev pub performance : DeviceState → PlainEntry → Seen
-performance s e = completed e.completes s.layer s.device (event_of e)
+performance s e = completed_effect e.completes s.layer s.device (event_of e)
 
 -- the position after an entry; None if the device's response does not match the entry
 abbrev pub performed_on : (chain : ℕ) → PlainEntry → Option DeviceState → Option Spot
@@ -63,8 +63,8 @@ walk (suc bound) p taken text = elim (found_at p text) [
   | Fails ↦ None
 ]
 
-unfoldable pub walked : Spot → (taken : ℕ) → List ℕ → Option (Spot × ℕ)
-walked p taken text = walk (suc (length text)) p taken text
+unfoldable pub spot_after_walk : Spot → (taken : ℕ) → List ℕ → Option (Spot × ℕ)
+spot_after_walk p taken text = walk (suc (length text)) p taken text
 
 -- ---- the heads of journals
 
@@ -119,7 +119,7 @@ after_head_text text = whole_head (length text) (started_at text)
 -- ---- opening whole journals
 
 abbrev pub walked_after : List ℕ → Option (Spot × ℕ) → Option (Spot × ℕ)
-walked_after text (Some found) = walked found.0 found.1 (drop found.1 text)
+walked_after text (Some found) = spot_after_walk found.0 found.1 (drop found.1 text)
 walked_after text None = None
 
 unfoldable pub opened_text : List ℕ → Option (Spot × ℕ)

@@ -3,7 +3,7 @@
 
 ghost use Rattle.std.specs.Prelude.{◌≡◌, IfOk, Ok, OnOk, true};
 ghost use Rattle.std.specs.String.{string_bytes};
-ghost use Rattle.tpm_text.specs.Line.{assembled};
+ghost use Rattle.tpm_text.specs.Line.{assembled_bytes};
 
 use crate::entry::{put_area, put_handles};
 use crate::fault::SpellFault;
@@ -22,7 +22,7 @@ pub const LINE_LIMIT: usize = 65_536;
 /// Returns a line that encodes this buffer. The error NoLine means that no line was found; the
 /// contract does not say when that happens.
 pub fn line_of(alloc: Global, buffer: &[u8]) -> Result<String, SpellFault>
-    ensures { IfOk result (λ line. assembled (string_bytes line) ≡ Ok buffer.now) }
+    ensures { IfOk result (λ line. assembled_bytes (string_bytes line) ≡ Ok buffer.now) }
 {
     let mut line = String::new(alloc);
     spell(buffer, &mut line)?;
@@ -33,7 +33,7 @@ pub fn line_of(alloc: Global, buffer: &[u8]) -> Result<String, SpellFault>
 /// Writes a line that encodes this buffer, like [`line_of`], to the caller's memory. The error
 /// NoMemory means that the line would be longer than LINE_LIMIT bytes.
 pub fn write_line(buffer: &[u8], line: &mut ArrayString<LINE_LIMIT>) -> Result<(), SpellFault>
-    ensures { OnOk result (assembled line.new.bytes ≡ Ok buffer.now) }
+    ensures { OnOk result (assembled_bytes line.new.bytes ≡ Ok buffer.now) }
 {
     line.clear();
     spell(buffer, line)?;
@@ -42,7 +42,7 @@ pub fn write_line(buffer: &[u8], line: &mut ArrayString<LINE_LIMIT>) -> Result<(
 
 /// Checks that a line encodes this buffer.
 fn check(line: &[u8], buffer: &[u8]) -> Result<(), SpellFault>
-    ensures { OnOk result (assembled line.now ≡ Ok buffer.now) }
+    ensures { OnOk result (assembled_bytes line.now ≡ Ok buffer.now) }
 {
     if is_spelled(line, buffer) {
         Ok(())
@@ -53,7 +53,7 @@ fn check(line: &[u8], buffer: &[u8]) -> Result<(), SpellFault>
 
 /// Whether a line encodes this buffer.
 fn is_spelled(line: &[u8], buffer: &[u8]) -> bool
-    ensures { result ≡ true → assembled line.now ≡ Ok buffer.now }
+    ensures { result ≡ true → assembled_bytes line.now ≡ Ok buffer.now }
 {
     let mut draft = Draft::new();
     match assemble_in(line, &mut draft) {

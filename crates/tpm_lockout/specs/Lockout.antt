@@ -36,14 +36,14 @@ abbrev pub times_restarted : LockoutState → LockoutState
 times_restarted s = record s { forgiving_time = 0; closed_time = 0 }
 
 -- the lockout state at power-on: the saved fields, with both times at zero
-abbrev pub restored : LockoutFields → LockoutState
-restored fields = record { fields = fields; forgiving_time = 0; closed_time = 0 }
+abbrev pub restored_lockout : LockoutFields → LockoutState
+restored_lockout fields = record { fields = fields; forgiving_time = 0; closed_time = 0 }
 
 -- the lockout state after TPM2_DictionaryAttackParameters has set these parameters; both times are
 -- zero
 abbrev pub with_parameters : (max_tries recovery_time lockout_recovery : ℕ)
     → LockoutState → LockoutState
-with_parameters max_tries recovery_time lockout_recovery s = restored (record s.fields {
+with_parameters max_tries recovery_time lockout_recovery s = restored_lockout (record s.fields {
   max_tries = max_tries;
   recovery_time = recovery_time;
   lockout_recovery = lockout_recovery;

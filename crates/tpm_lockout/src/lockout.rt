@@ -2,7 +2,7 @@
 //! Library, Part 1, section 19.8).
 
 ghost use Rattle.std.specs.Prelude.{◌≡◌, ◌-◌, ◌<◌, ◌*◌, ◌^◌, false};
-ghost use Rattle.tpm_lockout.specs.Lockout.{milliseconds, new_lockout, restored, times_restarted};
+ghost use Rattle.tpm_lockout.specs.Lockout.{milliseconds, new_lockout, restored_lockout, times_restarted};
 ghost use Rattle.tpm_lockout.specs.Lockout.{IsLockout, with_parameters};
 ghost use Rattle.tpm_lockout.specs.Recovery.{closed_by_failure, lockout_ticked, opened_after};
 ghost use Rattle.tpm_lockout.specs.Recovery.{with_closed};
@@ -67,7 +67,7 @@ impl Lockout {
 
     /// The lockout state at power-on: the saved fields, with both times at zero.
     pub fn restore(fields: LockoutFields) -> Lockout
-        ensures { result ≡ restored fields }
+        ensures { result ≡ restored_lockout fields }
     {
         Lockout {
             fields,

@@ -21,10 +21,15 @@ zeros_overwritten zeros bytes written blank same =
 -- are masked.
 pub masked_more : (key bytes : List ℕ) (pad i : ℕ) → i < length key
     → bytes ≡ masked_key pad (take i key) ++ drop i key
-    → slice_set bytes i (bit_xor (slice_index_or bytes i 0) pad) ≡ masked_key pad (take (i + 1) key) ++ drop (i + 1) key
+    → slice_set bytes i (bit_xor (slice_index_or bytes i 0) pad) ≡ masked_key pad (take (i + 1) key)
+    ++ drop (i + 1) key
 masked_more key bytes pad i within so_far =
     let size : length bytes ≡ length key =
-    omega (arith, simp (length-append, length-map, length-drop, length-take-le i key (omega arith)) at (ap length so_far)) in
+    omega (
+      arith,
+      simp (length-append, length-map, length-drop, length-take-le i key (omega arith))
+          at (ap length so_far),
+    ) in
     let byte = slice_index_or bytes i 0 in
     map_over_more (λ (x : ℕ). bit_xor x pad) key bytes i byte within so_far
     (sym (get_or_default_zero bytes i byte (omega arith)))
@@ -36,7 +41,9 @@ take-cut_block : (block rest : List ℕ) (room : ℕ) → (room < length block �
     → take (length block) (take room block ++ rest) ≡ take room block
 take-cut_block block rest room none =
     elim (cases_lt room (length block)) [
-      | inl cut ↦ rw (none cut, append-nil) (take_all (length block) (take room block) (omega (arith, length-take-le room block (omega arith))))
+      | inl cut ↦ rw (none cut, append-nil)
+          (take_all (length block) (take room block)
+          (omega (arith, length-take-le room block (omega arith))))
       | inr fits ↦ rw (take_all room block fits) (take_at block rest (length block) refl)
     ]
 

@@ -42,6 +42,9 @@ impl Hasher {
     pub fn update(&mut self, bytes: &[u8])
         ensures { Takes self.old bytes.now self.new }
     {
+        if bytes.is_empty() {
+            return;
+        }
         match &mut self.state {
             State::Sha1(hasher) => hasher.update(bytes),
             State::Sha256(hasher) => hasher.update(bytes),

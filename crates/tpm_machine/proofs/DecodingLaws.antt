@@ -21,23 +21,33 @@ use Rattle.tpm_step.proofs.step.Decoding.{general_reads}
 
 -- if a buffer passes the general checks, `command_at` reads the same command from the buffer, and
 -- no bytes remain after it
-spells : (r : Record) (buffer : List ℕ) (c : Whole) → general r buffer ≡ Ok c → command_at buffer ≡ Ok (c, [])
-spells r buffer c is = ok_at (λ x. command_at buffer ≡ Ok (x, [])) (general r buffer) c (general_reads r buffer) is
+spells : (r : Record) (buffer : List ℕ) (c : Whole) → general r buffer ≡ Ok c
+    → command_at buffer ≡ Ok (c, [])
+spells r buffer c is = ok_at (λ x. command_at buffer ≡ Ok (x, [])) (general r buffer) c
+    (general_reads r buffer) is
 
-pub decodes_reads : (r : Record) (buffer : List ℕ) (result : Result Command RefusedCommand) → Gives whole_of (general r buffer) result → IfOk result (λ command. command_at buffer ≡ Ok (whole_of command, []))
+pub decodes_reads : (r : Record) (buffer : List ℕ) (result : Result Command RefusedCommand)
+    → Gives whole_of (general r buffer) result
+    → IfOk result (λ command. command_at buffer ≡ Ok (whole_of command, []))
 decodes_reads r buffer (Ok command) decoded = spells r buffer (whole_of command) decoded
 decodes_reads r buffer (Err e) decoded = tt
 
 short_of : (c : Whole) → command_size c ≤ buffer_limit → length c.parameters ≤ buffer_limit
 short_of c small =
     let size : command_size c ≡ 10 + length (command_body_text c) = command_size-is c in
-    let body : length (command_body_text c) ≡ 4 * length c.handles + length (sessions_text c.entries) + length c.parameters = length-body c in
+    let body : length (command_body_text c)
+    ≡ 4 * length c.handles + length (sessions_text c.entries) + length c.parameters =
+    length-body c in
     omega (arith, size, body)
 
 -- the parameters of a decoded command are no longer than the largest buffer
-pub decodes_short : (r : Record) (buffer : List ℕ) (result : Result Command RefusedCommand) → AreBytes buffer → Gives whole_of (general r buffer) result → IfOk result (λ command. length command.parameters.now ≤ buffer_limit)
+pub decodes_short : (r : Record) (buffer : List ℕ) (result : Result Command RefusedCommand)
+    → AreBytes buffer → Gives whole_of (general r buffer) result
+    → IfOk result (λ command. length command.parameters.now ≤ buffer_limit)
 decodes_short r buffer (Ok command) fits decoded =
-    short_of (whole_of command) (command_takes buffer (whole_of command, []) fits (spells r buffer (whole_of command) decoded)).0.size
+    short_of (whole_of command)
+    (command_takes buffer (whole_of command, []) fits
+    (spells r buffer (whole_of command) decoded)).0.size
 decodes_short r buffer (Err e) fits decoded = tt
 
 -- ---- if no entry asks for decryption, the decrypted parameters are the parameters as sent
@@ -46,12 +56,15 @@ neither : (a b : Bool) → (a || b) ≡ false → (a ≡ false) × (b ≡ false)
 neither true b e = absurd (false≢true (sym e))
 neither false b e = (refl, e)
 
-none_decrypts : (entries : List Entry) (grants : List (Option Grant)) → list_any decrypts entries ≡ false → find (λ g. decrypts g.0) (zip entries grants) ≡ None
+none_decrypts : (entries : List Entry) (grants : List (Option Grant))
+    → list_any decrypts entries ≡ false → find (λ g. decrypts g.0) (zip entries grants) ≡ None
 none_decrypts [] grants none = refl
 none_decrypts (e ∷ es) [] none = refl
 none_decrypts (e ∷ es) (grant ∷ grants) none =
     let both = neither (decrypts e) (list_any decrypts es) none in
     rw (both.0) (none_decrypts es grants both.1)
 
-pub plain_as_sent : (r : Record) (entries : List Entry) (grants : List (Option Grant)) (text : List ℕ) → list_any decrypts entries ≡ false → plain_parameters r (zip entries grants) text ≡ text
+pub plain_as_sent : (r : Record) (entries : List Entry) (grants : List (Option Grant))
+    (text : List ℕ) → list_any decrypts entries ≡ false
+    → plain_parameters r (zip entries grants) text ≡ text
 plain_as_sent r entries grants text none = rw (none_decrypts entries grants none) refl

@@ -13,13 +13,16 @@ use Rattle.tpm_step.specs.history.History.{History}
 use Rattle.tpm_step.proofs.history.Following.{execution_follows, manufactured_follows, run_follows}
 
 pub new_follows : (r : Record) (random : List ℕ) → r ≡ manufactured random → Follows r []
-new_follows r random is = subst (λ (x : Record). Follows x []) (sym is) (manufactured_follows random)
+new_follows r random is =
+    subst (λ (x : Record). Follows x []) (sym is) (manufactured_follows random)
 
 -- If a device follows a history, then after an event it follows the history with this event added.
 -- An event that was not accepted is not added. The other claims of `FollowsOn` hold too.
-pub follows_on : (can : Bool) (old : Record) (event : PlainEvent) (x : Stepped) → Executes can old event x → FollowsOn old event x
+pub follows_on : (can : Bool) (old : Record) (event : PlainEvent) (x : Stepped)
+    → Executes can old event x → FollowsOn old event x
 follows_on can old event x executes =
-    let next : After Follows old event x = λ history follows. execution_follows can old event x history executes follows in
+    let next : After Follows old event x =
+    λ history follows. execution_follows can old event x history executes follows in
     record {
       history = next;
       counters = λ history follows. (next history follows).counters;
@@ -31,5 +34,9 @@ follows_on can old event x executes =
       policies = λ history follows. (next history follows).policies;
     }
 
-pub runs_follow : {F : Type 0} (g : Mut F (Bor Outcome × Unit {0}) (Unit {0})) (can : Bool) (old : Record) (p : F) (events : List PlainEvent) (new : Record) (q : F) → Runs g can old p events new q → (history : History) → Follows old history → RunFollows g can old p events new q history
-runs_follow g can old p events new q run history follows = run_follows g can old p events new q history run follows
+pub runs_follow : {F : Type 0} (g : Mut F (Bor Outcome × Unit {0}) (Unit {0})) (can : Bool)
+    (old : Record) (p : F) (events : List PlainEvent) (new : Record) (q : F)
+    → Runs g can old p events new q → (history : History) → Follows old history
+    → RunFollows g can old p events new q history
+runs_follow g can old p events new q run history follows =
+    run_follows g can old p events new q history run follows

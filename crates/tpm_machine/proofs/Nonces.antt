@@ -12,10 +12,13 @@ use Rattle.tpm_step.specs.step.Entries.{draw_of}
 abbrev nonce_length : Option Session → ℕ
 nonce_length o = option_map_or (λ (s : Session). length s.nonce_tpm) o 0
 
-drawn : (o : Option Session) (left : List ℕ) → 32 ≤ length left → nonce_length o ≤ 32 → IfSome o (λ s. length (take (nonce_length o) left) ≡ length s.nonce_tpm)
-drawn (Some s) left enough few = length-take-le (length s.nonce_tpm) left (omega (arith, enough, few))
+drawn : (o : Option Session) (left : List ℕ) → 32 ≤ length left → nonce_length o ≤ 32
+    → IfSome o (λ s. length (take (nonce_length o) left) ≡ length s.nonce_tpm)
+drawn (Some s) left enough few =
+    length-take-le (length s.nonce_tpm) left (omega (arith, enough, few))
 drawn None left enough few = tt
 
-pub nonce_fits : (r : Record) (e : Entry) (left : List ℕ) → 32 ≤ length left → draw_of r e ≤ 32 → IfSome (session_of r e) (λ s. length (take (draw_of r e) left) ≡ length s.nonce_tpm)
+pub nonce_fits : (r : Record) (e : Entry) (left : List ℕ) → 32 ≤ length left → draw_of r e ≤ 32
+    → IfSome (session_of r e) (λ s. length (take (draw_of r e) left) ≡ length s.nonce_tpm)
 unfolding draw_of
 nonce_fits r e left enough few = drawn (session_of r e) left enough few

@@ -3,10 +3,10 @@
 use Rattle.std.specs.Prelude.{ℕ, zero, suc, ◌-◌, List, drop, length, Result, Ok, Err}
 use Rattle.tpm_types_command.specs.AuthEntry.{Entry}
 use Rattle.tpm_record.specs.Record.{Record}
-use Rattle.tpm_record.specs.Tick.{ticked}
+use Rattle.tpm_record.specs.Tick.{after_tick}
 use Rattle.tpm_step.specs.step.Entries.{entries_rolled}
 use Rattle.tpm_step.specs.step.Events.{PlainEvent, Given, Cycled, Placed}
-use Rattle.tpm_step.specs.step.Step.{Accepted, accepted}
+use Rattle.tpm_step.specs.step.Step.{Accepted, acceptance_in}
 
 -- the total number of random bytes that a command draws: `drawn` bytes for its row, and then the
 -- bytes for the new nonces of its entries
@@ -25,6 +25,6 @@ drawn_by_command random (Err e) check = 0
 -- the number of random bytes that an event draws on this record
 abbrev pub drawn_by : Record → PlainEvent → (check : ℕ) → ℕ
 drawn_by r (Given buffer locality elapsed random) check =
-    drawn_by_command random (accepted (ticked r elapsed) buffer locality random) check
+    drawn_by_command random (acceptance_in (after_tick r elapsed) buffer locality random) check
 drawn_by r Cycled check = 0
 drawn_by r (Placed object) check = 0

@@ -6,7 +6,7 @@ ghost use Rattle.tpm_auth.specs.Grant.{authorize};
 ghost use Rattle.tpm_machine.specs.Authorization.{command_in, grants_in};
 ghost use Rattle.tpm_types.specs.Locality.{locality_number};
 ghost use Rattle.tpm_step.specs.step.General.{general};
-ghost use Rattle.tpm_step.specs.step.Step.{accepted};
+ghost use Rattle.tpm_step.specs.step.Step.{acceptance_in};
 
 use crate::decoding::decode;
 use arrayvec::ArrayVec;
@@ -26,7 +26,7 @@ pub struct Authorization<'a> {
 
 /// Decodes a command's buffer, and checks whether the command's entries authorize it. Returns the
 /// refusal of the first check that fails.
-#[tactic(auto, unfolding(tpm_step::specs::step::Step::accepted, tpm_step::specs::step::Step::acceptance))]
+#[tactic(auto, unfolding(tpm_step::specs::step::Step::acceptance_in, tpm_step::specs::step::Step::acceptance))]
 pub fn authorize_command<'a, K: Keep>(
     keep: &K,
     buffer: &'a [u8],
@@ -41,7 +41,7 @@ pub fn authorize_command<'a, K: Keep>(
     ensures short { IfOk result (λ authorization.
         length authorization.command.parameters.now ≤ buffer_limit) }
     ensures refused { IfErr result (λ refusal. (random : List ℕ)
-        → accepted (K.record_of keep.now) buffer.now (locality_number locality) random
+        → acceptance_in (K.record_of keep.now) buffer.now (locality_number locality) random
         ≡ Err refusal) }
 {
     let mut entities = ArrayVec::new();

@@ -217,11 +217,11 @@ impl<K: Keep> Machine<K> {
     ghost use Rattle.tpm_machine.specs.Drawn.{drawn_by_command};
     ghost use Rattle.tpm_types.specs.Locality.{locality_number};
     ghost use Rattle.tpm_step.specs.step.Safe.{IsModest};
-    ghost use Rattle.tpm_step.specs.step.Step.{Answers, accepted};
+    ghost use Rattle.tpm_step.specs.step.Step.{Answers, acceptance_in};
 
     /// Executes the command in a buffer, writes the response, and returns the row. The elapsed time
     /// has already been added to the clock.
-    #[tactic(auto, unfolding(tpm_step::specs::step::Step::accepted))]
+    #[tactic(auto, unfolding(tpm_step::specs::step::Step::acceptance_in))]
     fn command(
         &mut self,
         buffer: &[u8],
@@ -232,7 +232,7 @@ impl<K: Keep> Machine<K> {
         requires empty { text.old.items ≡ [] }
         requires none { latest_drawn self.old ≡ 0 }
         ensures answer { Answers K.can_refuse (state_of K.record_of self.old) random.now
-            (accepted (state_of K.record_of self.old) buffer.now
+            (acceptance_in (state_of K.record_of self.old) buffer.now
             (locality_number locality) random.now)
             (record {
               response = text.new.items;
@@ -240,12 +240,12 @@ impl<K: Keep> Machine<K> {
               after = state_of K.record_of self.new;
             }) }
         ensures modest { result.check ≡ 0 → IfOk
-            (accepted (state_of K.record_of self.old) buffer.now
+            (acceptance_in (state_of K.record_of self.old) buffer.now
             (locality_number locality) random.now)
             (IsModest random.now) }
         ensures fits { length text.new.items ≤ response_limit }
         ensures drawn { latest_drawn self.new ≡ drawn_by_command random.now
-            (accepted (state_of K.record_of self.old) buffer.now
+            (acceptance_in (state_of K.record_of self.old) buffer.now
             (locality_number locality) random.now) result.check }
     {
         match authorize_command(&self.keep, buffer, locality, &mut self.cache) {
@@ -310,7 +310,7 @@ impl<K: Keep> Machine<K> {
 }
 
 ghost use Rattle.tpm_types.specs.Check.{check_number};
-ghost use Rattle.tpm_step.specs.step.Step.{counted_in, settled};
+ghost use Rattle.tpm_step.specs.step.Step.{counted_in, settled_record};
 ghost use Rattle.tpm_step.specs.step.Answer.{refusal_text};
 ghost use Rattle.tpm_types.specs.Locality.{locality_number};
 
@@ -327,7 +327,7 @@ fn read_command(locality: Locality, elapsed_ms: u32, random: &[u8; 256])
 
 /// Discards the state that TPM2_Shutdown saved, unless this successful command preserves it.
 fn settle<K: Keep>(keep: &mut K, code: CommandCode)
-    ensures { K.record_of keep.new ≡ settled code (K.record_of keep.old) }
+    ensures { K.record_of keep.new ≡ settled_record code (K.record_of keep.old) }
 {
     if !code.shape().keeps_shutdown {
         keep.fixed_mut().saved.cancel();

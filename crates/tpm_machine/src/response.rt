@@ -7,7 +7,7 @@ ghost use Rattle.std.specs.List.{zip};
 ghost use Rattle.tpm_types_command.specs.AuthEntry.{entry_of};
 ghost use Rattle.tpm_machine.specs.Authorization.{command_in, grants_in};
 ghost use Rattle.tpm_machine.specs.Drawn.{bytes_drawn};
-ghost use Rattle.tpm_step.specs.step.Answer.{answer_to, framed, handle_answer, refusal_tag, refusal_text, text_of};
+ghost use Rattle.tpm_step.specs.step.Answer.{answer_to, framed_message, handle_answer, refusal_tag, refusal_text, text_of};
 ghost use Rattle.tpm_step.specs.step.Entries.{DrawsFew};
 ghost use Rattle.tpm_step.specs.step.Parameters.{encrypted_answer};
 
@@ -85,7 +85,8 @@ fn write_handle(handle: Option<Handle>, text: &mut Response)
 fn write_plain(handle: Option<Handle>, parameters: &[u8], text: &mut Response)
     requires empty { text.old.items ≡ [] }
     requires parameters { length parameters.now ≤ ANSWER_LIMIT }
-    ensures text { text.new.items ≡ framed 0x8001 0 (handle_answer handle ++ parameters.now) }
+    ensures text { text.new.items ≡ framed_message 0x8001 0
+        (handle_answer handle ++ parameters.now) }
     ensures fits { length text.new.items ≤ 10 + 4 + answer_limit }
 {
     let size = HEADER_SIZE + handle_size(handle) + parameters.len();
@@ -100,7 +101,7 @@ fn write_with_area(handle: Option<Handle>, parameters: &[u8], area: &[u8], text:
     requires empty { text.old.items ≡ [] }
     requires parameters { length parameters.now ≤ ANSWER_LIMIT }
     requires area { length area.now ≤ ENTRY_ANSWERS_LIMIT }
-    ensures text { text.new.items ≡ framed 0x8002 0 (handle_answer handle
+    ensures text { text.new.items ≡ framed_message 0x8002 0 (handle_answer handle
         ++ to_be_bytes w32 (length parameters.now) ++ parameters.now ++ area.now) }
     ensures fits { length text.new.items ≤ response_limit }
 {

@@ -11,7 +11,9 @@ neither : (a b : Bool) → (a || b) ≡ false → (a ≡ false) × (b ≡ false)
 neither true b is = absurd cc
 neither false b is = (refl, is)
 
-pub unwritten_is : (by_platform : Bool) (a : NvAttributes) → list_any (λ wrong. wrong) (index_attribute_conflicts by_platform a) ≡ false → has a attribute.Written ≡ false
+pub unwritten_is : (by_platform : Bool) (a : NvAttributes)
+    → list_any (λ wrong. wrong) (index_attribute_conflicts by_platform a) ≡ false
+    → has a attribute.Written ≡ false
 unwritten_is by_platform a passes =
     let served = neither _ _ passes in
     let defined = neither _ _ served.1 in

@@ -35,8 +35,8 @@ abbrev pub index_or_fault : {F : Type 0} → NvContents → Handle → F → Res
 index_or_fault contents handle fault = ok_or (index_at contents handle) fault
 
 -- the fault of a call that can fail only because no index has this handle
-abbrev pub undefined : Undefined
-undefined = record {}
+abbrev pub undefined_fault : Undefined
+undefined_fault = record {}
 
 -- ---- the attributes and the data of an index
 
@@ -44,8 +44,8 @@ abbrev pub index_has : NvIndex → NvAttribute → Bool
 index_has index attribute = has index.public.attributes attribute
 
 -- an index with one more attribute set
-abbrev pub marked : NvIndex → NvAttribute → NvIndex
-marked index attribute =
+abbrev pub marked_index : NvIndex → NvAttribute → NvIndex
+marked_index index attribute =
     record index {
       public = record index.public {
         attributes = with_attribute index.public.attributes attribute;
@@ -54,7 +54,7 @@ marked index attribute =
 
 -- an index with this data, and with WRITTEN set
 abbrev pub with_data : NvIndex → List ℕ → NvIndex
-with_data index bytes = record (marked index attribute.Written) { bytes = bytes }
+with_data index bytes = record (marked_index index attribute.Written) { bytes = bytes }
 
 -- the data of an index or, before the first write, `byte` repeated to the size of the data
 abbrev pub data_or : ℕ → NvIndex → List ℕ
@@ -83,9 +83,9 @@ check_writable contents handle type = do
 -- the contents after TPM2_NV_Write: the bytes overwrite the data at an offset. The write must not
 -- extend past the end of the data, and must cover all of the data if the index has WRITEALL. The
 -- first write sets all other bytes to FF (a choice of this implementation)
-unfoldable pub written : NvContents → Handle → (offset : ℕ) → List ℕ
+unfoldable pub contents_after_write : NvContents → Handle → (offset : ℕ) → List ℕ
     → Result NvContents WriteFault
-written contents handle offset bytes = do
+contents_after_write contents handle offset bytes = do
   index ← index_or_fault contents handle write_fault.Undefined
   ordinary ← writable type.Ordinary index
   inside ← refused_if (nat_lt index.public.data_size (offset + length bytes)) write_fault.PastData
@@ -96,21 +96,22 @@ written contents handle offset bytes = do
 
 -- the contents after a counter has reached this value. If no counter has ever had a larger value,
 -- this value becomes the largest value
-abbrev pub counted : NvContents → ℕ → NvContents
-counted contents count = record contents { max_count = max contents.max_count count }
+abbrev pub contents_after_count : NvContents → ℕ → NvContents
+contents_after_count contents count = record contents { max_count = max contents.max_count count }
 
 -- the contents after TPM2_NV_Increment, which increments a counter. The first increment sets the
 -- counter to one more than the largest value that any counter has ever had (section 31.2). That
 -- largest value is raised to the counter's new value if the new value is larger. The new value must
 -- be at most 2^64 - 1 (a choice of this implementation)
-unfoldable pub incremented : NvContents → Handle → Result NvContents WriteFault
-incremented contents handle = do
+unfoldable pub contents_after_increment : NvContents → Handle → Result NvContents WriteFault
+contents_after_increment contents handle = do
   index ← index_or_fault contents handle write_fault.Undefined
   counter ← writable type.Counter index
   fits ← refused_if (nat_le (2 ^ 64) (number_or contents.max_count index + 1))
       write_fault.Exhausted
   let count : ℕ = number_or contents.max_count index + 1 in
-      Ok (counted (changed_index contents handle (with_data index (to_be_bytes w64 count))) count)
+      Ok (contents_after_count
+      (changed_index contents handle (with_data index (to_be_bytes w64 count))) count)
 
 -- the contents after TPM2_NV_SetBits sets these bits; before the first write, all bits are clear
 unfoldable pub bits_set : NvContents → Handle → ℕ → Result NvContents WriteFault
@@ -122,8 +123,8 @@ bits_set contents handle bits = do
 
 -- the contents after TPM2_NV_Extend: the data becomes the nameAlg digest of the old data followed
 -- by these bytes. Before the first write, the old data is zeros
-unfoldable pub extended : NvContents → Handle → List ℕ → Result NvContents WriteFault
-extended contents handle bytes = do
+unfoldable pub contents_after_extend : NvContents → Handle → List ℕ → Result NvContents WriteFault
+contents_after_extend contents handle bytes = do
   index ← index_or_fault contents handle write_fault.Undefined
   extendable ← writable type.Extend index
   let digest : List ℕ = hash_of index.public.name_alg (data_or 0 index ++ bytes) in
@@ -157,18 +158,18 @@ write_locked contents handle = do
   lockable ← refused_if
       (not (index_has index attribute.WriteDefine || index_has index attribute.WriteStClear))
       lock_fault.Attributes
-  Ok (changed_index contents handle (marked index attribute.WriteLocked))
+  Ok (changed_index contents handle (marked_index index attribute.WriteLocked))
 
 -- the contents after TPM2_NV_ReadLock, which locks an index against reading if it has READ_STCLEAR
 unfoldable pub read_locked : NvContents → Handle → Result NvContents LockFault
 read_locked contents handle = do
   index ← index_or_fault contents handle lock_fault.Undefined
   lockable ← refused_if (not (index_has index attribute.ReadStClear)) lock_fault.Attributes
-  Ok (changed_index contents handle (marked index attribute.ReadLocked))
+  Ok (changed_index contents handle (marked_index index attribute.ReadLocked))
 
 -- the contents after an index's authorization value has been replaced. The command, not this
 -- definition, checks the length of the value
 unfoldable pub with_auth_value : NvContents → Handle → List ℕ → Result NvContents Undefined
 with_auth_value contents handle value = do
-  index ← index_or_fault contents handle undefined
+  index ← index_or_fault contents handle undefined_fault
   Ok (changed_index contents handle (record index { auth_value = value }))

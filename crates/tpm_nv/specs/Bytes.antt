@@ -11,13 +11,13 @@ put_over start piece bytes = take start bytes ++ (piece ++ drop (start + length 
 
 -- the bytes with the piece at this offset filled with `byte`, or unchanged if the piece is already
 -- written
-abbrev pub filled : (is_written : Bool) → (start size byte : ℕ) → List ℕ → List ℕ
-filled is_written start size byte bytes =
+abbrev pub filled_bytes : (is_written : Bool) → (start size byte : ℕ) → List ℕ → List ℕ
+filled_bytes is_written start size byte bytes =
     if is_written then bytes else put_over start (replicate size byte) bytes
 
 -- the bytes with zeros inserted at an offset
-abbrev pub opened : (start size : ℕ) → List ℕ → List ℕ
-opened start size bytes = take start bytes ++ (replicate size 0 ++ drop start bytes)
+abbrev pub bytes_with_gap : (start size : ℕ) → List ℕ → List ℕ
+bytes_with_gap start size bytes = take start bytes ++ (replicate size 0 ++ drop start bytes)
 
 -- the bytes without the `size` bytes at an offset
 abbrev pub closed_up : (start size : ℕ) → List ℕ → List ℕ

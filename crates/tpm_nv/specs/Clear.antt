@@ -13,8 +13,8 @@ is_by_platform public = has public.attributes attribute.PlatformCreate
 
 -- the contents after TPM2_Clear: only the indices that the platform defined remain. The largest
 -- value that any counter has ever had does not change
-unfoldable pub cleared : NvContents → NvContents
-cleared contents =
+unfoldable pub contents_after_clear : NvContents → NvContents
+contents_after_clear contents =
     record contents {
       indices = kept_entries (λ index. is_by_platform index.public) contents.indices;
     }

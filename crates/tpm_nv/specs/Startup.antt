@@ -31,6 +31,6 @@ started_index index = record {
 }
 
 -- the contents after a startup with CLEAR, which changes every index to its `started_index`
-unfoldable pub started : NvContents → NvContents
-started contents =
+unfoldable pub contents_after_startup : NvContents → NvContents
+contents_after_startup contents =
     record contents { indices = map (λ e. (e.0, started_index e.1)) contents.indices }

@@ -5,7 +5,7 @@ ghost use Rattle.tpm_types.specs.Limits.{nv_space_limit};
 ghost use Rattle.std.specs.Prelude.{◌≡◌, ◌≤◌, ◌+◌, ℕ, [], Bool, List, length, replicate, take};
 ghost use Rattle.std.specs.Prelude.{OnErr, OnOk, true};
 ghost use Rattle.tpm_nv.specs.Bytes.{closed_up, moved_down, moved_from_end, moved_to_end};
-ghost use Rattle.tpm_nv.specs.Bytes.{opened, put_over};
+ghost use Rattle.tpm_nv.specs.Bytes.{bytes_with_gap, put_over};
 
 use std::alloc::Global;
 use tpm_bytes::NoMemory;
@@ -40,7 +40,7 @@ pub trait Area: Drop + Sized {
     fn open(&mut self, start: usize, size: usize) -> Result<(), NoMemory>
         requires inside { start ≤ length (bytes self.old) }
         requires fits { length (bytes self.old) + size ≤ nv_space_limit }
-        ensures opened { OnOk result (bytes self.new ≡ opened start size (bytes self.old)) }
+        ensures opened { OnOk result (bytes self.new ≡ bytes_with_gap start size (bytes self.old)) }
         ensures unchanged { OnErr result (bytes self.new ≡ bytes self.old) }
         ensures refused { OnErr result (can_refuse ≡ true) };
 

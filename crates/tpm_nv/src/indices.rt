@@ -4,13 +4,13 @@
 ghost use Rattle.tpm_bytes.specs.Reading.{Gives};
 ghost use Rattle.std.specs.Prelude.{◌≡◌, ◌<◌, ◌≤◌, ◌^◌, ℕ, [], Bool, false, true, is_some, if◌then◌else◌};
 ghost use Rattle.std.specs.Prelude.{length, option_copied, option_map, OnOk};
-ghost use Rattle.tpm_nv.specs.Access.{ChangesContents, bits_set, extended, incremented, read_at, read_locked, with_auth_value, write_locked, written};
-ghost use Rattle.tpm_nv.specs.Clear.{cleared};
+ghost use Rattle.tpm_nv.specs.Access.{ChangesContents, bits_set, contents_after_extend, contents_after_increment, contents_after_write, read_at, read_locked, with_auth_value, write_locked};
+ghost use Rattle.tpm_nv.specs.Clear.{contents_after_clear};
 ghost use Rattle.tpm_nv.specs.Definition.{Defines, Restores, defined_index, has_type_size};
 ghost use Rattle.tpm_nv.specs.Head.{head_of, heads_of, indices_of};
 ghost use Rattle.tpm_nv.specs.Index.{NvContents, data_bytes, index_at, next_index, no_indices, without_index};
 ghost use Rattle.tpm_nv.specs.IsContents.{IsContents};
-ghost use Rattle.tpm_nv.specs.Startup.{started};
+ghost use Rattle.tpm_nv.specs.Startup.{contents_after_startup};
 ghost use Rattle.tpm_types_nv.specs.NvAttributes.{has};
 ghost use Rattle.tpm_types_nv.specs.NvPublic.{IsNvPublic};
 ghost use Rattle.tpm_types_nv.specs.declared.nv_attributes.NvAttribute.TheVariants as attribute;
@@ -83,12 +83,13 @@ pub trait Indices: Drop + Sized {
 
     /// Writes data at an offset (Part 3, section 31.7).
     fn write(&mut self, handle: Handle, offset: u16, bytes: &[u8]) -> Result<(), WriteFault>
-        ensures { ChangesContents (written (contents self.old) handle offset bytes.now)
+        ensures { ChangesContents (contents_after_write (contents self.old) handle offset bytes.now)
             (contents self.old) result (contents self.new) };
 
     /// Increments a counter (Part 3, section 31.8).
     fn increment(&mut self, handle: Handle) -> Result<(), WriteFault>
-        ensures { ChangesContents (incremented (contents self.old) handle) (contents self.old)
+        ensures { ChangesContents (contents_after_increment (contents self.old) handle)
+            (contents self.old)
             result (contents self.new) };
 
     /// Sets bits of a bit field (Part 3, section 31.10).
@@ -98,7 +99,7 @@ pub trait Indices: Drop + Sized {
 
     /// Extends the digest in an index with `bytes` (Part 3, section 31.9).
     fn extend(&mut self, handle: Handle, bytes: &[u8]) -> Result<(), WriteFault>
-        ensures { ChangesContents (extended (contents self.old) handle bytes.now)
+        ensures { ChangesContents (contents_after_extend (contents self.old) handle bytes.now)
             (contents self.old) result (contents self.new) };
 
     /// Reads `size` bytes of the data at an offset (Part 3, section 31.13).
@@ -123,12 +124,12 @@ pub trait Indices: Drop + Sized {
 
     /// Applies the effect of a TPM2_Startup with CLEAR to all indices (Part 3, section 9.3).
     fn startup(&mut self)
-        ensures { contents self.new ≡ started (contents self.old) };
+        ensures { contents self.new ≡ contents_after_startup (contents self.old) };
 
     /// Applies the effect of TPM2_Clear: removes the indices that the platform did not define (Part
     /// 3, section 24.6). Moves the bytes of each remaining index at most once.
     fn clear(&mut self)
-        ensures { contents self.new ≡ cleared (contents self.old) };
+        ensures { contents self.new ≡ contents_after_clear (contents self.old) };
 
     /// The largest value that any counter has ever had.
     fn max_count(&self) -> u64

@@ -26,10 +26,7 @@ pub trait ByteItems: Items<NV_SPACE_LIMIT, Item = u8> {
 impl ByteItems for Vec<u8> {
     fn append_zeros(&mut self, size: usize) -> Result<(), NoMemory> {
         let whole = self.len() + size;
-        match self.resize(whole, 0) {
-            Ok(()) => Ok(()),
-            Err(_) => Err(NoMemory),
-        }
+        self.resize(whole, 0).map_err(|_| NoMemory)
     }
 }
 

@@ -3,7 +3,7 @@
 ghost use Rattle.tpm_types.specs.Limits.{nv_space_limit};
 ghost use Rattle.std.specs.Prelude.{◌≡◌, ◌≤◌, ◌+◌, ◌-◌, ◌++◌, drop, length, replicate, take};
 ghost use Rattle.std.specs.Prelude.{OnErr, OnOk, true};
-ghost use Rattle.tpm_nv.specs.Bytes.{filled, piece_of, put_over};
+ghost use Rattle.tpm_nv.specs.Bytes.{filled_bytes, piece_of, put_over};
 
 use crate::area::Area;
 use tpm_bytes::NoMemory;
@@ -54,7 +54,7 @@ pub(crate) fn put_bytes<R: Area>(area: &mut R, piece: Piece, first: u8, offset: 
     requires inside { piece.start + piece.size ≤ length (R.bytes area.old) }
     requires within { offset + length bytes.now ≤ piece.size }
     ensures { R.bytes area.new ≡ put_over (piece.start + offset) bytes.now
-        (filled piece.is_written piece.start piece.size first (R.bytes area.old)) }
+        (filled_bytes piece.is_written piece.start piece.size first (R.bytes area.old)) }
 {
     if !piece.is_written {
         area.fill(piece.start, piece.size, first);

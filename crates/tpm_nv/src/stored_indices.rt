@@ -5,7 +5,7 @@ ghost use Rattle.std.specs.Prelude.{◌≡◌, ◌≢◌, ◌<◌, ◌≤◌, �
 ghost use Rattle.std.specs.Prelude.{IfErr, IfNone, IfOk, IfSome, IsSomeAnd, OnErr, OnOk};
 ghost use Rattle.std.specs.Prelude.{is_some, length, true, if◌then◌else◌};
 ghost use Rattle.tpm_mac.specs.Digest.{digest_size, hash_of};
-ghost use Rattle.tpm_nv.specs.Access.{check_writable, data_or, marked, number_or, with_data, writable};
+ghost use Rattle.tpm_nv.specs.Access.{check_writable, data_or, marked_index, number_or, with_data, writable};
 ghost use Rattle.tpm_nv.specs.Bytes.{put_over};
 ghost use Rattle.tpm_nv.specs.Definition.{HasRoomFor, has_type_size};
 ghost use Rattle.tpm_nv.specs.Head.{IsIndexOf, index_with, start_in};
@@ -128,7 +128,7 @@ impl<H: SortedMap<Head, NV_INDEX_LIMIT>, R: Area> StoredIndices<H, R> {
             of ≡ index.public.attributes) }
         requires other { attribute_bit attribute ≢ attribute_bit attributes.Written }
         ensures { (index : NvIndex) → index_at self.old handle ≡ Some index
-            → self.new ≡ changed_index self.old handle (marked index attribute) }
+            → self.new ≡ changed_index self.old handle (marked_index index attribute) }
     {
         set_attributes(&mut self.heads, handle.number, of.with(attribute));
     }
@@ -300,10 +300,8 @@ impl<H: SortedMap<Head, NV_INDEX_LIMIT>, R: Area> Indices for StoredIndices<H, R
         bytes: &[u8],
     ) -> Result<(), RestoreFault> {
         self.check_room(&public)?;
-        match self.add(public, auth_value, bytes) {
-            Ok(()) => Ok(()),
-            Err(NoMemory) => Err(RestoreFault::NoMemory),
-        }
+        self.add(public, auth_value, bytes)
+            .map_err(|_| RestoreFault::NoMemory)
     }
 
     fn undefine(&mut self, handle: Handle) -> bool {
@@ -317,7 +315,7 @@ impl<H: SortedMap<Head, NV_INDEX_LIMIT>, R: Area> Indices for StoredIndices<H, R
         true
     }
 
-    #[tactic(auto, unfolding(crate::specs::Access::written))]
+    #[tactic(auto, unfolding(crate::specs::Access::contents_after_write))]
     fn write(&mut self, handle: Handle, offset: u16, bytes: &[u8]) -> Result<(), WriteFault> {
         let place = self.writable(handle, NvType::Ordinary)?.place();
         let offset = usize::from(offset);
@@ -331,7 +329,7 @@ impl<H: SortedMap<Head, NV_INDEX_LIMIT>, R: Area> Indices for StoredIndices<H, R
         Ok(())
     }
 
-    #[tactic(auto, unfolding(crate::specs::Access::incremented))]
+    #[tactic(auto, unfolding(crate::specs::Access::contents_after_increment))]
     fn increment(&mut self, handle: Handle) -> Result<(), WriteFault> {
         let found = self.writable(handle, NvType::Counter)?;
         let place = found.place();
@@ -354,7 +352,7 @@ impl<H: SortedMap<Head, NV_INDEX_LIMIT>, R: Area> Indices for StoredIndices<H, R
         Ok(())
     }
 
-    #[tactic(auto, unfolding(crate::specs::Access::extended))]
+    #[tactic(auto, unfolding(crate::specs::Access::contents_after_extend))]
     fn extend(&mut self, handle: Handle, bytes: &[u8]) -> Result<(), WriteFault> {
         let found = self.writable(handle, NvType::Extend)?;
         let place = found.place();
@@ -418,12 +416,12 @@ impl<H: SortedMap<Head, NV_INDEX_LIMIT>, R: Area> Indices for StoredIndices<H, R
         Ok(())
     }
 
-    #[tactic(auto, unfolding(crate::specs::Startup::started))]
+    #[tactic(auto, unfolding(crate::specs::Startup::contents_after_startup))]
     fn startup(&mut self) {
         start_heads(&mut self.heads);
     }
 
-    #[tactic(auto, unfolding(crate::specs::Clear::cleared))]
+    #[tactic(auto, unfolding(crate::specs::Clear::contents_after_clear))]
     fn clear(&mut self) {
         keep_bytes(&mut self.area, self.heads.as_slice());
         self.heads.retain::<PlatformIndices>();

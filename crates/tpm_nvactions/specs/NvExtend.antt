@@ -3,7 +3,7 @@ use Rattle.tpm_types.specs.Limits.{data_limit}
 use Rattle.std.specs.Prelude.{Result}
 use Rattle.tpm_types.specs.Buffer.{buffer_at}
 use Rattle.tpm_types.specs.declared.refused.Refused.{Refused}
-use Rattle.tpm_nv.specs.Access.{extended}
+use Rattle.tpm_nv.specs.Access.{contents_after_extend}
 use Rattle.tpm_record.specs.Record.{Record}
 use Rattle.tpm_record.specs.rows.Request.{Request}
 use Rattle.tpm_record.specs.rows.Rows.{Success, only}
@@ -14,4 +14,5 @@ use Rattle.tpm_nvactions.specs.Access.{write_row}
 -- by A3 if it is not an extend index
 unfoldable pub nv_extend_row : Record → Request → Result Success Refused
 nv_extend_row r q =
-    write_row r q (only (buffer_at data_limit q.parameters)) (λ bytes handle. extended r.nv handle bytes)
+    write_row r q (only (buffer_at data_limit q.parameters))
+    (λ bytes handle. contents_after_extend r.nv handle bytes)

@@ -1,7 +1,7 @@
 -- TPM2_NV_Increment. TPM 2.0 Library, Part 3, section 31.8.
 use Rattle.std.specs.Prelude.{Result}
 use Rattle.tpm_types.specs.declared.refused.Refused.{Refused}
-use Rattle.tpm_nv.specs.Access.{incremented}
+use Rattle.tpm_nv.specs.Access.{contents_after_increment}
 use Rattle.tpm_record.specs.Record.{Record}
 use Rattle.tpm_record.specs.rows.Request.{Request}
 use Rattle.tpm_record.specs.rows.Rows.{Success, all_read}
@@ -12,4 +12,4 @@ use Rattle.tpm_nvactions.specs.Access.{write_row}
 -- value would exceed 2^64 - 1
 unfoldable pub nv_increment_row : Record → Request → Result Success Refused
 nv_increment_row r q =
-    write_row r q (all_read q.parameters) (λ ended handle. incremented r.nv handle)
+    write_row r q (all_read q.parameters) (λ ended handle. contents_after_increment r.nv handle)

@@ -12,7 +12,7 @@ use Rattle.tpm_record.specs.Record.{Record}
 use Rattle.tpm_record.specs.rows.Answer.{Sized, answer_of}
 use Rattle.tpm_record.specs.rows.Refusals.{action_refusal, fault_refusal, or_refusal, parameter_refusal}
 use Rattle.tpm_record.specs.rows.Request.{Request}
-use Rattle.tpm_record.specs.rows.Rows.{Success, all_read, parameter, unchanged}
+use Rattle.tpm_record.specs.rows.Rows.{Success, all_read, parameter, unchanged_success}
 use Rattle.tpm_nvactions.specs.declared.nv_read.ReadParameters.{ReadParameters}
 use Rattle.tpm_record.specs.rows.Target.{reading_passes, target_of}
 
@@ -36,4 +36,4 @@ nv_read_row r q = do
   a4 ← refused_if (nat_lt data_limit p.size) (parameter_refusal action.Fourth 1 code.Value)
   bytes ← or_fault (read_at r.nv target.handle p.offset p.size)
       (action_refusal action.Fifth (plain code.NvRange))
-  Ok (unchanged r (answer_of (Sized bytes)))
+  Ok (unchanged_success r (answer_of (Sized bytes)))

@@ -9,7 +9,7 @@ use Rattle.tpm_nv.specs.Index.{NvIndex}
 use Rattle.tpm_record.specs.Record.{Record}
 use Rattle.tpm_record.specs.rows.Answer.{Body, SizedFirst, answer_of}
 use Rattle.tpm_record.specs.rows.Request.{Request, first_handle}
-use Rattle.tpm_record.specs.rows.Rows.{Success, all_read, unchanged}
+use Rattle.tpm_record.specs.rows.Rows.{Success, all_read, unchanged_success}
 use Rattle.tpm_record.specs.rows.Target.{index_or_refusal}
 
 -- the answer of TPM2_NV_ReadPublic: the public area of an index, and its Name
@@ -24,4 +24,4 @@ nv_read_public_row r q = do
   handle ← first_handle q.handles
   index ← index_or_refusal r handle
   ended ← all_read q.parameters
-  Ok (unchanged r (answer_of (public_body index)))
+  Ok (unchanged_success r (answer_of (public_body index)))

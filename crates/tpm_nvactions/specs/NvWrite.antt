@@ -7,7 +7,7 @@ use Rattle.tpm_types.specs.Buffer.{buffer_at}
 use Rattle.tpm_types.specs.Rc.{plain}
 use Rattle.tpm_types.specs.declared.rc.ResponseCode.TheVariants as code
 use Rattle.tpm_types.specs.declared.refused.Refused.{Refused}
-use Rattle.tpm_nv.specs.Access.{written}
+use Rattle.tpm_nv.specs.Access.{contents_after_write}
 use Rattle.tpm_record.specs.Record.{Record}
 use Rattle.tpm_record.specs.rows.Request.{Request}
 use Rattle.tpm_record.specs.rows.Rows.{Success, all_read, parameter}
@@ -34,4 +34,5 @@ parameters_of asked = record { bytes = asked.bytes.now; offset = asked.offset }
 -- the bytes extend past the end of its data, or do not cover all of it although WRITEALL is set
 unfoldable pub nv_write_row : Record → Request → Result Success Refused
 nv_write_row r q =
-    write_row r q (parameters_in q.parameters) (λ p handle. written r.nv handle p.offset p.bytes)
+    write_row r q (parameters_in q.parameters)
+    (λ p handle. contents_after_write r.nv handle p.offset p.bytes)

@@ -8,7 +8,7 @@ ghost use Rattle.tpm_record.specs.rows.Rows.{Acts};
 ghost use Rattle.tpm_nvactions.specs.NvChangeAuth.{nv_change_auth_row};
 
 use tpm_bytes::Cursor;
-use tpm_nv::{Indices, Undefined};
+use tpm_nv::Indices;
 use tpm_record::Keep;
 use tpm_record::rows::answer::Answer;
 use tpm_record::rows::call::Call;
@@ -38,8 +38,7 @@ pub fn nv_change_auth<K: Keep>(
     if most < value.as_slice().len() {
         return Err(parameter_refusal(ActionCheck::First, 1, ResponseCode::Size));
     }
-    match keep.nv_mut().change_auth(handle, value) {
-        Ok(()) => Ok(()),
-        Err(Undefined) => Err(handle_refusal()),
-    }
+    keep.nv_mut()
+        .change_auth(handle, value)
+        .map_err(|_| handle_refusal())
 }

@@ -28,8 +28,7 @@ pub fn nv_extend<K: Keep>(keep: &mut K, call: &Call, _answer: &mut Answer) -> Re
     let bytes = parameter(1, read_buffer(&mut parameters, DATA_LIMIT))?;
     end(&parameters)?;
     check_writer(&target)?;
-    match keep.nv_mut().extend(target.handle, bytes) {
-        Ok(()) => Ok(()),
-        Err(fault) => Err(writing_refusal(fault)),
-    }
+    keep.nv_mut()
+        .extend(target.handle, bytes)
+        .map_err(writing_refusal)
 }

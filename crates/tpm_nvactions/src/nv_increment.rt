@@ -26,8 +26,7 @@ pub fn nv_increment<K: Keep>(keep: &mut K, call: &Call, _answer: &mut Answer) ->
     let target = target_of(keep, call)?;
     end(&Cursor::new(call.parameters))?;
     check_writer(&target)?;
-    match keep.nv_mut().increment(target.handle) {
-        Ok(()) => Ok(()),
-        Err(fault) => Err(writing_refusal(fault)),
-    }
+    keep.nv_mut()
+        .increment(target.handle)
+        .map_err(writing_refusal)
 }

@@ -26,8 +26,5 @@ pub fn nv_read_lock<K: Keep>(keep: &mut K, call: &Call, _answer: &mut Answer) ->
     let target = target_of(keep, call)?;
     end(&Cursor::new(call.parameters))?;
     check_reader(&target)?;
-    match keep.nv_mut().lock_read(target.handle) {
-        Ok(()) => Ok(()),
-        Err(fault) => Err(lock_refusal(fault)),
-    }
+    keep.nv_mut().lock_read(target.handle).map_err(lock_refusal)
 }

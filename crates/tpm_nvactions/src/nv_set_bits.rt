@@ -28,8 +28,7 @@ pub fn nv_set_bits<K: Keep>(keep: &mut K, call: &Call, _answer: &mut Answer) -> 
     let bits = number(1, parameters.u64())?;
     end(&parameters)?;
     check_writer(&target)?;
-    match keep.nv_mut().set_bits(target.handle, bits) {
-        Ok(()) => Ok(()),
-        Err(fault) => Err(writing_refusal(fault)),
-    }
+    keep.nv_mut()
+        .set_bits(target.handle, bits)
+        .map_err(writing_refusal)
 }

@@ -45,11 +45,7 @@ pub fn nv_write<K: Keep>(keep: &mut K, call: &Call, _answer: &mut Answer) -> Res
     let target = target_of(keep, call)?;
     let asked = read_parameters(call.parameters)?;
     check_writer(&target)?;
-    match keep
-        .nv_mut()
+    keep.nv_mut()
         .write(target.handle, asked.offset, asked.bytes)
-    {
-        Ok(()) => Ok(()),
-        Err(fault) => Err(writing_refusal(fault)),
-    }
+        .map_err(writing_refusal)
 }

@@ -30,8 +30,7 @@ pub fn nv_write_lock<K: Keep>(
     let target = target_of(keep, call)?;
     end(&Cursor::new(call.parameters))?;
     check_writer(&target)?;
-    match keep.nv_mut().lock_write(target.handle) {
-        Ok(()) => Ok(()),
-        Err(fault) => Err(lock_refusal(fault)),
-    }
+    keep.nv_mut()
+        .lock_write(target.handle)
+        .map_err(lock_refusal)
 }

@@ -26,7 +26,7 @@ use Rattle.tpm_types_object.specs.declared.sensitive.Sensitive.{Sensitive}
 use Rattle.tpm_types.proofs.SelectionLaws.{is_equal}
 use Rattle.tpm_types_object.proofs.SensitiveLaws.{sized_sensitive_spelled}
 use Rattle.tpm_object.proofs.Longest.{sized_sensitive_most}
-use Rattle.tpm_object.specs.PrivateArea.{IsProtected, IsWrapped, area_in, decrypted_area, encrypted_area, integrity_fault, integrity_key, integrity_of, private_text, protected_in, protected_text, authenticated_text, storage_key, unwrapped}
+use Rattle.tpm_object.specs.PrivateArea.{IsProtected, IsWrapped, area_in, decrypted_area, encrypted_area, integrity_fault, integrity_key, integrity_of, private_text, protected_in, protected_text, authenticated_text, storage_key, unwrapped_sensitive}
 use Rattle.tpm_object.specs.declared.object.Object.{Object}
 use Rattle.tpm_object.specs.declared.private_area.IntegrityFault.{IntegrityFault}
 
@@ -40,7 +40,8 @@ digest_small : (alg : HashAlg) → digest_size alg ≤ 32
 digest_small Sha1 = omega arith
 digest_small Sha256 = omega arith
 
-integrity_small : (parent : Object) (name protected : List ℕ) → length (integrity_of parent name protected) ≤ 32
+integrity_small : (parent : Object) (name protected : List ℕ)
+    → length (integrity_of parent name protected) ≤ 32
 unfolding integrity_of
 integrity_small parent name protected =
     omega (
@@ -70,11 +71,13 @@ unfolding protected_in
 protected_found parent name text protected fits e =
     let f = integrity_fault in
     let a = bind_ok (or_fault (sized_at 0xffff text) f)
-    (λ integrity. refused_if (not (bytes_eq integrity.0 (integrity_of parent name integrity.1))) f >>= λ right. Ok integrity.1) protected e in
+    (λ integrity. refused_if (not (bytes_eq integrity.0 (integrity_of parent name integrity.1))) f
+    >>= λ right. Ok integrity.1) protected e in
     let value : List ℕ = integrity_of parent name a.0.1 in
     let b = bind_ok (refused_if (not (bytes_eq a.0.0 value)) f) (λ right. Ok a.0.1) protected a.2 in
     let t = sized_takes 0xffff f text a.0 fits a.1 in
-    let same : bytes_eq a.0.0 value ≡ true = not_false _ (passed (not (bytes_eq a.0.0 value)) f b.0 b.1) in
+    let same : bytes_eq a.0.0 value ≡ true =
+    not_false _ (passed (not (bytes_eq a.0.0 value)) f b.0 b.1) in
     let right : a.0.0 ≡ value = (bytes_eq-Decides a.0.0 value).0 same in
     subst (λ (p : List ℕ). text ≡ authenticated_text parent name p) (ok_is a.0.1 protected b.2)
     (t.0.parts ∙ ap (λ (v : List ℕ). sized_text v ++ a.0.1) right)
@@ -82,12 +85,14 @@ protected_found parent name text protected fits e =
 -- ---- the encrypted area
 
 -- Encoding an area in a sized buffer and then decoding it returns the area.
-area_again : (area : Sensitive) → IsSensitive area → area_in (sized_text (sensitive_text area)) ≡ Ok area
+area_again : (area : Sensitive) → IsSensitive area
+    → area_in (sized_text (sensitive_text area)) ≡ Ok area
 unfolding area_in
 area_again area is =
     let text : List ℕ = sized_text (sensitive_text area) in
     let read : filled_by sensitive_at text ≡ Ok (area, []) =
-    ap (filled_by sensitive_at) (sym (append-nil text)) ∙ sized_sensitive_spelled.again area [] is in
+    ap (filled_by sensitive_at) (sym (append-nil text))
+    ∙ sized_sensitive_spelled.again area [] is in
     rw read refl
 
 -- An area in its sized buffer is at most 202 bytes long.
@@ -95,19 +100,27 @@ area_most : (plain : List ℕ) (area : Sensitive) → area_in plain ≡ Ok area 
 unfolding area_in
 area_most plain area e =
     let f = integrity_fault in
-    let a = bind_ok (or_fault (filled_by sensitive_at plain) f) (λ area. refused_if (not (length area.1 == 0)) f >>= λ whole. Ok area.0) area e in
+    let a = bind_ok (or_fault (filled_by sensitive_at plain) f)
+    (λ area. refused_if (not (length area.1 == 0)) f >>= λ whole. Ok area.0) area e in
     let b = bind_ok (refused_if (not (length a.0.1 == 0)) f) (λ whole. Ok a.0.0) area a.2 in
     let none = is_equal (length a.0.1) 0 (passed (not (length a.0.1 == 0)) f b.0 b.1) in
-    omega (arith, none, sized_sensitive_most plain a.0 (or_fault_ok (filled_by sensitive_at plain) f a.0 a.1))
+    omega (
+      arith,
+      none,
+      sized_sensitive_most plain a.0
+          (or_fault_ok (filled_by sensitive_at plain) f a.0 a.1),
+    )
 
 encrypted_undone : (parent : Object) (name iv : List ℕ) (area : Sensitive)
-    → cfb_decrypt_of (storage_key parent name) iv (encrypted_area parent name iv area) ≡ sized_text (sensitive_text area)
+    → cfb_decrypt_of (storage_key parent name) iv (encrypted_area parent name iv area)
+    ≡ sized_text (sensitive_text area)
 unfolding encrypted_area
 encrypted_undone parent name iv area =
     cfb_undone (storage_key parent name) iv (sized_text (sensitive_text area))
 
 -- If an encrypted area is decrypted, the result is the original area.
-decrypted_again : (parent : Object) (name iv : List ℕ) (area : Sensitive) → length iv ≡ 16 → IsSensitive area
+decrypted_again : (parent : Object) (name iv : List ℕ) (area : Sensitive) → length iv ≡ 16
+    → IsSensitive area
     → decrypted_area parent name (protected_text parent name iv area) ≡ Ok area
 unfolding decrypted_area
 decrypted_again parent name iv area whole is =
@@ -128,7 +141,8 @@ decrypted_found : (parent : Object) (name protected iv encrypted plain : List �
 unfolding encrypted_area
 decrypted_found parent name protected iv encrypted plain area fits read whole undone spelled =
     let f = integrity_fault in
-    let t = sized_takes 16 f protected (iv, encrypted) fits (ap (λ (r : Result (List ℕ × List ℕ) _). or_fault r f) read) in
+    let t = sized_takes 16 f protected (iv, encrypted) fits
+    (ap (λ (r : Result (List ℕ × List ℕ) _). or_fault r f) read) in
     let again : encrypted ≡ encrypted_area parent name iv area =
     sym undone ∙ ap (cfb_encrypt_of (storage_key parent name) iv) spelled in
     (iv, whole, t.0.parts ∙ ap (λ (l : List ℕ). sized_text iv ++ l) again)
@@ -161,8 +175,11 @@ pub decrypted_law : (parent : Object) (name protected iv encrypted plain : List 
     → cfb_encrypt_of (storage_key parent name) iv plain ≡ encrypted
     → IfOk result (λ area. IsSensitive area × (plain ≡ sized_text (sensitive_text area)))
     → IfOk result (λ area. IsSensitive area × IsProtected parent name protected area)
-decrypted_law parent name protected iv encrypted plain (Ok area) fits read whole undone is =
-    (is.0, decrypted_found parent name protected iv encrypted plain area fits read whole undone is.1)
+decrypted_law parent name protected iv encrypted plain (Ok area) fits read whole undone is = (
+  is.0,
+  decrypted_found parent name protected iv encrypted plain area fits read whole undone
+      is.1,
+)
 decrypted_law parent name protected iv encrypted plain (Err fault) fits read whole undone is = tt
 
 -- ---- the private area
@@ -170,10 +187,13 @@ decrypted_law parent name protected iv encrypted plain (Err fault) fits read who
 -- the sensitive area, if the two types are the same; otherwise the fault
 abbrev of_type : (a b : ObjectType) → Sensitive → Result Sensitive IntegrityFault
 of_type a b area =
-    refused_if (not (object_type_number a == object_type_number b)) integrity_fault >>= λ typed. Ok area
+    refused_if (not (object_type_number a == object_type_number b)) integrity_fault
+    >>= λ typed. Ok area
 
 passes : (a b : ObjectType) (area : Sensitive) → a ≡ b → of_type a b area ≡ Ok area
-passes a b area same = rw ((Decides-eqb (object_type_number a) (object_type_number b)).1 (ap object_type_number same)) refl
+passes a b area same =
+    rw ((Decides-eqb (object_type_number a) (object_type_number b)).1 (ap object_type_number same))
+    refl
 
 -- If two types have the same number, they are equal.
 same_type : (a b : ObjectType) → object_type_number a ≡ object_type_number b → a ≡ b
@@ -184,26 +204,32 @@ same_type object.SymCipher object.SymCipher e = refl
 
 refuses : (a b : ObjectType) (area : Sensitive) → b ≢ a → of_type a b area ≡ Err integrity_fault
 refuses a b area other =
-    rw (ne_eqb (object_type_number a) (object_type_number b) (λ same. other (sym (same_type a b same)))) refl
+    rw (ne_eqb (object_type_number a) (object_type_number b)
+    (λ same. other (sym (same_type a b same)))) refl
 
 -- Unwrapping a wrapped private area returns the sensitive area if it has the type of the public
 -- area, and fails otherwise.
 wrapped_is : (parent : Object) (public : Public) (name iv : List ℕ) (area : Sensitive)
     → name ≡ object_name public → length iv ≡ 16 → IsSensitive area
-    → unwrapped parent public (private_text parent name iv area)
+    → unwrapped_sensitive parent public (private_text parent name iv area)
     ≡ of_type area.object_type (object_type public) area
-unfolding unwrapped private_text
+unfolding unwrapped_sensitive private_text
 wrapped_is parent public name iv area named whole is =
     let protected : List ℕ = protected_text parent name iv area in
-    rw (sym named, protected_again parent name protected, decrypted_again parent name iv area whole is) refl
+    rw (
+      sym named,
+      protected_again parent name protected,
+      decrypted_again parent name iv area whole is,
+    ) refl
 
 -- If the public and the sensitive area have the same type, a wrapped private area can be unwrapped.
 pub wrapped_undone : (parent : Object) (public : Public) (name iv text : List ℕ) (area : Sensitive)
     → text ≡ private_text parent name iv area → length iv ≡ 16 → IsSensitive area
     → name ≡ object_name public → object_type public ≡ area.object_type
-    → unwrapped parent public text ≡ Ok area
+    → unwrapped_sensitive parent public text ≡ Ok area
 wrapped_undone parent public name iv text area spelled whole is named typed =
-    ap (unwrapped parent public) spelled ∙ wrapped_is parent public name iv area named whole is
+    ap (unwrapped_sensitive parent public) spelled
+    ∙ wrapped_is parent public name iv area named whole is
     ∙ passes area.object_type (object_type public) area (sym typed)
 
 -- If the public and the sensitive area have different types, a wrapped private area cannot be
@@ -211,20 +237,23 @@ wrapped_undone parent public name iv text area spelled whole is named typed =
 pub wrapped_refused : (parent : Object) (public : Public) (name iv text : List ℕ) (area : Sensitive)
     → text ≡ private_text parent name iv area → length iv ≡ 16 → IsSensitive area
     → name ≡ object_name public → object_type public ≢ area.object_type
-    → unwrapped parent public text ≡ Err integrity_fault
+    → unwrapped_sensitive parent public text ≡ Err integrity_fault
 wrapped_refused parent public name iv text area spelled whole is named other =
-    ap (unwrapped parent public) spelled ∙ wrapped_is parent public name iv area named whole is
+    ap (unwrapped_sensitive parent public) spelled
+    ∙ wrapped_is parent public name iv area named whole is
     ∙ refuses area.object_type (object_type public) area other
 
 -- If a private area was wrapped for a public area, it can be unwrapped with this public area.
 pub unwrapped_only : (parent : Object) (public : Public) (text : List ℕ) (area : Sensitive)
-    → IsWrapped parent public text area → unwrapped parent public text ≡ Ok area
+    → IsWrapped parent public text area → unwrapped_sensitive parent public text ≡ Ok area
 unwrapped_only parent public text area is =
-    wrapped_undone parent public (object_name public) is.iv text area is.spelled is.whole is.sized refl
+    wrapped_undone parent public (object_name public) is.iv text area is.spelled is.whole is.sized
+    refl
     (sym is.typed)
 
 -- A private area that can be unwrapped with a public area was wrapped for that public area.
-pub unwrapped_found : (parent : Object) (public : Public) (name text protected : List ℕ) (area : Sensitive)
+pub unwrapped_found : (parent : Object) (public : Public) (name text protected : List ℕ)
+    (area : Sensitive)
     → name ≡ object_name public → AreBytes text → protected_in parent name text ≡ Ok protected
     → IsSensitive area × IsProtected parent name protected area
     → object_type_number area.object_type ≡ object_type_number (object_type public)

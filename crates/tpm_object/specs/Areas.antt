@@ -35,8 +35,8 @@ new_object_areas template given seed key =
 
 -- both areas of a new object. The first random bytes become its key, and the next random bytes
 -- become its seedValue
-unfoldable pub created : Public → SensitiveValues → (random : List ℕ) → Created
-created template given random =
+unfoldable pub created_areas : Public → SensitiveValues → (random : List ℕ) → Created
+created_areas template given random =
     new_object_areas template given
     (take (digest_size template.name_alg) (drop (generated_size template given) random))
     (take (generated_size template given) random)

@@ -116,11 +116,11 @@ decrypted_area parent name protected = do
 
 -- the sensitive area that a private area contains, if the object has this public area. The
 -- sensitive area and the public area must have the same type
-unfoldable pub unwrapped : (parent : Object)
+unfoldable pub unwrapped_sensitive : (parent : Object)
     → Public
     → (text : List ℕ)
     → Result Sensitive IntegrityFault
-unwrapped parent public text = do
+unwrapped_sensitive parent public text = do
   protected ← protected_in parent (object_name public) text
   area ← decrypted_area parent (object_name public) protected
   typed ← refused_if

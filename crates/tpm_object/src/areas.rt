@@ -17,7 +17,7 @@ pub struct Created {
     pub sensitive: Sensitive,
 }
 
-ghost use Rattle.tpm_object.specs.Areas.{AreOfOneType, created, new_object_areas, new_public, new_sensitive};
+ghost use Rattle.tpm_object.specs.Areas.{AreOfOneType, created_areas, new_object_areas, new_public, new_sensitive};
 ghost use Rattle.tpm_object.specs.Primary.{primary_areas};
 
 /// The sensitive area of an object with this seedValue. It contains the caller's data, or this key
@@ -73,9 +73,9 @@ pub(crate) fn new_object_areas(
 
 /// The areas of a new object (TPM 2.0 Library, Part 1, section 27). The first `drawn_by` bytes of
 /// `random` become its key, if the device generates the key, and then its seedValue.
-#[tactic(auto, unfolding(crate::specs::Areas::created))]
+#[tactic(auto, unfolding(crate::specs::Areas::created_areas))]
 pub fn create(template: &Public, given: &SensitiveCreate, random: &[u8; 256]) -> Created
-    ensures { result ≡ created template.now (sensitive_values_of given.now) random.now }
+    ensures { result ≡ created_areas template.now (sensitive_values_of given.now) random.now }
 {
     let (key, others) = random.split_at(generated_size(template, given));
     let (seed, _) = others.split_at(template.name_alg.size());
@@ -86,10 +86,10 @@ pub fn create(template: &Public, given: &SensitiveCreate, random: &[u8; 256]) ->
 /// bytes or from a seed. Therefore, the private area that the parent makes can be unwrapped again
 /// with the object's public area. This function is only a proof: it has no effect at run time.
 #[inline(always)]
-#[tactic(auto, unfolding(crate::specs::Areas::created, crate::specs::Areas::new_object_areas, crate::specs::Primary::primary_areas))]
+#[tactic(auto, unfolding(crate::specs::Areas::created_areas, crate::specs::Areas::new_object_areas, crate::specs::Primary::primary_areas))]
 pub fn area_laws()
     ensures by_random { (template : Public) (given : SensitiveValues) (random : List ℕ)
-        → AreOfOneType (created template given random) }
+        → AreOfOneType (created_areas template given random) }
     ensures by_seed { (seed : List ℕ) (template : Public) (given : SensitiveValues)
         → AreOfOneType (primary_areas seed template given) }
 {}

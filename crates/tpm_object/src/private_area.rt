@@ -32,7 +32,7 @@ const STORAGE_LABEL: &[u8] = b"STORAGE";
 /// The KDFa label for the HMAC keys of private areas.
 const INTEGRITY_LABEL: &[u8] = b"INTEGRITY";
 
-ghost use Rattle.tpm_object.specs.PrivateArea.{IsProtected, IsWrapped, area_in, decrypted_area, encrypted_area, integrity_fault, integrity_key, integrity_of, private_text, protected_in, protected_text, authenticated_text, storage_key, unwrapped};
+ghost use Rattle.tpm_object.specs.PrivateArea.{IsProtected, IsWrapped, area_in, decrypted_area, encrypted_area, integrity_fault, integrity_key, integrity_of, private_text, protected_in, protected_text, authenticated_text, storage_key, unwrapped_sensitive};
 
 /// The key that encrypts the sensitive area of the object with this Name.
 #[tactic(auto, unfolding(crate::specs::PrivateArea::storage_key))]
@@ -119,10 +119,10 @@ pub fn wrap(parent: &Object, public: &Public, sensitive: &Sensitive, iv: &[u8; 1
     ensures small { length result ≤ 254 }
     // Unwrapping returns the sensitive area again if it has the type of the public area.
     ensures undone { object_type public.now ≡ sensitive.now.object_type
-        → unwrapped parent.now public.now result ≡ Ok sensitive.now }
+        → unwrapped_sensitive parent.now public.now result ≡ Ok sensitive.now }
     // Unwrapping fails if the public and the sensitive area have different types.
     ensures other_type { object_type public.now ≢ sensitive.now.object_type
-        → unwrapped parent.now public.now result ≡ Err integrity_fault }
+        → unwrapped_sensitive parent.now public.now result ≡ Err integrity_fault }
 {
     wrap_named(parent, &tpm_name::of_object(public), sensitive, iv)
 }
@@ -136,11 +136,11 @@ pub fn wrap_named(parent: &Object, name: &Name, sensitive: &Sensitive, iv: &[u8;
     // have the same type.
     ensures undone { (public : Public) → name.now ≡ object_name public
         → object_type public ≡ sensitive.now.object_type
-        → unwrapped parent.now public result ≡ Ok sensitive.now }
+        → unwrapped_sensitive parent.now public result ≡ Ok sensitive.now }
     // Unwrapping fails if the public and the sensitive area have different types.
     ensures other_type { (public : Public) → name.now ≡ object_name public
         → object_type public ≢ sensitive.now.object_type
-        → unwrapped parent.now public result ≡ Err integrity_fault }
+        → unwrapped_sensitive parent.now public result ≡ Err integrity_fault }
 {
     let protected = protected_text(parent, name, sensitive, iv);
     let integrity = integrity(parent, name, protected.as_slice());
@@ -228,7 +228,7 @@ fn decrypted_area(
 /// Unwraps the private area of the object with this public area, and returns the sensitive area
 /// (TPM 2.0 Library, Part 1, section 22). Checks the integrity value before decrypting anything.
 pub fn unwrap(parent: &Object, public: &Public, private: &[u8]) -> Result<Sensitive, IntegrityFault>
-    ensures value { result ≡ unwrapped parent.now public.now private.now }
+    ensures value { result ≡ unwrapped_sensitive parent.now public.now private.now }
     // A private area is accepted only if the parent wrapped it for a public area with this Name
     // and type.
     ensures found { IfOk result (λ area. IsWrapped parent.now public.now private.now area) }
@@ -241,7 +241,7 @@ pub fn unwrap(parent: &Object, public: &Public, private: &[u8]) -> Result<Sensit
 }
 
 /// Like `unwrap`, for callers that already know the object's Name.
-#[tactic(auto, unfolding(crate::specs::PrivateArea::unwrapped))]
+#[tactic(auto, unfolding(crate::specs::PrivateArea::unwrapped_sensitive))]
 pub fn unwrap_named(
     parent: &Object,
     public: &Public,
@@ -249,7 +249,7 @@ pub fn unwrap_named(
     private: &[u8],
 ) -> Result<Sensitive, IntegrityFault>
     requires { name.now ≡ object_name public.now }
-    ensures value { result ≡ unwrapped parent.now public.now private.now }
+    ensures value { result ≡ unwrapped_sensitive parent.now public.now private.now }
     ensures found { IfOk result (λ area. IsWrapped parent.now public.now private.now area) }
 {
     let protected = protected_in(parent, name, private)?;

@@ -5,8 +5,10 @@ use Rattle.std.proofs.lemmas.List.Elements.{All-append, All-drop}
 use Rattle.tpm_pcr.specs.Saved.{IsSavedBank}
 use Rattle.tpm_pcr.specs.Values.{IsBank}
 
-pub restored_bank : (size : ℕ) (saved bank : List (List ℕ)) → IsSavedBank size saved → IsBank size bank → IsBank size (saved ++ drop 16 bank)
+pub restored_bank : (size : ℕ) (saved bank : List (List ℕ)) → IsSavedBank size saved
+    → IsBank size bank → IsBank size (saved ++ drop 16 bank)
 restored_bank size saved bank is_saved is_bank = (
   omega (arith, length-append saved (drop 16 bank), length-drop 16 bank, is_saved.0, is_bank.0),
-  All-append (λ (value : List ℕ). length value ≡ size) saved (drop 16 bank) is_saved.1 (All-drop (λ (value : List ℕ). length value ≡ size) 16 bank is_bank.1),
+  All-append (λ (value : List ℕ). length value ≡ size) saved (drop 16 bank) is_saved.1
+      (All-drop (λ (value : List ℕ). length value ≡ size) 16 bank is_bank.1),
 )

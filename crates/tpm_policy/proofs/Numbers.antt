@@ -30,7 +30,8 @@ number_after_lt m n (x ∷ xs) (y ∷ ys) same fit less =
 abbrev is_less : List ℕ → List ℕ → Bool
 is_less [] others = false
 is_less (byte ∷ bytes) [] = false
-is_less (byte ∷ bytes) (other ∷ others) = nat_lt byte other || (byte == other && is_less bytes others)
+is_less (byte ∷ bytes) (other ∷ others) =
+    nat_lt byte other || (byte == other && is_less bytes others)
 
 -- If the previous bytes are equal, the next bytes x and y decide which number is less. If x and y
 -- are equal too, the remaining bytes decide.
@@ -44,7 +45,8 @@ step_is m x y xs ys true eq same fit fits rest is_lt is_eq =
     let less : x < y = ltb-true x y is_lt in
     lt-ltb _ _ (number_after_lt (m * 256 + x) (m * 256 + y) xs ys same fit (omega arith))
 step_is m x y xs ys false true same fit fits rest is_lt is_eq =
-    subst (λ (z : ℕ). nat_lt (number_after (m * 256 + x) xs) (number_after (m * 256 + z) ys) ≡ is_less xs ys)
+    subst (λ (z : ℕ). nat_lt (number_after (m * 256 + x) xs) (number_after (m * 256 + z) ys)
+    ≡ is_less xs ys)
     (eqb-true x y is_eq) (rest (m * 256 + x))
 step_is m x y xs ys false false same fit fits rest is_lt is_eq =
     let most : y ≤ x = ltb-false x y is_lt in
@@ -105,12 +107,15 @@ raised byte = (byte + 128) % 256
 -- If adding 128 changes two bytes by the same amount (both or neither wrap around), it does not
 -- change their order.
 raised_alike : (x y : ℕ) (less : Bool) → (raised x + y ≡ raised y + x)
-    → (nat_lt x y || (x == y && less)) ≡ (nat_lt (raised x) (raised y) || (raised x == raised y && less))
+    → (nat_lt x y || (x == y && less))
+    ≡ (nat_lt (raised x) (raised y) || (raised x == raised y && less))
 raised_alike x y less alike =
     let lt : nat_lt (raised x) (raised y) ≡ nat_lt x y =
-    same_lt (raised x) (raised y) x y (λ h. omega (arith, alike, h)) (λ h. omega (arith, alike, h)) in
+    same_lt (raised x) (raised y) x y (λ h. omega (arith, alike, h))
+    (λ h. omega (arith, alike, h)) in
     let eq : (raised x == raised y) ≡ (x == y) =
-    same_eq (raised x) (raised y) x y (λ h. omega (arith, alike, h)) (λ h. omega (arith, alike, h)) in
+    same_eq (raised x) (raised y) x y (λ h. omega (arith, alike, h))
+    (λ h. omega (arith, alike, h)) in
     rw (lt, eq) refl
 
 signed_by : (x y : ℕ) (xs ys : List ℕ) (below belows : Bool) → length xs ≡ length ys
@@ -121,7 +126,8 @@ signed_by : (x y : ℕ) (xs ys : List ℕ) (below belows : Bool) → length xs �
 signed_by x y xs ys false false same fit fits is_below are_below =
     let x_low : x < 128 = leb-false 128 x is_below in
     let y_low : y < 128 = leb-false 128 y are_below in
-    rw (is_below, are_below) (less_by_first x y xs ys same fit fits ∙ raised_alike x y _ (omega arith))
+    rw (is_below, are_below) (less_by_first x y xs ys same fit fits
+    ∙ raised_alike x y _ (omega arith))
 signed_by x y xs ys true true same fit fits is_below are_below =
     let x_high : 128 ≤ x = leb-true 128 x is_below in
     let y_high : 128 ≤ y = leb-true 128 y are_below in
@@ -131,9 +137,11 @@ signed_by x y xs ys true true same fit fits is_below are_below =
     let wholes : 256 ^ length (x ∷ xs) ≡ 256 ^ length (y ∷ ys) = ap (λ (n : ℕ). 256 ^ n) lengths in
     let one = number_lt 256 (x ∷ xs) (all_below (x ∷ xs) fit) in
     let other = number_lt 256 (y ∷ ys) (all_below (y ∷ ys) fits) in
-    let turned : nat_lt (256 ^ length (y ∷ ys) - suc (unsigned_number (y ∷ ys))) (256 ^ length (x ∷ xs) - suc (unsigned_number (x ∷ xs)))
+    let turned : nat_lt (256 ^ length (y ∷ ys) - suc (unsigned_number (y ∷ ys)))
+    (256 ^ length (x ∷ xs) - suc (unsigned_number (x ∷ xs)))
     ≡ nat_lt (unsigned_number (x ∷ xs)) (unsigned_number (y ∷ ys)) =
-    same_lt _ _ _ _ (λ h. omega (arith, one, other, wholes, h)) (λ h. omega (arith, one, other, wholes, h)) in
+    same_lt _ _ _ _ (λ h. omega (arith, one, other, wholes, h))
+    (λ h. omega (arith, one, other, wholes, h)) in
     rw (is_below, are_below, below_zero _ _ one, below_zero _ _ other)
     (turned ∙ less_by_first x y xs ys same fit fits ∙ raised_alike x y _ (omega arith))
 signed_by x y xs ys true false same fit fits is_below are_below =
@@ -157,7 +165,8 @@ abbrev rest_of : List ℕ → List ℕ
 rest_of bytes = take (length bytes - 1) (drop 1 bytes)
 
 rest_is : (x : ℕ) (xs : List ℕ) → rest_of (x ∷ xs) ≡ xs
-rest_is x xs = let size : length (x ∷ xs) - 1 ≡ length xs = omega arith in rw (size) (take-length xs)
+rest_is x xs = let size : length (x ∷ xs) - 1 ≡ length xs =
+    omega arith in rw (size) (take-length xs)
 
 -- If two byte strings have the same size, they still have the same size without their first bytes.
 pub rest-length : (bytes others : List ℕ) → length bytes ≡ length others

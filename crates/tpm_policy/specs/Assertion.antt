@@ -136,8 +136,8 @@ is_other_written (Some false) (Some found) = found
 
 -- the policy after an assertion extends its digest: H(policyDigest || commandCode || the
 -- assertion's data)
-abbrev pub extended : HashAlg → ServedCommand → (about : List ℕ) → Policy → Policy
-extended hash command about policy =
+abbrev pub extended_policy : HashAlg → ServedCommand → (about : List ℕ) → Policy → Policy
+extended_policy hash command about policy =
     record policy {
       digest = hash_of hash (policy.digest ++ to_be_bytes w32 (code_number command) ++ about);
     }
@@ -154,9 +154,10 @@ pcr_asserted hash trial pcr policy = do
       (plain_fault action.First code.PcrChanged)
   a2 ← refused_if (not trial && is_given pcr.given && not (bytes_eq pcr.given pcr.digest))
       (parameter_fault action.Second 1 code.Value)
-  Ok (record (extended hash served.PolicyPcr (pcr.selection ++ taken_digest trial pcr) policy) {
-    update_count = Some pcr.update_count;
-  })
+  Ok (record (extended_policy hash served.PolicyPcr
+      (pcr.selection ++ taken_digest trial pcr) policy) {
+        update_count = Some pcr.update_count;
+      })
 
 -- TPM2_PolicyOR (section 23.6): the list must contain the policy digest. The new digest is the hash
 -- of zeros, the command code and the whole list; recorded values stay unchanged
@@ -176,7 +177,8 @@ or_asserted hash trial digests policy = do
 -- authorization value. TPM2_PolicyPassword (section 23.18) requires that the value be sent as a
 -- password. Both extend the digest in the same way
 abbrev demanding : HashAlg → Demand → Policy → Policy
-demanding hash wanted policy = record (extended hash served.PolicyAuthValue [] policy) { demand = wanted }
+demanding hash wanted policy =
+    record (extended_policy hash served.PolicyAuthValue [] policy) { demand = wanted }
 
 unfoldable pub auth_value_asserted : HashAlg → Policy → Policy
 auth_value_asserted hash policy = demanding hash demand.AuthValue policy
@@ -192,7 +194,8 @@ unfoldable pub command_code_asserted : HashAlg → (number : ℕ)
 command_code_asserted hash number policy = do
   a1 ← refused_if (is_other policy.command number) (parameter_fault action.First 1 code.Value)
   a2 ← refused_if (not (is_served number)) (parameter_fault action.Second 1 code.PolicyCc)
-  Ok (record (extended hash served.PolicyCommandCode (to_be_bytes w32 number) policy) { command = Some number })
+  Ok (record (extended_policy hash served.PolicyCommandCode (to_be_bytes w32 number) policy)
+      { command = Some number })
 
 -- TPM2_PolicyLocality (section 23.8): removes every allowed locality that the parameter does not
 -- select. At least one locality must remain, even in a trial session (a choice of this
@@ -203,7 +206,7 @@ locality_asserted hash localities policy = do
   a1 ← refused_if
       (localities == 0 || nat_lt 31 localities || bit_and policy.localities localities == 0)
       (parameter_fault action.First 1 code.Range)
-  Ok (record (extended hash served.PolicyLocality (localities ∷ []) policy) {
+  Ok (record (extended_policy hash served.PolicyLocality (localities ∷ []) policy) {
     localities = bit_and policy.localities localities;
   })
 
@@ -215,7 +218,7 @@ unfoldable pub cp_hash_asserted : HashAlg → (cp_hash : List ℕ)
 cp_hash_asserted hash cp_hash policy = do
   a1 ← refused_if (not (length cp_hash == digest_size hash)) (parameter_fault action.First 1 code.Size)
   a2 ← refused_if (is_other_hash policy.cp_hash cp_hash) (plain_fault action.Second code.Cphash)
-  Ok (record (extended hash served.PolicyCpHash cp_hash policy) { cp_hash = Some cp_hash })
+  Ok (record (extended_policy hash served.PolicyCpHash cp_hash policy) { cp_hash = Some cp_hash })
 
 -- the encoding of yes (1) or no (0) (Part 2, section 9.2, TPMI_YES_NO)
 abbrev pub yes_no_text : Bool → List ℕ
@@ -230,7 +233,7 @@ unfoldable pub nv_written_asserted : HashAlg → (is_written : Bool)
 nv_written_asserted hash is_written policy = do
   a1 ← refused_if (is_other_written policy.nv_written (Some is_written))
       (parameter_fault action.First 1 code.Value)
-  Ok (record (extended hash served.PolicyNvWritten (yes_no_text is_written) policy) {
+  Ok (record (extended_policy hash served.PolicyNvWritten (yes_no_text is_written) policy) {
     nv_written = Some is_written;
   })
 
@@ -274,20 +277,22 @@ unfoldable pub nv_asserted : HashAlg → (trial : Bool) → NvParts
     → Policy → Result Policy ActionFault
 nv_asserted hash trial nv policy = do
   compared ← nv_compared trial nv
-  Ok (extended hash served.PolicyNv (nv_arguments hash nv ++ nv.name) policy)
+  Ok (extended_policy hash served.PolicyNv (nv_arguments hash nv ++ nv.name) policy)
 
 -- the policy after an assertion, or the error of the first check that fails
-abbrev pub asserted : HashAlg → (trial : Bool) → Assertion → Policy → Result Policy ActionFault
-asserted hash trial (Pcr pcr) policy = pcr_asserted hash trial pcr policy
-asserted hash trial (Or digests) policy = or_asserted hash trial digests policy
-asserted hash trial AuthValue policy = Ok (auth_value_asserted hash policy)
-asserted hash trial Password policy = Ok (password_asserted hash policy)
-asserted hash trial (CommandCode number) policy = command_code_asserted hash number policy
-asserted hash trial (Locality localities) policy = locality_asserted hash localities policy
-asserted hash trial (CpHash cp_hash) policy = cp_hash_asserted hash cp_hash policy
-asserted hash trial (NvWritten is_written) policy = nv_written_asserted hash is_written policy
-asserted hash trial (Secret secret) policy = secret_asserted hash trial secret policy
-asserted hash trial (Nv nv) policy = nv_asserted hash trial nv policy
+abbrev pub asserted_policy : HashAlg → (trial : Bool) → Assertion → Policy
+    → Result Policy ActionFault
+asserted_policy hash trial (Pcr pcr) policy = pcr_asserted hash trial pcr policy
+asserted_policy hash trial (Or digests) policy = or_asserted hash trial digests policy
+asserted_policy hash trial AuthValue policy = Ok (auth_value_asserted hash policy)
+asserted_policy hash trial Password policy = Ok (password_asserted hash policy)
+asserted_policy hash trial (CommandCode number) policy = command_code_asserted hash number policy
+asserted_policy hash trial (Locality localities) policy = locality_asserted hash localities policy
+asserted_policy hash trial (CpHash cp_hash) policy = cp_hash_asserted hash cp_hash policy
+asserted_policy hash trial (NvWritten is_written) policy =
+    nv_written_asserted hash is_written policy
+asserted_policy hash trial (Secret secret) policy = secret_asserted hash trial secret policy
+asserted_policy hash trial (Nv nv) policy = nv_asserted hash trial nv policy
 
 -- The code changed the policy as defined, or refused the assertion with the defined error. A
 -- refusal changes nothing.

@@ -8,7 +8,7 @@ ghost use Rattle.std.specs.List.{list_any};
 ghost use Rattle.std.specs.Str.{bytes_eq};
 ghost use Rattle.tpm_mac.specs.Digest.{digest_size, hash_of};
 ghost use Rattle.tpm_types.specs.DigestList.{digests_of};
-ghost use Rattle.tpm_policy.specs.Assertion.{Asserts, auth_value_asserted, command_code_asserted, extended, is_other, locality_asserted, or_asserted, or_digest, password_asserted};
+ghost use Rattle.tpm_policy.specs.Assertion.{Asserts, auth_value_asserted, command_code_asserted, extended_policy, is_other, locality_asserted, or_asserted, or_digest, password_asserted};
 ghost use Rattle.tpm_policy.specs.Assertion.{cp_hash_asserted, nv_written_asserted};
 
 use crate::state::{Demand, PolicyState};
@@ -68,7 +68,7 @@ impl PolicyState {
     }
 
     fn extend(&mut self, hash: HashAlg, command: CommandCode, about: &[u8])
-        ensures { self.new ≡ extended hash command about.now self.old }
+        ensures { self.new ≡ extended_policy hash command about.now self.old }
     {
         self.digest = extended_digest(hash, self.digest.as_slice(), command, about);
     }

@@ -4,7 +4,7 @@
 ghost use Rattle.std.specs.Prelude.{◌≡◌, Bool, Ok, length};
 ghost use Rattle.tpm_mac.specs.Digest.{digest_size};
 ghost use Rattle.tpm_mac.specs.declared.algorithm.HashAlg.{HashAlg};
-ghost use Rattle.tpm_policy.specs.Assertion.{Assertion, asserted};
+ghost use Rattle.tpm_policy.specs.Assertion.{Assertion, asserted_policy};
 ghost use Rattle.tpm_policy.specs.Made.{policy_with};
 ghost use Rattle.tpm_policy.specs.State.{Policy};
 
@@ -15,7 +15,7 @@ ghost use Rattle.tpm_policy.specs.State.{Policy};
 #[tactic(auto, using(crate::proofs::Made::policy_made, crate::proofs::Sizes::made_sized))]
 pub fn assertion_laws()
     ensures made { (hash : HashAlg) (trial : Bool) (a : Assertion) (old new : Policy)
-        → asserted hash trial a old ≡ Ok new → new ≡ policy_with hash trial a old }
+        → asserted_policy hash trial a old ≡ Ok new → new ≡ policy_with hash trial a old }
     ensures sized { (hash : HashAlg) (trial : Bool) (a : Assertion) (old new : Policy)
-        → asserted hash trial a old ≡ Ok new → length new.digest ≡ digest_size hash }
+        → asserted_policy hash trial a old ≡ Ok new → length new.digest ≡ digest_size hash }
 {}

@@ -2,7 +2,7 @@
 
 ghost use Rattle.std.specs.Prelude.{◌≡◌};
 ghost use Rattle.tpm_policy.specs.Assertion as assertion;
-ghost use Rattle.tpm_policy.specs.Assertion.{Asserts, asserted, nv_arguments, nv_compared, nv_parts};
+ghost use Rattle.tpm_policy.specs.Assertion.{Asserts, asserted_policy, nv_arguments, nv_compared, nv_parts};
 
 use crate::comparison::compares;
 use crate::state::PolicyState;
@@ -57,7 +57,7 @@ impl PolicyState {
     /// not hold. A trial session accepts any index and operand.
     #[tactic(auto, unfolding(crate::specs::Assertion::nv_asserted))]
     pub fn nv(&mut self, hash: HashAlg, trial: bool, about: &NvAssertion) -> Result<(), ActionFault>
-        ensures { Asserts (asserted hash trial (assertion.Nv (nv_parts about.now)) self.old)
+        ensures { Asserts (asserted_policy hash trial (assertion.Nv (nv_parts about.now)) self.old)
             self.old result self.new }
     {
         about.check(trial)?;

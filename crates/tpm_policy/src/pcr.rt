@@ -7,7 +7,7 @@ ghost use Rattle.std.specs.Int.{w32, to_be_bytes};
 ghost use Rattle.tpm_mac.specs.Digest.{hash_of};
 ghost use Rattle.tpm_types.specs.PcrSelection.{selection_text};
 ghost use Rattle.tpm_policy.specs.Assertion as assertion;
-ghost use Rattle.tpm_policy.specs.Assertion.{Asserts, asserted, is_other, pcr_parts, taken_digest};
+ghost use Rattle.tpm_policy.specs.Assertion.{Asserts, asserted_policy, is_other, pcr_parts, taken_digest};
 
 use crate::state::PolicyState;
 use tpm_bytes::{Sink, is_equal};
@@ -76,7 +76,8 @@ impl PolicyState {
         trial: bool,
         about: &PcrAssertion,
     ) -> Result<(), ActionFault>
-        ensures { Asserts (asserted hash trial (assertion.Pcr (pcr_parts about.now)) self.old)
+        ensures { Asserts
+            (asserted_policy hash trial (assertion.Pcr (pcr_parts about.now)) self.old)
             self.old result self.new }
     {
         let (given, digest) = (about.given, about.digest);

@@ -2,7 +2,7 @@
 
 ghost use Rattle.std.specs.Prelude.{◌≡◌};
 ghost use Rattle.tpm_policy.specs.Assertion as assertion;
-ghost use Rattle.tpm_policy.specs.Assertion.{Asserts, asserted, is_other_hash, secret_digest, secret_parts};
+ghost use Rattle.tpm_policy.specs.Assertion.{Asserts, asserted_policy, is_other_hash, secret_digest, secret_parts};
 
 use crate::state::PolicyState;
 use tpm_bytes::{copied, is_equal};
@@ -60,7 +60,7 @@ impl PolicyState {
         about: &SecretAssertion,
     ) -> Result<(), ActionFault>
         ensures { Asserts
-            (asserted hash trial (assertion.Secret (secret_parts about.now)) self.old)
+            (asserted_policy hash trial (assertion.Secret (secret_parts about.now)) self.old)
             self.old result self.new }
     {
         let (cp_hash, nonce) = (about.cp_hash, about.nonce);

@@ -26,16 +26,19 @@ pub same_backs : (a b c d : List ℕ) → length b ≡ length d → a ++ b ≡ c
 same_backs a b c d size is =
     same_fronts a b c d (omega (arith, length-append a b, length-append c d, size, ap length is)) is
 
-pub among_front : {X : Type 0} (x : X) (front back : List X) → IsAmong x front → IsAmong x (front ++ back)
+pub among_front : {X : Type 0} (x : X) (front back : List X) → IsAmong x front
+    → IsAmong x (front ++ back)
 among_front x [] back among = absurd among
 among_front x (y ∷ front) back (inl is) = inl is
 among_front x (y ∷ front) back (inr among) = inr (among_front x front back among)
 
-pub among_back : {X : Type 0} (x : X) (front back : List X) → IsAmong x back → IsAmong x (front ++ back)
+pub among_back : {X : Type 0} (x : X) (front back : List X) → IsAmong x back
+    → IsAmong x (front ++ back)
 among_back x [] back among = among
 among_back x (y ∷ front) back among = inr (among_back x front back among)
 
-pub among_either : {X Elsewhere : Type 0} (x : X) (front back : List X) → IsAmong x front ⊎ Elsewhere → (Elsewhere → IsAmong x back) → IsAmong x (front ++ back)
+pub among_either : {X Elsewhere : Type 0} (x : X) (front back : List X)
+    → IsAmong x front ⊎ Elsewhere → (Elsewhere → IsAmong x back) → IsAmong x (front ++ back)
 among_either x front back (inl among) there = among_front x front back among
 among_either x front back (inr elsewhere) there = among_back x front back (there elsewhere)
 
@@ -47,7 +50,8 @@ is_same_or_not t u = by (bytes_eq t u) refl
     by true is = inl ((bytes_eq-Decides t u).0 is)
     by false is = inr (λ same. false≢true (sym is ∙ (bytes_eq-Decides t u).1 same))
 
-none_among : (t u : List ℕ) (texts : List (List ℕ)) → t ≢ u → (IsAmong t texts → ⊥) → IsAmong t (u ∷ texts) → ⊥
+none_among : (t u : List ℕ) (texts : List (List ℕ)) → t ≢ u → (IsAmong t texts → ⊥)
+    → IsAmong t (u ∷ texts) → ⊥
 none_among t u texts apart none (inl is) = apart is
 none_among t u texts apart none (inr among) = none among
 
@@ -56,7 +60,8 @@ pub is_among_or_not : (t : List ℕ) (texts : List (List ℕ)) → IsAmong t tex
 is_among_or_not t [] = inr (λ among. among)
 is_among_or_not t (u ∷ texts) = by (is_same_or_not t u) (is_among_or_not t texts)
   where
-    by : (t ≡ u) ⊎ (t ≢ u) → IsAmong t texts ⊎ (IsAmong t texts → ⊥) → IsAmong t (u ∷ texts) ⊎ (IsAmong t (u ∷ texts) → ⊥)
+    by : (t ≡ u) ⊎ (t ≢ u) → IsAmong t texts ⊎ (IsAmong t texts → ⊥)
+        → IsAmong t (u ∷ texts) ⊎ (IsAmong t (u ∷ texts) → ⊥)
     by (inl is) rest = inl (inl is)
     by (inr apart) (inl among) = inl (inr among)
     by (inr apart) (inr none) = inr (none_among t u texts apart none)
@@ -80,38 +85,51 @@ abbrev pub chain_texts : HashAlg → List (List ℕ) → List (List ℕ)
 chain_texts hash [] = []
 chain_texts hash (step ∷ earlier) = (chain hash earlier ++ step) ∷ chain_texts hash earlier
 
-pub length-chain : (hash : HashAlg) (steps : List (List ℕ)) → length (chain hash steps) ≡ digest_size hash
+pub length-chain : (hash : HashAlg) (steps : List (List ℕ))
+    → length (chain hash steps) ≡ digest_size hash
 length-chain hash [] = length-replicate (digest_size hash) 0
 length-chain hash (step ∷ earlier) = length-hash_of hash _
 
 -- The hash is broken in two cases: an input in `One` and a different input in `Other` have the same
 -- hash; or the hash of an input in `One` or `Other` is all zeros.
 pub record Breaking (hash : HashAlg) (Broken : Type 0) (One Other : List ℕ → Type 0) : Type 0 where
-  pub collision : (t u : List ℕ) → One t → Other u → t ≢ u → hash_of hash t ≡ hash_of hash u → Broken
+  pub collision : (t u : List ℕ) → One t → Other u → t ≢ u → hash_of hash t ≡ hash_of hash u
+      → Broken
   pub of_zeros : (t : List ℕ) → One t ⊎ Other t → hash_of hash t ≡ zeros hash → Broken
 
-module _ (hash : HashAlg) (Broken : Type 0) (One Other : List ℕ → Type 0) (breaking : Breaking hash Broken One Other) where
+module _ (hash : HashAlg) (Broken : Type 0) (One Other : List ℕ → Type 0)
+    (breaking : Breaking hash Broken One Other) where
   -- If two inputs have the same hash, either they are equal or the hash is broken.
-  pub same_hashed : (t u : List ℕ) → One t → Other u → hash_of hash t ≡ hash_of hash u → (t ≡ u) ⊎ Broken
+  pub same_hashed : (t u : List ℕ) → One t → Other u → hash_of hash t ≡ hash_of hash u
+      → (t ≡ u) ⊎ Broken
   same_hashed t u one other is = by (is_same_or_not t u)
     where
       by : (t ≡ u) ⊎ (t ≢ u) → (t ≡ u) ⊎ Broken
       by (inl same) = inl same
       by (inr apart) = inr (breaking.collision t u one other apart is)
 
-  pub same_chain : (xs ys : List (List ℕ)) → ((t : List ℕ) → IsAmong t (chain_texts hash xs) → One t) → ((t : List ℕ) → IsAmong t (chain_texts hash ys) → Other t) → chain hash xs ≡ chain hash ys → (xs ≡ ys) ⊎ Broken
+  pub same_chain : (xs ys : List (List ℕ))
+      → ((t : List ℕ) → IsAmong t (chain_texts hash xs) → One t)
+      → ((t : List ℕ) → IsAmong t (chain_texts hash ys) → Other t) → chain hash xs ≡ chain hash ys
+      → (xs ≡ ys) ⊎ Broken
   same_chain [] [] one other is = inl refl
-  same_chain [] (y ∷ ys) one other is = inr (breaking.of_zeros (chain hash ys ++ y) (inr (other _ (inl refl))) (sym is))
-  same_chain (x ∷ xs) [] one other is = inr (breaking.of_zeros (chain hash xs ++ x) (inl (one _ (inl refl))) is)
+  same_chain [] (y ∷ ys) one other is =
+      inr (breaking.of_zeros (chain hash ys ++ y) (inr (other _ (inl refl))) (sym is))
+  same_chain (x ∷ xs) [] one other is =
+      inr (breaking.of_zeros (chain hash xs ++ x) (inl (one _ (inl refl))) is)
   same_chain (x ∷ xs) (y ∷ ys) one other is =
-      unless_broken (same_hashed (chain hash xs ++ x) (chain hash ys ++ y) (one _ (inl refl)) (other _ (inl refl)) is)
-      (λ same. by (same_fronts (chain hash xs) x (chain hash ys) y (length-chain hash xs ∙ sym (length-chain hash ys)) same)
+      unless_broken (same_hashed (chain hash xs ++ x) (chain hash ys ++ y) (one _ (inl refl))
+      (other _ (inl refl)) is)
+      (λ same. by (same_fronts (chain hash xs) x (chain hash ys) y
+      (length-chain hash xs ∙ sym (length-chain hash ys)) same)
       (same_chain xs ys (λ t among. one t (inr among)) (λ t among. other t (inr among))))
     where
-      by : (chain hash xs ≡ chain hash ys) × (x ≡ y) → (chain hash xs ≡ chain hash ys → (xs ≡ ys) ⊎ Broken) → (x ∷ xs ≡ y ∷ ys) ⊎ Broken
+      by : (chain hash xs ≡ chain hash ys) × (x ≡ y)
+          → (chain hash xs ≡ chain hash ys → (xs ≡ ys) ⊎ Broken) → (x ∷ xs ≡ y ∷ ys) ⊎ Broken
       by halves earlier =
           unless_broken (earlier halves.0)
-          (λ same. inl (ap (λ (step : List ℕ). step ∷ xs) halves.1 ∙ ap (λ (steps : List (List ℕ)). y ∷ steps) same))
+          (λ same. inl (ap (λ (step : List ℕ). step ∷ xs) halves.1
+          ∙ ap (λ (steps : List (List ℕ)). y ∷ steps) same))
 
 -- ---- steps of assertions
 
@@ -143,19 +161,24 @@ abbrev awaits : List (List ℕ) → Bool
 awaits [] = false
 awaits (step ∷ earlier) = cond (awaits earlier) false (is_secret step)
 
-awaits_after : (r : Option (List ℕ)) (t : List ℕ) (steps : List (List ℕ)) → is_secret t ≡ is_some r → awaits steps ≡ false → awaits (steps_of r t ++ steps) ≡ false
+awaits_after : (r : Option (List ℕ)) (t : List ℕ) (steps : List (List ℕ)) → is_secret t ≡ is_some r
+    → awaits steps ≡ false → awaits (steps_of r t ++ steps) ≡ false
 awaits_after None t steps secret none = rw (none, secret) refl
 awaits_after (Some r) t steps secret none = rw (none, secret) refl
 
 awaits_none : (said : List Said) → AllFit said → awaits (all_steps said) ≡ false
 awaits_none [] fit = refl
-awaits_none (one ∷ earlier) fit = awaits_after one.0 one.1 (all_steps earlier) fit.0 (awaits_none earlier fit.1)
+awaits_none (one ∷ earlier) fit =
+    awaits_after one.0 one.1 (all_steps earlier) fit.0 (awaits_none earlier fit.1)
 
-some_steps : (r : Option (List ℕ)) (t : List ℕ) (steps : List (List ℕ)) → steps_of r t ++ steps ≡ [] → ⊥
+some_steps : (r : Option (List ℕ)) (t : List ℕ) (steps : List (List ℕ)) → steps_of r t ++ steps ≡ []
+    → ⊥
 some_steps None t steps is = absurd cc
 some_steps (Some r) t steps is = absurd cc
 
-latest_aligned : (r q : Option (List ℕ)) (t u : List ℕ) (xs ys : List (List ℕ)) → is_secret t ≡ is_some r → is_secret u ≡ is_some q → awaits xs ≡ false → awaits ys ≡ false → steps_of r t ++ xs ≡ steps_of q u ++ ys → (r ≡ q) × (t ≡ u) × (xs ≡ ys)
+latest_aligned : (r q : Option (List ℕ)) (t u : List ℕ) (xs ys : List (List ℕ))
+    → is_secret t ≡ is_some r → is_secret u ≡ is_some q → awaits xs ≡ false → awaits ys ≡ false
+    → steps_of r t ++ xs ≡ steps_of q u ++ ys → (r ≡ q) × (t ≡ u) × (xs ≡ ys)
 latest_aligned None None t u xs ys st su ax ay is = (refl, cc, cc)
 latest_aligned (Some r) (Some q) t u xs ys st su ax ay is = (cc, cc, cc)
 latest_aligned None (Some q) t u xs ys st su ax ay is =
@@ -171,7 +194,8 @@ aligned [] [] fx fy is = refl
 aligned [] (y ∷ ys) fx fy is = absurd (some_steps y.0 y.1 (all_steps ys) (sym is))
 aligned (x ∷ xs) [] fx fy is = absurd (some_steps x.0 x.1 (all_steps xs) is)
 aligned (x ∷ xs) (y ∷ ys) fx fy is =
-    let latest = latest_aligned x.0 y.0 x.1 y.1 (all_steps xs) (all_steps ys) fx.0 fy.0 (awaits_none xs fx.1) (awaits_none ys fy.1) is in
+    let latest = latest_aligned x.0 y.0 x.1 y.1 (all_steps xs) (all_steps ys) fx.0 fy.0
+    (awaits_none xs fx.1) (awaits_none ys fy.1) is in
     ap (λ (r : Option (List ℕ)). (r, x.1) ∷ xs) latest.0
     ∙ ap (λ (t : List ℕ). (y.0, t) ∷ xs) latest.1
     ∙ ap (λ (said : List Said). y ∷ said) (aligned xs ys fx.1 fy.1 latest.2)
@@ -179,13 +203,24 @@ aligned (x ∷ xs) (y ∷ ys) fx fy is =
 -- ---- the hash inputs of an assertion are the hash inputs of its steps
 
 module _ (hash : HashAlg) where
-  pub digest_of_steps : (r : Option (List ℕ)) (t digest : List ℕ) (steps apart more : List (List ℕ)) → digest ≡ chain hash steps → digest_after hash (with_reference hash r (digest ++ t) ++ apart ++ more) ≡ chain hash (steps_of r t ++ steps)
+  pub digest_of_steps : (r : Option (List ℕ)) (t digest : List ℕ) (steps apart more : List (List ℕ))
+      → digest ≡ chain hash steps
+      → digest_after hash (with_reference hash r (digest ++ t) ++ apart ++ more)
+      ≡ chain hash (steps_of r t ++ steps)
   digest_of_steps None t digest steps apart more is = ap (λ (d : List ℕ). hash_of hash (d ++ t)) is
-  digest_of_steps (Some r) t digest steps apart more is = ap (λ (d : List ℕ). hash_of hash (hash_of hash (d ++ t) ++ r)) is
+  digest_of_steps (Some r) t digest steps apart more is =
+      ap (λ (d : List ℕ). hash_of hash (hash_of hash (d ++ t) ++ r)) is
 
-  pub texts_of_steps : (r : Option (List ℕ)) (t digest : List ℕ) (steps apart : List (List ℕ)) → digest ≡ chain hash steps → (text : List ℕ) → IsAmong text (chain_texts hash (steps_of r t ++ steps)) → IsAmong text (with_reference hash r (digest ++ t) ++ apart) ⊎ IsAmong text (chain_texts hash steps)
-  texts_of_steps None t digest steps apart is text (inl same) = inl (inl (same ∙ ap (λ (d : List ℕ). d ++ t) (sym is)))
+  pub texts_of_steps : (r : Option (List ℕ)) (t digest : List ℕ) (steps apart : List (List ℕ))
+      → digest ≡ chain hash steps → (text : List ℕ)
+      → IsAmong text (chain_texts hash (steps_of r t ++ steps))
+      → IsAmong text (with_reference hash r (digest ++ t) ++ apart)
+      ⊎ IsAmong text (chain_texts hash steps)
+  texts_of_steps None t digest steps apart is text (inl same) =
+      inl (inl (same ∙ ap (λ (d : List ℕ). d ++ t) (sym is)))
   texts_of_steps None t digest steps apart is text (inr among) = inr among
-  texts_of_steps (Some r) t digest steps apart is text (inl same) = inl (inl (same ∙ ap (λ (d : List ℕ). hash_of hash (d ++ t) ++ r) (sym is)))
-  texts_of_steps (Some r) t digest steps apart is text (inr (inl same)) = inl (inr (inl (same ∙ ap (λ (d : List ℕ). d ++ t) (sym is))))
+  texts_of_steps (Some r) t digest steps apart is text (inl same) =
+      inl (inl (same ∙ ap (λ (d : List ℕ). hash_of hash (d ++ t) ++ r) (sym is)))
+  texts_of_steps (Some r) t digest steps apart is text (inr (inl same)) =
+      inl (inr (inl (same ∙ ap (λ (d : List ℕ). d ++ t) (sym is))))
   texts_of_steps (Some r) t digest steps apart is text (inr (inr among)) = inr among

@@ -15,44 +15,55 @@ use Rattle.tpm_types.specs.ActionFault.{parameter_fault}
 use Rattle.tpm_types.specs.declared.action_check.ActionCheck.TheVariants as action
 use Rattle.tpm_types.specs.declared.action_fault.ActionFault.{ActionFault}
 use Rattle.tpm_types.specs.declared.rc.ResponseCode.TheVariants as code
-use Rattle.tpm_policy_meaning.specs.Asserted.{AcceptedFindDigest, Says, DemandsValue, IsAmong, evaluated}
+use Rattle.tpm_policy_meaning.specs.Asserted.{AcceptedFindDigest, Says, DemandsValue, IsAmong, evaluated_policy}
 use Rattle.tpm_policy_meaning.specs.Expression.{PolicyAuthValue, PolicyPassword}
 
 -- ---- TPM2_PolicyOR
 
-pub any_among : (digest : List ℕ) (digests : List (List ℕ)) → list_any (λ (one : List ℕ). bytes_eq one digest) digests ≡ true → IsAmong digest digests
+pub any_among : (digest : List ℕ) (digests : List (List ℕ))
+    → list_any (λ (one : List ℕ). bytes_eq one digest) digests ≡ true → IsAmong digest digests
 any_among digest [] is = absurd (false≢true is)
 any_among digest (one ∷ digests) is = by (bytes_eq one digest) refl is (any_among digest digests)
   where
-    by : (same : Bool) → bytes_eq one digest ≡ same → list_any (λ (one : List ℕ). bytes_eq one digest) (one ∷ digests) ≡ true → (list_any (λ (one : List ℕ). bytes_eq one digest) digests ≡ true → IsAmong digest digests) → IsAmong digest (one ∷ digests)
+    by : (same : Bool) → bytes_eq one digest ≡ same
+        → list_any (λ (one : List ℕ). bytes_eq one digest) (one ∷ digests) ≡ true
+        → (list_any (λ (one : List ℕ). bytes_eq one digest) digests ≡ true → IsAmong digest digests)
+        → IsAmong digest (one ∷ digests)
     by true same any next = inl (sym ((bytes_eq-Decides one digest).0 same))
     by false other any next = inr (next cc)
 
-passes : (fault : ActionFault) (policy made : Policy) (holds : Bool) → (refused_if (not holds) fault >>= λ (u : Unit {0}). Ok policy) ≡ Ok made → holds ≡ true
+passes : (fault : ActionFault) (policy made : Policy) (holds : Bool)
+    → (refused_if (not holds) fault >>= λ (u : Unit {0}). Ok policy) ≡ Ok made → holds ≡ true
 passes fault policy made true is = refl
 passes fault policy made false is = absurd cc
 
 pub accepted_find : AcceptedFindDigest
 unfolding or_asserted
 accepted_find hash (assertion.Or digests) earlier made is =
-    let policy : Policy = evaluated hash false earlier in
+    let policy : Policy = evaluated_policy hash false earlier in
     any_among policy.digest digests
-    (passes (parameter_fault action.First 1 code.Value) (record policy { digest = or_digest hash digests }) made (list_any (λ (one : List ℕ). bytes_eq one policy.digest) digests) is)
+    (passes (parameter_fault action.First 1 code.Value)
+    (record policy { digest = or_digest hash digests }) made
+    (list_any (λ (one : List ℕ). bytes_eq one policy.digest) digests) is)
 accepted_find hash _ earlier made is = tt
 
 -- ---- the demand of a session
 
 abbrev Demanded : HashAlg → Bool → List Assertion → Type 0
 Demanded hash trial assertions =
-    ((evaluated hash trial assertions).demand ≡ demand.AuthValue) ⊎ ((evaluated hash trial assertions).demand ≡ demand.Password)
+    ((evaluated_policy hash trial assertions).demand ≡ demand.AuthValue)
+    ⊎ ((evaluated_policy hash trial assertions).demand ≡ demand.Password)
 
-demanded : (hash : HashAlg) (trial : Bool) (assertions : List Assertion) (one : Assertion) → IsAmong one assertions → Says one PolicyAuthValue → Demanded hash trial assertions
+demanded : (hash : HashAlg) (trial : Bool) (assertions : List Assertion) (one : Assertion)
+    → IsAmong one assertions → Says one PolicyAuthValue → Demanded hash trial assertions
 unfolding auth_value_asserted password_asserted
 demanded hash trial [] one among asserts = absurd among
 demanded hash trial (assertion.AuthValue ∷ earlier) one among asserts = inl refl
 demanded hash trial (assertion.Password ∷ earlier) one among asserts = inr refl
-demanded hash trial (latest ∷ earlier) one (inl is) asserts = absurd (subst (λ (a : Assertion). Says a PolicyAuthValue) is asserts)
-demanded hash trial (latest ∷ earlier) one (inr among) asserts = demanded hash trial earlier one among asserts
+demanded hash trial (latest ∷ earlier) one (inl is) asserts =
+    absurd (subst (λ (a : Assertion). Says a PolicyAuthValue) is asserts)
+demanded hash trial (latest ∷ earlier) one (inr among) asserts =
+    demanded hash trial earlier one among asserts
 
 either_asserts : (one : Assertion) → Says one PolicyPassword → Says one PolicyAuthValue
 either_asserts assertion.AuthValue asserts = tt
@@ -60,5 +71,7 @@ either_asserts assertion.Password asserts = tt
 either_asserts _ asserts = absurd asserts
 
 pub demands_value : DemandsValue
-demands_value hash trial assertions (inl (one, among, asserts)) = demanded hash trial assertions one among asserts
-demands_value hash trial assertions (inr (one, among, asserts)) = demanded hash trial assertions one among (either_asserts one asserts)
+demands_value hash trial assertions (inl (one, among, asserts)) =
+    demanded hash trial assertions one among asserts
+demands_value hash trial assertions (inr (one, among, asserts)) =
+    demanded hash trial assertions one among (either_asserts one asserts)

@@ -4,7 +4,7 @@ use Rattle.std.specs.Prelude.{◌≡◌, ◌⊎◌, ◌<◌, ◌^◌, ℕ, Bool,
 use Rattle.tpm_mac.specs.Digest.{digest_size}
 use Rattle.tpm_mac.specs.declared.algorithm.HashAlg.{HashAlg}
 use Rattle.tpm_policy.specs.Assertion as assertion
-use Rattle.tpm_policy.specs.Assertion.{Assertion, asserted, yes_no_text}
+use Rattle.tpm_policy.specs.Assertion.{Assertion, asserted_policy, yes_no_text}
 use Rattle.tpm_policy.specs.Made.{policy_with}
 use Rattle.tpm_policy.specs.State.{Policy, starting}
 use Rattle.tpm_policy.specs.declared.state.Demand.TheVariants as demand
@@ -26,14 +26,14 @@ IsAmong x [] = ⊥
 IsAmong x (y ∷ ys) = (x ≡ y) ⊎ IsAmong x ys
 
 -- the policy of a session after these assertions (latest first)
-abbrev pub evaluated : HashAlg → (trial : Bool) → List Assertion → Policy
-evaluated hash trial [] = starting hash
-evaluated hash trial (latest ∷ earlier) =
-    policy_with hash trial latest (evaluated hash trial earlier)
+abbrev pub evaluated_policy : HashAlg → (trial : Bool) → List Assertion → Policy
+evaluated_policy hash trial [] = starting hash
+evaluated_policy hash trial (latest ∷ earlier) =
+    policy_with hash trial latest (evaluated_policy hash trial earlier)
 
 -- the digest of a policy session after these assertions (latest first)
 abbrev pub session_digest : HashAlg → List Assertion → List ℕ
-session_digest hash assertions = (evaluated hash false assertions).digest
+session_digest hash assertions = (evaluated_policy hash false assertions).digest
 
 -- ---- assertions of a session and of a policy expression
 
@@ -140,7 +140,7 @@ SessionHashesTexts =
 abbrev pub AcceptedFindDigest : Type 0
 AcceptedFindDigest =
     (hash : HashAlg) (latest : Assertion) (earlier : List Assertion) (made : Policy)
-    → asserted hash false latest (evaluated hash false earlier) ≡ Ok made
+    → asserted_policy hash false latest (evaluated_policy hash false earlier) ≡ Ok made
     → FindsDigest hash latest earlier
 
 -- If TPM2_PolicyAuthValue or TPM2_PolicyPassword was asserted, the session requires the
@@ -149,5 +149,5 @@ abbrev pub DemandsValue : Type 0
 DemandsValue =
     (hash : HashAlg) (trial : Bool) (assertions : List Assertion)
     → IsAsserted assertions PolicyAuthValue ⊎ IsAsserted assertions PolicyPassword
-    → ((evaluated hash trial assertions).demand ≡ demand.AuthValue)
-    ⊎ ((evaluated hash trial assertions).demand ≡ demand.Password)
+    → ((evaluated_policy hash trial assertions).demand ≡ demand.AuthValue)
+    ⊎ ((evaluated_policy hash trial assertions).demand ≡ demand.Password)

@@ -4,7 +4,7 @@ use Rattle.tpm_mac.specs.declared.algorithm.HashAlg.{HashAlg}
 use Rattle.tpm_policy.specs.Assertion as assertion
 use Rattle.tpm_policy.specs.Assertion.{Assertion}
 use Rattle.tpm_types.specs.PcrSelection.{selection_text}
-use Rattle.tpm_policy_meaning.specs.Asserted.{evaluated}
+use Rattle.tpm_policy_meaning.specs.Asserted.{evaluated_policy}
 use Rattle.tpm_policy_meaning.specs.Expression.{PolicyAssertion, PolicyPcr, PolicyAuthValue}
 use Rattle.tpm_policy_meaning.specs.Expression.{PolicyPassword, PolicyCommandCode, PolicyLocality}
 use Rattle.tpm_policy_meaning.specs.Expression.{PolicyCpHash, PolicyNvWritten, PolicySecret}
@@ -59,4 +59,5 @@ abbrev pub TrialComputes : Type 0
 TrialComputes =
     (hash : HashAlg) (pcrs_now : List ℕ) (policy : PolicyExpression)
     → IsPolicyExpression hash policy
-    → (evaluated hash true (assertions_of hash pcrs_now policy)).digest ≡ policy_digest hash policy
+    → (evaluated_policy hash true (assertions_of hash pcrs_now policy)).digest
+    ≡ policy_digest hash policy

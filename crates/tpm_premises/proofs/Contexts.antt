@@ -39,14 +39,21 @@ has_saved_object = record {
   is_record = tried_is_record;
   valid = still_valid;
   is_making = record {
-    binding = record { start = omega arith; reset_count = omega arith; restart_count = omega arith };
+    binding = record {
+      start = omega arith;
+      reset_count = omega arith;
+      restart_count =
+          omega arith;
+    };
     sequence = omega arith;
     object = is_placed.happens;
   };
-  opens = loads_what_was_saved with_object without_object first_layer later_layer 1 saved_object (omega arith) is_placed.happens still_valid;
+  opens = loads_what_was_saved with_object without_object first_layer later_layer 1 saved_object
+      (omega arith) is_placed.happens still_valid;
   gone = refl;
   free = refl;
-  full_is_record = four_are_record (four_more without_object) (four_are_record without_object tried_is_record);
+  full_is_record = four_are_record (four_more without_object)
+      (four_are_record without_object tried_is_record);
   full_valid = record { proof = refl; start = refl; reset_count = refl; restart_count = refl };
   none_free = refl;
 }

@@ -25,8 +25,10 @@ and_true false b e = absurd (false≢true e)
 
 are_bytes : (bytes : List ℕ) → list_all (λ byte. nat_lt byte 256) bytes ≡ true → AreBytes bytes
 are_bytes [] e i = omega arith
-are_bytes (byte ∷ bytes) e zero = ltb-true byte 256 (and_true (nat_lt byte 256) (list_all (λ b. nat_lt b 256) bytes) e).0
-are_bytes (byte ∷ bytes) e (suc i) = are_bytes bytes (and_true (nat_lt byte 256) (list_all (λ b. nat_lt b 256) bytes) e).1 i
+are_bytes (byte ∷ bytes) e zero =
+    ltb-true byte 256 (and_true (nat_lt byte 256) (list_all (λ b. nat_lt b 256) bytes) e).0
+are_bytes (byte ∷ bytes) e (suc i) =
+    are_bytes bytes (and_true (nat_lt byte 256) (list_all (λ b. nat_lt b 256) bytes) e).1 i
 
 zero_bytes : (count : ℕ) → AreBytes (replicate count 0)
 zero_bytes zero i = omega arith
@@ -62,7 +64,8 @@ executes = failed_run_is.leads.1
 passes : Passes false (new_completion 0) (tried_device 0 0 0) (wrong_after 0) effect
 passes = record {
   executes = executes;
-  history = λ history follows. execution_follows false (tried_device 0 0 0) (wrong_after 0) refusal_step history executes follows;
+  history = λ history follows. execution_follows false (tried_device 0 0 0) (wrong_after 0)
+      refusal_step history executes follows;
   layer = refl;
   drawn = refl;
 }

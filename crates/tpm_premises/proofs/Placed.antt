@@ -9,7 +9,12 @@ pub is_placed : IsPlaced
 unfolding trimmed object_at at_number
 is_placed = record {
   happens = record {
-    public = record { attributes = record { fits = omega arith; named = refl }; auth_policy = omega arith; unique = omega arith };
+    public = record {
+      attributes = record { fits = omega arith; named = refl };
+      auth_policy =
+          omega arith;
+      unique = omega arith;
+    };
     auth_value = (omega arith, refl);
     seed_value = omega arith;
     sensitive = omega arith;

@@ -27,7 +27,8 @@ lives = refl
 abbrev rolled_on : LiveSession
 rolled_on = record session { earlier_nonces = replicate 16 0 ∷ [] }
 
-lives_again : sessions_of (Done random_command ∷ Done start_command ∷ []) entry.session ≡ Some rolled_on
+lives_again : sessions_of (Done random_command ∷ Done start_command ∷ []) entry.session
+    ≡ Some rolled_on
 unfolding started_session start_key parameters_in buffer_at session_type_at symmetric_at hash_at
 lives_again = refl
 

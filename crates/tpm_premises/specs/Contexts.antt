@@ -6,12 +6,12 @@ use Rattle.tpm_record.specs.IsRecord.{IsRecord}
 use Rattle.tpm_record.specs.Objects.{next_handle, object_at}
 use Rattle.tpm_record.specs.Record.{Record}
 use Rattle.tpm_step.specs.history.FailedRun.{tried_device}
-use Rattle.tpm_step.specs.step.Placing.{placed}
+use Rattle.tpm_step.specs.step.Placing.{record_with_object}
 use Rattle.tpm_context.specs.Meaning.{IsMaking, Making, context_of}
 use Rattle.tpm_completion.specs.Completion.{new_completion}
 use Rattle.tpm_completion.specs.Loaded.{StaysValid}
 use Rattle.tpm_completion.specs.Loading.{object_opened}
-use Rattle.tpm_completion.specs.Saving.{binding_of, counted, next_number}
+use Rattle.tpm_completion.specs.Saving.{binding_of, layer_with_count, next_number}
 use Rattle.tpm_completion.specs.declared.completion.Completion.{Completion}
 use Rattle.tpm_premises.specs.Placed.{first_transient, saved_object}
 
@@ -21,7 +21,7 @@ without_object = tried_device 1 0 0
 
 -- a device with one more copy of `saved_object`
 abbrev pub one_more : Record → Record
-one_more r = placed r saved_object
+one_more r = record_with_object r saved_object
 
 -- a started device with `saved_object`
 abbrev pub with_object : Record
@@ -40,7 +40,7 @@ first_layer = new_completion 1
 
 -- `first_layer` after it has made its first context
 abbrev pub later_layer : Completion
-later_layer = counted first_layer 1
+later_layer = layer_with_count first_layer 1
 
 -- the values from which the context of `saved_object` is made
 abbrev pub saved_making : Making

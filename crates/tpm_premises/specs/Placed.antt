@@ -2,7 +2,7 @@
 use Rattle.std.specs.Prelude.{◌≡◌, [], ◌∷◌, Some}
 use Rattle.tpm_mac.specs.declared.algorithm.HashAlg.TheVariants as alg
 use Rattle.tpm_object.specs.declared.object.Object.{Object}
-use Rattle.tpm_types.specs.Handle.{numbered}
+use Rattle.tpm_types.specs.Handle.{numbered_handle}
 use Rattle.tpm_types.specs.declared.handle.Handle.{Handle}
 use Rattle.tpm_types.specs.declared.handle.HierarchyHandle.TheVariants as hierarchy
 use Rattle.tpm_types_object.specs.declared.public.KeyedHashScheme.TheVariants as scheme
@@ -12,8 +12,8 @@ use Rattle.tpm_record.specs.Record.{manufactured}
 use Rattle.tpm_step.specs.history.AuthValues.{auth_of}
 use Rattle.tpm_step.specs.step.Events.{IsEvent, Placed}
 use Rattle.tpm_step.specs.history.FailedRun.{zeros}
-use Rattle.tpm_step.specs.history.History.{ObjectPlaced, recorded}
-use Rattle.tpm_step.specs.step.Placing.{placed}
+use Rattle.tpm_step.specs.history.History.{ObjectPlaced, extended_history}
+use Rattle.tpm_step.specs.step.Placing.{record_with_object}
 
 -- sealed data with the authorization value "a"; its only attributes are fixedTPM and fixedParent
 abbrev pub saved_object : Object
@@ -34,15 +34,15 @@ saved_object = record {
 
 -- the first transient handle
 abbrev pub first_transient : Handle
-first_transient = numbered 0x80000000
+first_transient = numbered_handle 0x80000000
 
 -- `saved_object` can be placed on a new device, where it gets the first transient handle. The
 -- history then records the object, and determines its authorization value, "a".
 pub record IsPlaced : Type 0 where
   pub happens : IsEvent (Placed saved_object)
-  pub found : object_at (placed (manufactured zeros) saved_object).objects first_transient
-      ≡ Some saved_object
-  pub past : recorded (manufactured zeros) (Placed saved_object) 0 []
+  pub found : object_at (record_with_object (manufactured zeros) saved_object).objects
+      first_transient ≡ Some saved_object
+  pub past : extended_history (manufactured zeros) (Placed saved_object) 0 []
       ≡ ObjectPlaced first_transient saved_object ∷ []
   pub auth_value : auth_of (ObjectPlaced first_transient saved_object ∷ []) first_transient
       ≡ 0x61 ∷ []

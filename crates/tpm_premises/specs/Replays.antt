@@ -2,7 +2,7 @@
 use Rattle.std.specs.Prelude.{List, ℕ, [], ◌∷◌, ◌++◌, Some, None, replicate}
 use Rattle.tpm_mac.specs.declared.algorithm.HashAlg.TheVariants as alg
 use Rattle.tpm_commands.specs.declared.command_code.CommandCode.TheVariants as command
-use Rattle.tpm_types.specs.Handle.{null_handle, numbered}
+use Rattle.tpm_types.specs.Handle.{null_handle, numbered_handle}
 use Rattle.tpm_types.specs.declared.session_type.SessionType.TheVariants as type
 use Rattle.tpm_types.specs.declared.symmetric.SymmetricDefinition.TheVariants as symmetric
 use Rattle.tpm_types_command.specs.AuthEntry.{Entry}
@@ -37,7 +37,7 @@ start_command = record {
     parameters = start_parameters;
     random = zeros;
   };
-  answer = record { handle = Some (numbered 0x02000000); body = Plain []; drawn = 16 };
+  answer = record { handle = Some (numbered_handle 0x02000000); body = Plain []; drawn = 16 };
   views = OfHandle null_handle ∷ OfHandle null_handle ∷ [];
   sensitive = None;
 }
@@ -58,7 +58,7 @@ session = record {
 -- an entry that names the session, with continueSession and an HMAC of four bytes
 abbrev pub entry : Entry
 entry = record {
-  session = numbered 0x02000000;
+  session = numbered_handle 0x02000000;
   nonce = [];
   attributes = record { octet = 1 };
   hmac = 1 ∷ 2 ∷ 3 ∷ 4 ∷ [];

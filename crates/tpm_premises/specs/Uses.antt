@@ -2,7 +2,7 @@
 use Rattle.std.specs.Prelude.{[], ◌∷◌, None, replicate}
 use Rattle.tpm_mac.specs.declared.algorithm.HashAlg.TheVariants as alg
 use Rattle.tpm_commands.specs.declared.command_code.CommandCode.TheVariants as command
-use Rattle.tpm_types.specs.Handle.{numbered}
+use Rattle.tpm_types.specs.Handle.{numbered_handle}
 use Rattle.tpm_types_object.specs.declared.public.KeyedHashScheme.TheVariants as scheme
 use Rattle.tpm_types_object.specs.declared.public.Public.{Public}
 use Rattle.tpm_types_object.specs.declared.public.PublicParameters.TheVariants as parameters_of
@@ -29,13 +29,13 @@ abbrev pub unseal_command : AcceptedCommand
 unseal_command = record {
   command = record {
     code = command.Unseal;
-    handles = numbered 0x80000000 ∷ [];
+    handles = numbered_handle 0x80000000 ∷ [];
     entries = [];
     parameters = [];
   };
   grants = [];
   request = record {
-    handles = numbered 0x80000000 ∷ [];
+    handles = numbered_handle 0x80000000 ∷ [];
     locality = 0;
     parameters = [];
     random = replicate 256 0;

@@ -6,7 +6,7 @@ use Rattle.std.specs.Prelude.{◌≡◌, ℕ, ◌≤◌, Bool, true, false, [], 
 use Rattle.tpm_containers.specs.SortedMap.{AreEach, Ascends, Entries, at_key, key_from, with_key, without_key}
 use Rattle.tpm_object.specs.Object.{IsObject}
 use Rattle.tpm_object.specs.declared.object.Object.{Object}
-use Rattle.tpm_types.specs.Handle.{is_persistent, numbered}
+use Rattle.tpm_types.specs.Handle.{is_persistent, numbered_handle}
 use Rattle.tpm_types.specs.declared.handle.Handle.{Handle}
 use Rattle.tpm_types.specs.declared.handle.HierarchyHandle.{HierarchyHandle}
 use Rattle.tpm_types.specs.declared.handle.HierarchyHandle.TheVariants as hierarchy
@@ -41,7 +41,7 @@ can_persist hierarchy.Null = false
 -- The invariant of a persistent object: its handle is persistent, objects in its hierarchy can be
 -- made persistent, and the object satisfies `IsObject`.
 pub record IsPersistent (number : ℕ) (object : Object) : Type 0 where
-  pub named : is_persistent (numbered number) ≡ true
+  pub named : is_persistent (numbered_handle number) ≡ true
   pub owned : can_persist object.hierarchy ≡ true
   pub sized : IsObject object
 

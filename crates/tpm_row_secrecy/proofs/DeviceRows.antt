@@ -21,8 +21,8 @@ use Rattle.tpm_actions_device.specs.declared.startup.Start.{Start}
 use Rattle.tpm_actions_device.specs.declared.startup.Start.TheVariants.{Reset, Restart, Resume}
 use Rattle.tpm_bytes.specs.Reading.{refused_if}
 use Rattle.tpm_lockout.specs.Lockout.{LockoutState}
-use Rattle.tpm_nv.specs.Clear.{cleared}
-use Rattle.tpm_nv.specs.Startup.{started}
+use Rattle.tpm_nv.specs.Clear.{contents_after_clear}
+use Rattle.tpm_nv.specs.Startup.{contents_after_startup}
 use Rattle.tpm_object.specs.declared.object.Object.{Object}
 use Rattle.tpm_pcr.specs.Changes.{clear_counted}
 use Rattle.tpm_pcr.specs.Values.{BankValues}
@@ -71,7 +71,9 @@ module _ (s : Secrecy) (r : Record) (q : Request) where
 
   -- ---- changes of the fixed part, except hierarchies
 
-  banks_end : (answer : AnswerParts) (banks : BankValues) → Same s (Ok (record { answer = answer; after = with_banks (without_secrets s r) banks })) (Ok (record { answer = answer; after = with_banks r banks }))
+  banks_end : (answer : AnswerParts) (banks : BankValues)
+      → Same s (Ok (record { answer = answer; after = with_banks (without_secrets s r) banks }))
+      (Ok (record { answer = answer; after = with_banks r banks }))
   banks_end answer banks = same_change s r answer (λ t. with_banks t banks) (λ t. refl)
 
   pub pcr_extend_tells : Same s (pcr_extend_row (without_secrets s r) q) (pcr_extend_row r q)
@@ -86,71 +88,137 @@ module _ (s : Secrecy) (r : Record) (q : Request) where
   unfolding pcr_reset_row
   pcr_reset_tells = search (same_steps, banks_end) depth 12
 
-  saved_end : (answer : AnswerParts) (saved : SavedState) → Same s (Ok (record { answer = answer; after = with_saved (without_secrets s r) saved })) (Ok (record { answer = answer; after = with_saved r saved }))
+  saved_end : (answer : AnswerParts) (saved : SavedState)
+      → Same s (Ok (record { answer = answer; after = with_saved (without_secrets s r) saved }))
+      (Ok (record { answer = answer; after = with_saved r saved }))
   saved_end answer saved = same_change s r answer (λ t. with_saved t saved) (λ t. refl)
 
   pub shutdown_tells : Same s (shutdown_row (without_secrets s r) q) (shutdown_row r q)
   unfolding shutdown_row
   shutdown_tells = search (same_steps, saved_end) depth 12
 
-  lockout_end : (answer : AnswerParts) (lockout : LockoutState) → Same s (Ok (record { answer = answer; after = with_lockout (without_secrets s r) lockout })) (Ok (record { answer = answer; after = with_lockout r lockout }))
+  lockout_end : (answer : AnswerParts) (lockout : LockoutState)
+      → Same s (Ok (record { answer = answer; after = with_lockout (without_secrets s r) lockout }))
+      (Ok (record { answer = answer; after = with_lockout r lockout }))
   lockout_end answer lockout = same_change s r answer (λ t. with_lockout t lockout) (λ t. refl)
 
-  pub dictionary_attack_lock_reset_tells : Same s (dictionary_attack_lock_reset_row (without_secrets s r) q) (dictionary_attack_lock_reset_row r q)
+  pub dictionary_attack_lock_reset_tells : Same s
+      (dictionary_attack_lock_reset_row (without_secrets s r) q)
+      (dictionary_attack_lock_reset_row r q)
   unfolding dictionary_attack_lock_reset_row
   dictionary_attack_lock_reset_tells = search (same_steps, lockout_end) depth 12
 
-  pub dictionary_attack_parameters_tells : Same s (dictionary_attack_parameters_row (without_secrets s r) q) (dictionary_attack_parameters_row r q)
+  pub dictionary_attack_parameters_tells : Same s
+      (dictionary_attack_parameters_row (without_secrets s r) q)
+      (dictionary_attack_parameters_row r q)
   unfolding dictionary_attack_parameters_row
   dictionary_attack_parameters_tells = search (same_steps, lockout_end) depth 12
 
-  clearing_end : (answer : AnswerParts) (disables : Bool) → Same s (Ok (record { answer = answer; after = with_disable_clear (without_secrets s r) disables })) (Ok (record { answer = answer; after = with_disable_clear r disables }))
-  clearing_end answer disables = same_change s r answer (λ t. with_disable_clear t disables) (λ t. refl)
+  clearing_end : (answer : AnswerParts) (disables : Bool)
+      → Same s
+      (Ok (record { answer = answer; after = with_disable_clear (without_secrets s r) disables }))
+      (Ok (record { answer = answer; after = with_disable_clear r disables }))
+  clearing_end answer disables =
+      same_change s r answer (λ t. with_disable_clear t disables) (λ t. refl)
 
-  pub clear_control_tells : Same s (clear_control_row (without_secrets s r) q) (clear_control_row r q)
+  pub clear_control_tells : Same s (clear_control_row (without_secrets s r) q)
+      (clear_control_row r q)
   unfolding clear_control_row
   clear_control_tells = search (same_steps, clearing_end) depth 12
 
   -- ---- hierarchies
 
-  auth_set : (h : Hierarchies) (a : HierarchyAuth) (value : List ℕ) → bare_hierarchies s (with_hierarchy_auth (bare_hierarchies s h) a value) ≡ bare_hierarchies s (with_hierarchy_auth h a value)
+  auth_set : (h : Hierarchies) (a : HierarchyAuth) (value : List ℕ)
+      → bare_hierarchies s (with_hierarchy_auth (bare_hierarchies s h) a value)
+      ≡ bare_hierarchies s (with_hierarchy_auth h a value)
   unfolding with_hierarchy_auth
-  auth_set h auth.Owner value = rw (unless_again _ h.endorsement.auth_value, unless_again _ h.platform.auth_value, unless_again _ h.lockout_auth) refl
-  auth_set h auth.Lockout value = rw (unless_again _ h.owner.auth_value, unless_again _ h.endorsement.auth_value, unless_again _ h.platform.auth_value) refl
-  auth_set h auth.Endorsement value = rw (unless_again _ h.owner.auth_value, unless_again _ h.platform.auth_value, unless_again _ h.lockout_auth) refl
-  auth_set h auth.Platform value = rw (unless_again _ h.owner.auth_value, unless_again _ h.endorsement.auth_value, unless_again _ h.lockout_auth) refl
+  auth_set h auth.Owner value =
+      rw (
+        unless_again _ h.endorsement.auth_value,
+        unless_again _ h.platform.auth_value,
+        unless_again _ h.lockout_auth,
+      ) refl
+  auth_set h auth.Lockout value =
+      rw (
+        unless_again _ h.owner.auth_value,
+        unless_again _ h.endorsement.auth_value,
+        unless_again _ h.platform.auth_value,
+      ) refl
+  auth_set h auth.Endorsement value =
+      rw (
+        unless_again _ h.owner.auth_value,
+        unless_again _ h.platform.auth_value,
+        unless_again _ h.lockout_auth,
+      ) refl
+  auth_set h auth.Platform value =
+      rw (
+        unless_again _ h.owner.auth_value,
+        unless_again _ h.endorsement.auth_value,
+        unless_again _ h.lockout_auth,
+      ) refl
 
-  named_auth_set : (h : Hierarchies) (a : Option HierarchyAuth) (value : List ℕ) → bare_hierarchies s (option_map_or (λ x. with_hierarchy_auth (bare_hierarchies s h) x value) a (bare_hierarchies s h)) ≡ bare_hierarchies s (option_map_or (λ x. with_hierarchy_auth h x value) a h)
+  named_auth_set : (h : Hierarchies) (a : Option HierarchyAuth) (value : List ℕ)
+      → bare_hierarchies s
+      (option_map_or (λ x. with_hierarchy_auth (bare_hierarchies s h) x value) a
+      (bare_hierarchies s h)) ≡ bare_hierarchies s
+      (option_map_or (λ x. with_hierarchy_auth h x value) a h)
   named_auth_set h None value = hierarchies_again s h
   named_auth_set h (Some a) value = auth_set h a value
 
-  pub hierarchy_change_auth_tells : Same s (hierarchy_change_auth_row (without_secrets s r) q) (hierarchy_change_auth_row r q)
+  pub hierarchy_change_auth_tells : Same s (hierarchy_change_auth_row (without_secrets s r) q)
+      (hierarchy_change_auth_row r q)
   unfolding hierarchy_change_auth_row
   hierarchy_change_auth_tells =
       same_step s (first_handle q.handles) _ _ (λ handle.
       same_step s (only (auth_value_at q.parameters)) _ _ (λ value.
-      same_end s nothing _ _ (with_fixed s r _ _ (ap (λ (h : Hierarchies). record r.fixed { hierarchies = h }) (named_auth_set r.fixed.hierarchies (hierarchy_auth_of handle) value)))))
+      same_end s nothing _ _
+      (with_fixed s r _ _
+      (ap (λ (h : Hierarchies). record r.fixed { hierarchies = h })
+      (named_auth_set r.fixed.hierarchies (hierarchy_auth_of handle) value)))))
 
   -- ---- TPM2_Startup
 
-  reset_same : bare_fixed s (reset_fixed (bare_fixed s r.fixed) q.random) ≡ bare_fixed s (reset_fixed r.fixed q.random)
+  reset_same : bare_fixed s (reset_fixed (bare_fixed s r.fixed) q.random)
+      ≡ bare_fixed s (reset_fixed r.fixed q.random)
   unfolding with_hierarchy_auth
-  reset_same = ap (λ (h : Hierarchies). record (reset_fixed r.fixed q.random) { hierarchies = record h { null = record { seed = take 32 q.random; proof = take 32 (drop 32 q.random) } } }) (auth_set r.fixed.hierarchies auth.Platform [])
+  reset_same =
+      ap (λ (h : Hierarchies). record (reset_fixed r.fixed q.random) {
+        hierarchies =
+            record h {
+              null = record { seed = take 32 q.random; proof = take 32 (drop 32 q.random) };
+            };
+      }) (auth_set r.fixed.hierarchies auth.Platform [])
 
-  restart_same : bare_fixed s (restart_fixed (bare_fixed s r.fixed)) ≡ bare_fixed s (restart_fixed r.fixed)
+  restart_same : bare_fixed s (restart_fixed (bare_fixed s r.fixed))
+      ≡ bare_fixed s (restart_fixed r.fixed)
   unfolding with_hierarchy_auth
-  restart_same = ap (λ (h : Hierarchies). record (restart_fixed r.fixed) { hierarchies = h }) (auth_set r.fixed.hierarchies auth.Platform [])
+  restart_same = ap (λ (h : Hierarchies). record (restart_fixed r.fixed) { hierarchies = h })
+      (auth_set r.fixed.hierarchies auth.Platform [])
 
-  resume_same : bare_fixed s (resume_fixed (bare_fixed s r.fixed)) ≡ bare_fixed s (resume_fixed r.fixed)
-  resume_same = ap (λ (h : Hierarchies). record (resume_fixed r.fixed) { hierarchies = h }) (hierarchies_again s r.fixed.hierarchies)
+  resume_same : bare_fixed s (resume_fixed (bare_fixed s r.fixed))
+      ≡ bare_fixed s (resume_fixed r.fixed)
+  resume_same = ap (λ (h : Hierarchies). record (resume_fixed r.fixed) { hierarchies = h })
+      (hierarchies_again s r.fixed.hierarchies)
 
-  with_start : (f g : Fixed) → bare_fixed s f ≡ bare_fixed s g → without_secrets s (record (without_secrets s r) { fixed = f; nv = started (bare_nv s r.nv) }) ≡ without_secrets s (record r { fixed = g; nv = started r.nv })
-  with_start f g same = same_parts s (record (without_secrets s r) { fixed = f; nv = started (bare_nv s r.nv) }) (record r { fixed = g; nv = started r.nv }) same (sessions_again s r.sessions) (objects_again s r.objects) (persistent_again s r.persistent) (started_same s r.nv)
+  with_start : (f g : Fixed) → bare_fixed s f ≡ bare_fixed s g
+      → without_secrets s
+      (record (without_secrets s r) { fixed = f; nv = contents_after_startup (bare_nv s r.nv) })
+      ≡ without_secrets s (record r { fixed = g; nv = contents_after_startup r.nv })
+  with_start f g same =
+      same_parts s
+      (record (without_secrets s r) { fixed = f; nv = contents_after_startup (bare_nv s r.nv) })
+      (record r { fixed = g; nv = contents_after_startup r.nv }) same (sessions_again s r.sessions)
+      (objects_again s r.objects) (persistent_again s r.persistent) (started_same s r.nv)
 
-  start_same : (start : Start) → without_secrets s (started_record start (without_secrets s r) q.random) ≡ without_secrets s (started_record start r q.random)
-  start_same Reset = with_start (reset_fixed (bare_fixed s r.fixed) q.random) (reset_fixed r.fixed q.random) reset_same
-  start_same Restart = with_start (restart_fixed (bare_fixed s r.fixed)) (restart_fixed r.fixed) restart_same
-  start_same Resume = with_fixed s r (resume_fixed (bare_fixed s r.fixed)) (resume_fixed r.fixed) resume_same
+  start_same : (start : Start)
+      → without_secrets s (started_record start (without_secrets s r) q.random)
+      ≡ without_secrets s (started_record start r q.random)
+  start_same Reset = with_start (reset_fixed (bare_fixed s r.fixed) q.random)
+      (reset_fixed r.fixed q.random) reset_same
+  start_same Restart = with_start (restart_fixed (bare_fixed s r.fixed)) (restart_fixed r.fixed)
+      restart_same
+  start_same Resume = with_fixed s r (resume_fixed (bare_fixed s r.fixed)) (resume_fixed r.fixed)
+      resume_same
 
   pub startup_tells : Same s (startup_row (without_secrets s r) q) (startup_row r q)
   unfolding startup_row
@@ -161,26 +229,58 @@ module _ (s : Secrecy) (r : Record) (q : Request) where
 
   -- ---- TPM2_Clear
 
-  cleared_fixed_same : (banks : BankValues) → bare_fixed s (cleared_fixed banks q.random (bare_fixed s r.fixed)) ≡ bare_fixed s (cleared_fixed banks q.random r.fixed)
+  cleared_fixed_same : (banks : BankValues)
+      → bare_fixed s (cleared_fixed banks q.random (bare_fixed s r.fixed))
+      ≡ bare_fixed s (cleared_fixed banks q.random r.fixed)
   unfolding cleared_hierarchies
-  cleared_fixed_same banks = ap (λ (value : List ℕ). record (cleared_fixed banks q.random r.fixed) { hierarchies = record (bare_hierarchies s (cleared_hierarchies r.fixed.hierarchies q.random)) { platform = record r.fixed.hierarchies.platform { auth_value = value } } }) (unless_again _ r.fixed.hierarchies.platform.auth_value)
+  cleared_fixed_same banks =
+      ap (λ (value : List ℕ). record (cleared_fixed banks q.random r.fixed) {
+        hierarchies =
+            record (bare_hierarchies s
+            (cleared_hierarchies r.fixed.hierarchies q.random)) {
+              platform =
+                  record r.fixed.hierarchies.platform { auth_value = value };
+            };
+      })
+      (unless_again _ r.fixed.hierarchies.platform.auth_value)
 
-  cleared_place_same : (place : Option Object) → option_map (bare_object s) (cleared_place (option_map (bare_object s) place)) ≡ option_map (bare_object s) (cleared_place place)
+  cleared_place_same : (place : Option Object)
+      → option_map (bare_object s) (cleared_place (option_map (bare_object s) place))
+      ≡ option_map (bare_object s) (cleared_place place)
   cleared_place_same None = refl
   cleared_place_same (Some o) = by (is_cleared o.hierarchy)
     where
-      by : (b : Bool) → option_map (bare_object s) (cond b None (Some (bare_object s o))) ≡ option_map (bare_object s) (cond b None (Some o))
+      by : (b : Bool) → option_map (bare_object s) (cond b None (Some (bare_object s o)))
+          ≡ option_map (bare_object s) (cond b None (Some o))
       by true = refl
       by false = ap (λ (x : Object). Some x) (object_again s o)
 
-  cleared_objects_same : places (bare_object s) (cleared_objects (places (bare_object s) r.objects)) ≡ places (bare_object s) (cleared_objects r.objects)
+  cleared_objects_same : places (bare_object s) (cleared_objects (places (bare_object s) r.objects))
+      ≡ places (bare_object s) (cleared_objects r.objects)
   unfolding cleared_objects
-  cleared_objects_same = all_places_same (bare_object s) (object_again s) cleared_place cleared_place_same r.objects
+  cleared_objects_same = all_places_same (bare_object s) (object_again s) cleared_place
+      cleared_place_same r.objects
 
   pub clear_tells : Same s (clear_row (without_secrets s r) q) (clear_row r q)
   unfolding clear_row
   clear_tells =
       same_step s (all_read q.parameters) _ _ (λ ended.
-      same_step s (refused_if r.fixed.disable_clear (action_refusal action.First (plain code.Disabled))) _ _ (λ a1.
-      same_step s (or_refusal (λ fault. action_refusal action.Second (plain code.Failure)) (clear_counted r.fixed.banks)) _ _ (λ banks.
-      same_end s _ _ _ (same_parts s _ (record { fixed = cleared_fixed banks q.random r.fixed; sessions = r.sessions; objects = cleared_objects r.objects; persistent = cleared_persistent r.persistent; nv = cleared r.nv }) (cleared_fixed_same banks) (sessions_again s r.sessions) cleared_objects_same (kept_same (bare_object s) (object_again s) outlasts (λ o. refl) r.persistent) (cleared_same s r.nv)))))
+      same_step s
+      (refused_if r.fixed.disable_clear (action_refusal action.First (plain code.Disabled))) _ _
+      (λ a1.
+      same_step s (or_refusal (λ fault. action_refusal action.Second (plain code.Failure))
+      (clear_counted r.fixed.banks)) _ _ (λ banks.
+      same_end s _ _ _
+      (same_parts s _
+      (record {
+        fixed = cleared_fixed banks q.random r.fixed;
+        sessions = r.sessions;
+        objects =
+            cleared_objects r.objects;
+        persistent = cleared_persistent r.persistent;
+        nv =
+            contents_after_clear r.nv;
+      }) (cleared_fixed_same banks) (sessions_again s r.sessions)
+      cleared_objects_same
+      (kept_same (bare_object s) (object_again s) outlasts (λ o. refl) r.persistent)
+      (cleared_same s r.nv)))))

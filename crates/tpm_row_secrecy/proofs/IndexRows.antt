@@ -28,7 +28,7 @@ use Rattle.tpm_record.specs.declared.rows.target.Target.{Target}
 use Rattle.tpm_record.specs.rows.Answer.{Sized, answer_of, nothing}
 use Rattle.tpm_record.specs.rows.Refusals.{action_refusal, fault_refusal, handle_refusal, or_refusal, parameter_refusal}
 use Rattle.tpm_record.specs.rows.Request.{Request, first_handle, second_handle}
-use Rattle.tpm_record.specs.rows.Rows.{Success, all_read, only, unchanged}
+use Rattle.tpm_record.specs.rows.Rows.{Success, all_read, only, unchanged_success}
 use Rattle.tpm_record.specs.rows.Target.{reading_passes, target_of}
 use Rattle.tpm_types.specs.AuthValue.{auth_value_at}
 use Rattle.tpm_types.specs.Buffer.{buffer_at}
@@ -52,7 +52,8 @@ use Rattle.tpm_nvactions.specs.NvRead as reading
 use Rattle.tpm_nvactions.specs.NvWrite as writing
 
 module _ (s : Secrecy) (r : Record) (q : Request) where
-  pub nv_read_public_tells : Same s (nv_read_public_row (without_secrets s r) q) (nv_read_public_row r q)
+  pub nv_read_public_tells : Same s (nv_read_public_row (without_secrets s r) q)
+      (nv_read_public_row r q)
   unfolding nv_read_public_row
   nv_read_public_tells =
       same_step s (first_handle q.handles) _ _ (λ handle.
@@ -62,52 +63,83 @@ module _ (s : Secrecy) (r : Record) (q : Request) where
 
   -- ---- defining or removing an index
 
-  pub nv_define_space_tells : Same s (nv_define_space_row (without_secrets s r) q) (nv_define_space_row r q)
+  pub nv_define_space_tells : Same s (nv_define_space_row (without_secrets s r) q)
+      (nv_define_space_row r q)
   unfolding nv_define_space_row
   nv_define_space_tells =
       same_step s (first_handle q.handles) _ _ (λ auth_handle.
       same_step s (definition.parameters_in q.parameters) _ _ (λ p.
-      same_step s (or_refusal definition.definition_refusal (definition_passes (auth_handle.number == platform_handle.number) p.public (length p.auth_value))) _ _ (λ passed.
-      same_both s (refused_if (is_some (index_at (bare_nv s r.nv) p.public.nv_index)) (action_refusal action.Fifth (plain code.NvDefined))) (refused_if (is_some (index_at r.nv p.public.nv_index)) (action_refusal action.Fifth (plain code.NvDefined))) _ _ (ap (λ (b : Bool). refused_if b (action_refusal action.Fifth (plain code.NvDefined))) (is_there_bare s r.nv p.public.nv_index)) (λ a5.
-      same_both s (refused_if (not (has_room (bare_nv s r.nv) p.public.data_size)) (action_refusal action.Sixth (plain code.NvSpace))) (refused_if (not (has_room r.nv p.public.data_size)) (action_refusal action.Sixth (plain code.NvSpace))) _ _ (ap (λ (b : Bool). refused_if (not b) (action_refusal action.Sixth (plain code.NvSpace))) (room_bare s r.nv p.public.data_size)) (λ a6.
-      same_end s nothing _ _ (with_nv s r _ _ (with_index_same s r.nv p.public.nv_index (defined_index p.public p.auth_value))))))))
+      same_step s
+      (or_refusal definition.definition_refusal
+      (definition_passes (auth_handle.number == platform_handle.number) p.public
+      (length p.auth_value))) _ _ (λ passed.
+      same_both s (refused_if (is_some (index_at (bare_nv s r.nv) p.public.nv_index))
+      (action_refusal action.Fifth (plain code.NvDefined)))
+      (refused_if (is_some (index_at r.nv p.public.nv_index))
+      (action_refusal action.Fifth (plain code.NvDefined))) _ _
+      (ap (λ (b : Bool). refused_if b (action_refusal action.Fifth (plain code.NvDefined)))
+      (is_there_bare s r.nv p.public.nv_index)) (λ a5.
+      same_both s (refused_if (not (has_room (bare_nv s r.nv) p.public.data_size))
+      (action_refusal action.Sixth (plain code.NvSpace)))
+      (refused_if (not (has_room r.nv p.public.data_size))
+      (action_refusal action.Sixth (plain code.NvSpace))) _ _
+      (ap (λ (b : Bool). refused_if (not b) (action_refusal action.Sixth (plain code.NvSpace)))
+      (room_bare s r.nv p.public.data_size)) (λ a6.
+      same_end s nothing _ _
+      (with_nv s r _ _
+      (with_index_same s r.nv p.public.nv_index (defined_index p.public p.auth_value))))))))
 
-  pub nv_undefine_space_tells : Same s (nv_undefine_space_row (without_secrets s r) q) (nv_undefine_space_row r q)
+  pub nv_undefine_space_tells : Same s (nv_undefine_space_row (without_secrets s r) q)
+      (nv_undefine_space_row r q)
   unfolding nv_undefine_space_row
   nv_undefine_space_tells =
       same_target s r q _ _ (λ target.
       same_step s (all_read q.parameters) _ _ (λ ended.
-      same_step s (refused_if (is_kept_from target) (action_refusal action.First (plain code.NvAuthorization))) _ _ (λ a1.
+      same_step s
+      (refused_if (is_kept_from target)
+      (action_refusal action.First (plain code.NvAuthorization))) _ _ (λ a1.
       same_end s nothing _ _ (with_nv s r _ _ (without_index_same s r.nv target.handle)))))
 
   -- ---- changing an index
 
-  written_row : {P : Type 0} (read : Result P Refused) (change other : P → Handle → Result NvContents WriteFault) → ((p : P) (handle : Handle) → second_handle q.handles ≡ Ok handle → NvAlike s (change p handle) (other p handle)) → Same s (write_row (without_secrets s r) q read change) (write_row r q read other)
+  written_row : {P : Type 0} (read : Result P Refused)
+      (change other : P → Handle → Result NvContents WriteFault)
+      → ((p : P) (handle : Handle) → second_handle q.handles ≡ Ok handle
+      → NvAlike s (change p handle) (other p handle))
+      → Same s (write_row (without_secrets s r) q read change) (write_row r q read other)
   written_row read change other same =
       same_target_is s r q _ _ (λ target named.
       same_step s read _ _ (λ p.
       same_step s (writer_passes target) _ _ (λ a1.
-      same_changed s r writing_refusal (change p target.handle) (other p target.handle) (same p target.handle named))))
+      same_changed s r writing_refusal (change p target.handle) (other p target.handle)
+      (same p target.handle named))))
 
   pub nv_write_tells : Same s (nv_write_row (without_secrets s r) q) (nv_write_row r q)
   unfolding nv_write_row
-  nv_write_tells = written_row (writing.parameters_in q.parameters) _ _ (λ p handle named. written_alike s r.nv handle p.offset p.bytes)
+  nv_write_tells = written_row (writing.parameters_in q.parameters) _ _
+      (λ p handle named. written_alike s r.nv handle p.offset p.bytes)
 
   pub nv_set_bits_tells : Same s (nv_set_bits_row (without_secrets s r) q) (nv_set_bits_row r q)
   unfolding nv_set_bits_row
-  nv_set_bits_tells = written_row (only (or_fault (number_at w64 q.parameters) (plain code.Insufficient))) _ _ (λ bits handle named. bits_alike s r.nv handle bits)
+  nv_set_bits_tells =
+      written_row (only (or_fault (number_at w64 q.parameters) (plain code.Insufficient))) _ _
+      (λ bits handle named. bits_alike s r.nv handle bits)
 
   pub nv_extend_tells : Same s (nv_extend_row (without_secrets s r) q) (nv_extend_row r q)
   unfolding nv_extend_row
-  nv_extend_tells = written_row (only (buffer_at data_limit q.parameters)) _ _ (λ bytes handle named. extended_alike s r.nv handle bytes)
+  nv_extend_tells = written_row (only (buffer_at data_limit q.parameters)) _ _
+      (λ bytes handle named. extended_alike s r.nv handle bytes)
 
-  pub nv_increment_tells : reads_secret s r command.NvIncrement q ≡ false → Same s (nv_increment_row (without_secrets s r) q) (nv_increment_row r q)
+  pub nv_increment_tells : reads_secret s r command.NvIncrement q ≡ false
+      → Same s (nv_increment_row (without_secrets s r) q) (nv_increment_row r q)
   unfolding nv_increment_row
   nv_increment_tells free =
       written_row (all_read q.parameters) _ _ (λ ended handle named.
-      incremented_alike s r.nv handle (sym (ap (handle_passes (names_index (is_secret_counter s) r)) named) ∙ free))
+      incremented_alike s r.nv handle
+      (sym (ap (handle_passes (names_index (is_secret_counter s) r)) named) ∙ free))
 
-  pub nv_write_lock_tells : Same s (nv_write_lock_row (without_secrets s r) q) (nv_write_lock_row r q)
+  pub nv_write_lock_tells : Same s (nv_write_lock_row (without_secrets s r) q)
+      (nv_write_lock_row r q)
   unfolding nv_write_lock_row
   nv_write_lock_tells =
       same_target s r q _ _ (λ target.
@@ -123,13 +155,15 @@ module _ (s : Secrecy) (r : Record) (q : Request) where
       same_step s (reader_passes target) _ _ (λ a1.
       same_changed s r lock_refusal _ _ (read_locked_alike s r.nv target.handle))))
 
-  pub nv_change_auth_tells : Same s (nv_change_auth_row (without_secrets s r) q) (nv_change_auth_row r q)
+  pub nv_change_auth_tells : Same s (nv_change_auth_row (without_secrets s r) q)
+      (nv_change_auth_row r q)
   unfolding nv_change_auth_row
   nv_change_auth_tells =
       same_step s (first_handle q.handles) _ _ (λ handle.
       same_index s r handle _ _ (λ i is.
       same_step s (only (auth_value_at q.parameters)) _ _ (λ value.
-      same_step s (refused_if (nat_lt (digest_size i.public.name_alg) (length value)) (parameter_refusal action.First 1 code.Size)) _ _ (λ a1.
+      same_step s (refused_if (nat_lt (digest_size i.public.name_alg) (length value))
+      (parameter_refusal action.First 1 code.Size)) _ _ (λ a1.
       same_changed s r (λ absence. handle_refusal) _ _ (auth_alike s r.nv handle value)))))
 
   -- ---- reading an index
@@ -139,31 +173,51 @@ module _ (s : Secrecy) (r : Record) (q : Request) where
       reading.parameters_in q.parameters >>= λ p.
       or_refusal fault_refusal (reading_passes target) >>= λ readable.
       refused_if (nat_lt data_limit p.size) (parameter_refusal action.Fourth 1 code.Value) >>= λ a4.
-      or_fault (read_at t.nv target.handle p.offset p.size) (action_refusal action.Fifth (plain code.NvRange)) >>= λ bytes.
-      Ok (unchanged t (answer_of (Sized bytes)))
+      or_fault (read_at t.nv target.handle p.offset p.size)
+      (action_refusal action.Fifth (plain code.NvRange)) >>= λ bytes.
+      Ok (unchanged_success t (answer_of (Sized bytes)))
 
   pub nv_read_refused_alike : Alike success (nv_read_row (without_secrets s r) q) (nv_read_row r q)
   unfolding nv_read_row
   nv_read_refused_alike =
-      alike_both success (target_of (without_secrets s r) q) (target_of r q) (reads_target (without_secrets s r)) (reads_target r) (target_bare s r q) (λ target.
+      alike_both success (target_of (without_secrets s r) q) (target_of r q)
+      (reads_target (without_secrets s r)) (reads_target r) (target_bare s r q) (λ target.
       alike_step success (reading.parameters_in q.parameters) _ _ (λ p.
       alike_step success (or_refusal fault_refusal (reading_passes target)) _ _ (λ readable.
-      alike_step success (refused_if (nat_lt data_limit p.size) (parameter_refusal action.Fourth 1 code.Value)) _ _ (λ a4.
-      alike_after success success _ _ _ _ (alike_fault success (action_refusal action.Fifth (plain code.NvRange)) _ _ (read_refused_alike s r.nv target.handle p.offset p.size)) (λ one other same. alike_end success _ _ refl)))))
+      alike_step success
+      (refused_if (nat_lt data_limit p.size) (parameter_refusal action.Fourth 1 code.Value)) _ _
+      (λ a4.
+      alike_after success success _ _ _ _
+      (alike_fault success (action_refusal action.Fifth (plain code.NvRange)) _ _
+      (read_refused_alike s r.nv target.handle p.offset p.size))
+      (λ one other same. alike_end success _ _ refl)))))
 
-  nv_read_shown : handle_passes (names_index (is_secret_index s) r) (second_handle q.handles) ≡ false → Same s (nv_read_row (without_secrets s r) q) (nv_read_row r q)
+  nv_read_shown : handle_passes (names_index (is_secret_index s) r) (second_handle q.handles)
+      ≡ false → Same s (nv_read_row (without_secrets s r) q) (nv_read_row r q)
   unfolding nv_read_row
   nv_read_shown shown =
       same_target_is s r q (reads_target (without_secrets s r)) (reads_target r) (λ target named.
       same_step s (reading.parameters_in q.parameters) _ _ (λ p.
       same_step s (or_refusal fault_refusal (reading_passes target)) _ _ (λ readable.
-      same_step s (refused_if (nat_lt data_limit p.size) (parameter_refusal action.Fourth 1 code.Value)) _ _ (λ a4.
-      same_both s (or_fault (read_at (bare_nv s r.nv) target.handle p.offset p.size) (action_refusal action.Fifth (plain code.NvRange))) (or_fault (read_at r.nv target.handle p.offset p.size) (action_refusal action.Fifth (plain code.NvRange))) _ _
-      (ap (λ (x : Result (List ℕ) ReadFault). or_fault x (action_refusal action.Fifth (plain code.NvRange))) (read_shown s r.nv target.handle p.offset p.size (sym (ap (handle_passes (names_index (is_secret_index s) r)) named) ∙ shown))) (λ bytes.
+      same_step s
+      (refused_if (nat_lt data_limit p.size) (parameter_refusal action.Fourth 1 code.Value)) _ _
+      (λ a4.
+      same_both s (or_fault (read_at (bare_nv s r.nv) target.handle p.offset p.size)
+      (action_refusal action.Fifth (plain code.NvRange)))
+      (or_fault (read_at r.nv target.handle p.offset p.size)
+      (action_refusal action.Fifth (plain code.NvRange))) _ _
+      (ap (λ (x : Result (List ℕ) ReadFault). or_fault x
+      (action_refusal action.Fifth (plain code.NvRange)))
+      (read_shown s r.nv target.handle p.offset p.size
+      (sym (ap (handle_passes (names_index (is_secret_index s) r)) named) ∙ shown)))
+      (λ bytes.
       same_unchanged s r _)))))
 
-  pub nv_read_tells : reads_secret s r command.NvRead q ≡ false → Same s (nv_read_row (without_secrets s r) q) (nv_read_row r q)
+  pub nv_read_tells : reads_secret s r command.NvRead q ≡ false
+      → Same s (nv_read_row (without_secrets s r) q) (nv_read_row r q)
   nv_read_tells free =
-      either_free (handle_passes (names_index (is_secret_index s) r) (second_handle q.handles)) (is_ok (nv_read_row r q)) free
+      either_free (handle_passes (names_index (is_secret_index s) r) (second_handle q.handles))
+      (is_ok (nv_read_row r q)) free
       nv_read_shown
-      (refused_alike (bare_success s) (nv_read_row (without_secrets s r) q) (nv_read_row r q) nv_read_refused_alike)
+      (refused_alike (bare_success s) (nv_read_row (without_secrets s r) q) (nv_read_row r q)
+      nv_read_refused_alike)

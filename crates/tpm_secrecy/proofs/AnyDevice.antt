@@ -9,7 +9,7 @@ use Rattle.tpm_auth.proofs.Granting.{granting}
 use Rattle.tpm_auth.specs.Entries.{session_of}
 use Rattle.tpm_auth.specs.Grant.{authorize, authorized, grant, grant_by, password_grant, session_grant_if}
 use Rattle.tpm_auth.specs.Granting.{IsGranting}
-use Rattle.tpm_auth.specs.SessionGrant.{comparison, demand_by, demanded, session_grant, use_of}
+use Rattle.tpm_auth.specs.SessionGrant.{comparison, demand_by, demand_of_session, session_grant, use_of}
 use Rattle.tpm_auth.specs.declared.session_grant.Grant.{Grant}
 use Rattle.tpm_bytes.specs.Reading.{refused_if, ◌>>=◌}
 use Rattle.tpm_commands.specs.CommandCode.{authorized_handles, nv_use_at, shape_of}
@@ -19,7 +19,7 @@ use Rattle.tpm_policy.specs.Use.{UseParts, is_policy_of, use_passes}
 use Rattle.tpm_policy.specs.declared.state.Demand.{Demand}
 use Rattle.tpm_record.specs.Entity.{AnObject, entity_at, entity_is_available, entity_policy, is_available, policy_of}
 use Rattle.tpm_record.specs.Record.{Record}
-use Rattle.tpm_record.specs.Tick.{ticked}
+use Rattle.tpm_record.specs.Tick.{after_tick}
 use Rattle.tpm_record.specs.rows.Request.{Request, first_handle}
 use Rattle.tpm_session.specs.declared.session.Session.{Session}
 use Rattle.tpm_step.proofs.rows.Binding.{asked, ok_at, ok_bind_is, ok_checked, ok_then}
@@ -27,7 +27,7 @@ use Rattle.tpm_step.proofs.uses.UseGrounds.{Passes, hash_one, use_passed}
 use Rattle.tpm_step.proofs.rows.Acceptance.{accepted_is}
 use Rattle.tpm_step.specs.step.Events.{Cycled, Given, Placed, PlainEvent}
 use Rattle.tpm_step.specs.step.General.{general}
-use Rattle.tpm_step.specs.step.Step.{Accepted, accepted, request_in}
+use Rattle.tpm_step.specs.step.Step.{Accepted, acceptance_in, request_in}
 use Rattle.tpm_step.specs.rows.Handles.{HandlesFit}
 use Rattle.tpm_types.specs.Algorithm.{hash_number}
 use Rattle.tpm_types.specs.Handle.{session_kind}
@@ -69,19 +69,24 @@ always : {A E : Type 0} (P : Type 0) → P → (x : Result A E) → IfOk x (λ a
 always P holds (Ok a) = holds
 always P holds (Err e) = tt
 
-module _ (r : Record) (c : Whole) (locality : ℕ) (handle : Handle) (o : Object) (is : entity_at r handle ≡ AnObject o) (closed : has o.public.attributes attribute.UserWithAuth ≡ false) where
+module _ (r : Record) (c : Whole) (locality : ℕ) (handle : Handle) (o : Object)
+    (is : entity_at r handle ≡ AnObject o)
+    (closed : has o.public.attributes attribute.UserWithAuth ≡ false) where
   unavailable : is_available r handle means.AuthValue (nv_use_at c.code 0) ≡ false
   unfolding is_available
   unavailable = ap (entity_is_available means.AuthValue (nv_use_at c.code 0)) is ∙ closed
 
-  policy_is : policy_of r handle ≡ Some (record { hash = o.public.name_alg; digest = o.public.auth_policy })
+  policy_is : policy_of r handle
+      ≡ Some (record { hash = o.public.name_alg; digest = o.public.auth_policy })
   unfolding policy_of
   policy_is = ap entity_policy is
 
-  password_refused : (e : Entry) → IfOk (password_grant r c.code 1 (Some handle) e) (λ g. IsOfPolicy r o e)
+  password_refused : (e : Entry)
+      → IfOk (password_grant r c.code 1 (Some handle) e) (λ g. IsOfPolicy r o e)
   unfolding password_grant
   password_refused e =
-      ok_bind_is _ (refused_if (not (is_available r handle means.AuthValue (nv_use_at c.code 0))) (refusal check.Authorization (plain code.AuthUnavailable))) _ (λ u may.
+      ok_bind_is _ (refused_if (not (is_available r handle means.AuthValue (nv_use_at c.code 0)))
+      (refusal check.Authorization (plain code.AuthUnavailable))) _ (λ u may.
       absurd (false≢true (sym unavailable ∙ asked _ _ u may)))
 
   module _ (e : Entry) (s : Session) (there : session_of r e ≡ Some s) where
@@ -90,11 +95,13 @@ module _ (r : Record) (c : Whole) (locality : ℕ) (handle : Handle) (o : Object
 
     value_refused : IfOk (demand_by type.Hmac r c locality 1 handle s) (λ d. IsOfPolicy r o e)
     value_refused =
-        ok_bind_is _ (refused_if (not (is_available r handle means.AuthValue (nv_use_at c.code 0))) (refusal check.Authorization (plain code.AuthUnavailable))) _ (λ a may.
+        ok_bind_is _ (refused_if (not (is_available r handle means.AuthValue (nv_use_at c.code 0)))
+        (refusal check.Authorization (plain code.AuthUnavailable))) _ (λ a may.
         absurd (false≢true (sym unavailable ∙ asked _ _ a may)))
 
     policy_passes : IfOk (demand_by type.Policy r c locality 1 handle s) (Passes s.policy u)
-    policy_passes = ok_checked (Passes s.policy u) check.Authorization (use_passes s.policy u) (use_passed s.policy u)
+    policy_passes = ok_checked (Passes s.policy u) check.Authorization (use_passes s.policy u)
+        (use_passed s.policy u)
 
     no_trial : s.kind ≡ type.Trial → (d : Demand) → Passes s.policy u d → ⊥
     unfolding use_of
@@ -103,9 +110,11 @@ module _ (r : Record) (c : Whole) (locality : ℕ) (handle : Handle) (o : Object
     of_policy : s.kind ≡ type.Policy → (d : Demand) → Passes s.policy u d → IsOfPolicy r o e
     unfolding use_of
     of_policy is d passes =
-        let same : is_policy_of s.hash s.policy.digest (Some (record { hash = o.public.name_alg; digest = o.public.auth_policy })) ≡ true =
+        let same : is_policy_of s.hash s.policy.digest
+        (Some (record { hash = o.public.name_alg; digest = o.public.auth_policy })) ≡ true =
         sym (ap (is_policy_of s.hash s.policy.digest) policy_is) ∙ passes.digest in
-        let parts = and_parts (hash_number o.public.name_alg == hash_number s.hash) (bytes_eq s.policy.digest o.public.auth_policy) same in
+        let parts = and_parts (hash_number o.public.name_alg == hash_number s.hash)
+        (bytes_eq s.policy.digest o.public.auth_policy) same in
         record {
           session = s;
           there = there;
@@ -117,23 +126,30 @@ module _ (r : Record) (c : Whole) (locality : ℕ) (handle : Handle) (o : Object
     abbrev compares : Demand → Result (Option Grant) Refused
     compares d = comparison r c 1 (Some (record { handle = handle; demand = d })) e s
 
-    by_type : (k : SessionType) → s.kind ≡ k → IfOk (demand_by k r c locality 1 handle s >>= compares) (λ g. IsOfPolicy r o e)
+    by_type : (k : SessionType) → s.kind ≡ k
+        → IfOk (demand_by k r c locality 1 handle s >>= compares) (λ g. IsOfPolicy r o e)
     by_type type.Hmac is =
-        ok_then (λ d. IsOfPolicy r o e) _ (demand_by type.Hmac r c locality 1 handle s) compares value_refused (λ d holds. always (IsOfPolicy r o e) holds (compares d))
+        ok_then (λ d. IsOfPolicy r o e) _ (demand_by type.Hmac r c locality 1 handle s) compares
+        value_refused (λ d holds. always (IsOfPolicy r o e) holds (compares d))
     by_type type.Policy is =
-        ok_then (Passes s.policy u) _ (demand_by type.Policy r c locality 1 handle s) compares policy_passes (λ d passes. always (IsOfPolicy r o e) (of_policy is d passes) (compares d))
+        ok_then (Passes s.policy u) _ (demand_by type.Policy r c locality 1 handle s) compares
+        policy_passes
+        (λ d passes. always (IsOfPolicy r o e) (of_policy is d passes) (compares d))
     by_type type.Trial is =
-        ok_then (Passes s.policy u) _ (demand_by type.Trial r c locality 1 handle s) compares policy_passes (λ d passes. absurd (no_trial is d passes))
+        ok_then (Passes s.policy u) _ (demand_by type.Trial r c locality 1 handle s) compares
+        policy_passes (λ d passes. absurd (no_trial is d passes))
 
     by_session : IfOk (session_grant r c locality 1 (Some handle) e s) (λ g. IsOfPolicy r o e)
-    unfolding session_grant demanded
+    unfolding session_grant demand_of_session
     by_session = by_type s.kind refl
 
-  by_found : (e : Entry) (found : Option Session) → session_of r e ≡ found → IfOk (session_grant_if r c locality 1 (Some handle) e found) (λ g. IsOfPolicy r o e)
+  by_found : (e : Entry) (found : Option Session) → session_of r e ≡ found
+      → IfOk (session_grant_if r c locality 1 (Some handle) e found) (λ g. IsOfPolicy r o e)
   by_found e None there = tt
   by_found e (Some s) there = by_session e s there
 
-  by_kind : (e : Entry) (k : SessionKind) → IfOk (grant_by k r c locality 1 (Some handle) e) (λ g. IsOfPolicy r o e)
+  by_kind : (e : Entry) (k : SessionKind)
+      → IfOk (grant_by k r c locality 1 (Some handle) e) (λ g. IsOfPolicy r o e)
   by_kind e kind.Password = password_refused e
   by_kind e kind.Session = by_found e (session_of r e) refl
   by_kind e kind.Other = tt
@@ -144,17 +160,26 @@ module _ (r : Record) (c : Whole) (locality : ℕ) (handle : Handle) (o : Object
 
   -- ---- the first entry of an authorized command
 
-  first_entry : (es : List Entry) (gs : List (Option Grant)) → 1 ≤ length es → length gs ≡ length es → (e : Entry) × (g : Option Grant) × (slice_get es 0 ≡ Some e) × (slice_get gs 0 ≡ Some g)
+  first_entry : (es : List Entry) (gs : List (Option Grant)) → 1 ≤ length es → length gs ≡ length es
+      → (e : Entry) × (g : Option Grant) × (slice_get es 0 ≡ Some e) × (slice_get gs 0 ≡ Some g)
   first_entry [] gs enough many = absurd (omega (arith, enough))
   first_entry (e ∷ es) [] enough many = absurd (omega (arith, many))
   first_entry (e ∷ es) (g ∷ gs) enough many = (e, g, refl, refl)
 
-  pub has_digest : (grants : List (Option Grant)) → authorize r c locality ≡ Ok grants → authorized_handles c.code ≡ 1 → slice_get (authorized c) 0 ≡ Some handle → HasDigest r c o.public.name_alg o.public.auth_policy
+  pub has_digest : (grants : List (Option Grant)) → authorize r c locality ≡ Ok grants
+      → authorized_handles c.code ≡ 1 → slice_get (authorized c) 0 ≡ Some handle
+      → HasDigest r c o.public.name_alg o.public.auth_policy
   has_digest grants granted one used =
-      let all : IsGranting r c locality grants = ok_at (IsGranting r c locality) (authorize r c locality) grants (granting r c locality) granted in
-      let (e, g, given, there) = first_entry c.entries grants (subst (λ (n : ℕ). n ≤ length c.entries) one all.enough) all.as_many in
-      let so : IsOfPolicy r o e = ok_at (λ g. IsOfPolicy r o e) (grant r c locality 1 (Some handle) e) g (entry_policy e)
-      (subst (λ (x : Option Handle). grant r c locality 1 x e ≡ Ok g) used (all.each 0 e g given there)) in
+      let all : IsGranting r c locality grants =
+      ok_at (IsGranting r c locality) (authorize r c locality) grants (granting r c locality)
+      granted in
+      let (e, g, given, there) =
+      first_entry c.entries grants (subst (λ (n : ℕ). n ≤ length c.entries) one all.enough)
+      all.as_many in
+      let so : IsOfPolicy r o e =
+      ok_at (λ g. IsOfPolicy r o e) (grant r c locality 1 (Some handle) e) g (entry_policy e)
+      (subst (λ (x : Option Handle). grant r c locality 1 x e ≡ Ok g) used
+      (all.each 0 e g given there)) in
       record {
         entry = e;
         given = given;
@@ -167,7 +192,8 @@ module _ (r : Record) (c : Whole) (locality : ℕ) (handle : Handle) (o : Object
 
 -- ---- commands that read sealed data
 
-first_sent : (handles : List Handle) (handle : Handle) → first_handle handles ≡ Ok handle → slice_get handles 0 ≡ Some handle
+first_sent : (handles : List Handle) (handle : Handle) → first_handle handles ≡ Ok handle
+    → slice_get handles 0 ≡ Some handle
 first_sent [] handle first = absurd cc
 first_sent (h ∷ hs) handle first = ap (λ (x : Result Handle Refused). sent x) first
   where
@@ -175,16 +201,19 @@ first_sent (h ∷ hs) handle first = ap (λ (x : Result Handle Refused). sent x)
     sent (Ok x) = Some x
     sent (Err e) = None
 
-one_authorized : (sign : Bool) → authorized_handles (if sign then command.Hmac else command.Unseal) ≡ 1
+one_authorized : (sign : Bool) → authorized_handles (if sign then command.Hmac else command.Unseal)
+    ≡ 1
 unfolding shape_of
 one_authorized true = refl
 one_authorized false = refl
 
-module _ (objects : Public → Bool) (old : Record) (buffer : List ℕ) (locality elapsed : ℕ) (random : List ℕ) where
+module _ (objects : Public → Bool) (old : Record) (buffer : List ℕ) (locality elapsed : ℕ)
+    (random : List ℕ) where
   abbrev t : Record
-  t = ticked old elapsed
+  t = after_tick old elapsed
 
-  accepts_reading : IsRead objects t buffer locality random → AcceptsReading objects t buffer locality random
+  accepts_reading : IsRead objects t buffer locality random
+      → AcceptsReading objects t buffer locality random
   accepts_reading f = record {
     done = a;
     is = is;
@@ -196,7 +225,8 @@ module _ (objects : Public → Bool) (old : Record) (buffer : List ℕ) (localit
     secret = so.secret;
     code = so.code_is;
     policy = λ closed. has_digest t f.c locality so.handle so.object
-        (object_entity t so.handle so.object (object_handle_fits t sign f.c.handles so.handle fits so.first) so.found)
+        (object_entity t so.handle so.object
+        (object_handle_fits t sign f.c.handles so.handle fits so.first) so.found)
         closed f.grants f.granted (ap authorized_handles so.code_is ∙ one_authorized sign) used;
   }
     where
@@ -212,21 +242,27 @@ module _ (objects : Public → Bool) (old : Record) (buffer : List ℕ) (localit
       a : Accepted
       a = record { command = f.c; grants = f.grants; request = q; success = so.success }
 
-      is : accepted t buffer locality random ≡ Ok a
-      is = accepted_so objects t buffer locality random f.c f.grants so.success f.decoded f.granted so.succeeds
+      is : acceptance_in t buffer locality random ≡ Ok a
+      is = accepted_so objects t buffer locality random f.c f.grants so.success f.decoded f.granted
+          so.succeeds
 
       fits : HandlesFit t (shape_of (reading_code so.object.public)).handles f.c.handles
-      fits = subst (λ (c : CommandCode). HandlesFit t (shape_of c).handles f.c.handles) so.code_is (ok_at _ (accepted t buffer locality random) a (accepted_is t buffer locality random) is).fits
+      fits = subst (λ (c : CommandCode). HandlesFit t (shape_of c).handles f.c.handles) so.code_is
+          (ok_at _ (acceptance_in t buffer locality random) a
+          (accepted_is t buffer locality random)
+          is).fits
 
       used : slice_get (authorized f.c) 0 ≡ Some so.handle
       used =
           ap (λ (c : CommandCode). slice_get (take (authorized_handles c) f.c.handles) 0) so.code_is
           ∙ first_used sign f.c.handles so.handle so.first
 
-accepted_reading : (objects : Public → Bool) (old : Record) (event : PlainEvent) → is_reading (sealed_secrecy objects) old event ≡ true → IsAcceptedReading objects old event
+accepted_reading : (objects : Public → Bool) (old : Record) (event : PlainEvent)
+    → is_reading (sealed_secrecy objects) old event ≡ true → IsAcceptedReading objects old event
 accepted_reading objects old (Given buffer locality elapsed random) is =
     accepts_reading objects old buffer locality elapsed random
-    (read_decoded objects (ticked old elapsed) buffer locality random (general (ticked old elapsed) buffer) refl is)
+    (read_decoded objects (after_tick old elapsed) buffer locality random
+    (general (after_tick old elapsed) buffer) refl is)
 accepted_reading objects old Cycled is = absurd (false≢true is)
 accepted_reading objects old (Placed object) is = absurd (false≢true is)
 

@@ -33,7 +33,9 @@ module _ (public : Public) (selection : List BankSelection) (values name referen
   policy_text = (((tt, length-hash_of public.name_alg values), tt), ((tt, tt), tt))
 
   -- the selected PCRs have the values that the policy requires
-  have_values : (history : History) (u : PolicyUse) → u.history ≡ history → u.session.hash ≡ public.name_alg → HasPcrsNow u selection (hash_of public.name_alg values) → HavePcrValues history public.name_alg selection values
+  have_values : (history : History) (u : PolicyUse) → u.history ≡ history
+      → u.session.hash ≡ public.name_alg → HasPcrsNow u selection (hash_of public.name_alg values)
+      → HavePcrValues history public.name_alg selection values
   have_values history u now same met =
       elim (is_same_or_not (concat (flat_map (values_in history) selection)) values) [
         | inl is ↦ inl is
@@ -47,17 +49,22 @@ module _ (public : Public) (selection : List BankSelection) (values name referen
           ∙ met.now
 
   abbrev Opens : History → PolicyUse → Type 0
-  Opens history u = HavePcrValues history public.name_alg selection values × ShowsAuthValue u ⊎ ShowsSecret history u.entry.session name reference
+  Opens history u = HavePcrValues history public.name_alg selection values × ShowsAuthValue u
+      ⊎ ShowsSecret history u.entry.session name reference
 
-  met_opens : (history : History) (u : PolicyUse) → u.history ≡ history → u.session.hash ≡ public.name_alg → IsMet (IsMetBy u) policy → Opens history u
+  met_opens : (history : History) (u : PolicyUse) → u.history ≡ history
+      → u.session.hash ≡ public.name_alg → IsMet (IsMetBy u) policy → Opens history u
   met_opens history u now same (inl met) = inl (have_values history u now same met.0.1, met.1)
-  met_opens history u now same (inr (inl met)) = inr (subst (λ (h : History). ShowsSecret h u.entry.session name reference) now met.1)
+  met_opens history u now same (inr (inl met)) =
+      inr (subst (λ (h : History). ShowsSecret h u.entry.session name reference) now met.1)
   met_opens history u now same (inr (inr met)) = absurd met
 
   abbrev Shown : History → AcceptedCommand → Type 0
   Shown history c = IsUsedBySession history c 0 public.name_alg policy (Opens history)
 
-  opens : (history : History) (c : AcceptedCommand) → IsUsedBySession history c 0 public.name_alg policy (λ u. IsMet (IsMetBy u) policy) → Shown history c
+  opens : (history : History) (c : AcceptedCommand)
+      → IsUsedBySession history c 0 public.name_alg policy (λ u. IsMet (IsMetBy u) policy)
+      → Shown history c
   opens history c by = record {
     handle = by.handle;
     used = by.used;
@@ -71,31 +78,65 @@ module _ (public : Public) (selection : List BankSelection) (values name referen
   }
     where
       u : PolicyUse
-      u = record { history = history; command = c; place = 0; handle = by.handle; entry = by.entry; session = by.session }
+      u = record {
+        history = history;
+        command = c;
+        place = 0;
+        handle = by.handle;
+        entry =
+            by.entry;
+        session = by.session;
+      }
 
-      either : IsMet (IsMetBy u) policy ⊎ BreaksHash public.name_alg policy by.session.assertions → Opens history u ⊎ BreaksHash public.name_alg policy by.session.assertions
+      either : IsMet (IsMetBy u) policy ⊎ BreaksHash public.name_alg policy by.session.assertions
+          → Opens history u ⊎ BreaksHash public.name_alg policy by.session.assertions
       either (inl met) = inl (met_opens history u refl by.session_hash met)
       either (inr broken) = inr broken
 
   -- a command that reads the sealed data of an object with this public area reads the disk's key
-  reads_public : (p : Public) → p ≡ public → has public.attributes attribute.Sign ≡ false → has public.attributes attribute.UserWithAuth ≡ false → public.auth_policy ≡ policy_digest public.name_alg policy → (history : History) (c : AcceptedCommand) → slice_get c.views 0 ≡ Some (OfObject p) → c.command.code ≡ (if has p.attributes attribute.Sign then command.Hmac else command.Unseal) → ((policy : PolicyExpression) → has p.attributes attribute.UserWithAuth ≡ false → p.auth_policy ≡ policy_digest p.name_alg policy → IsPolicyExpression p.name_alg policy → IsUsedBySession history c 0 p.name_alg policy (λ u. IsMet (IsMetBy u) policy)) → OpensDiskKey public selection values name reference history c
+  reads_public : (p : Public) → p ≡ public → has public.attributes attribute.Sign ≡ false
+      → has public.attributes attribute.UserWithAuth ≡ false
+      → public.auth_policy ≡ policy_digest public.name_alg policy
+      → (history : History) (c : AcceptedCommand) → slice_get c.views 0 ≡ Some (OfObject p)
+      → c.command.code ≡ (if has p.attributes attribute.Sign then command.Hmac else command.Unseal)
+      → ((policy : PolicyExpression) → has p.attributes attribute.UserWithAuth ≡ false
+      → p.auth_policy ≡ policy_digest p.name_alg policy → IsPolicyExpression p.name_alg policy
+      → IsUsedBySession history c 0 p.name_alg policy (λ u. IsMet (IsMetBy u) policy))
+      → OpensDiskKey public selection values name reference history c
   reads_public p is no_sign no_user_with_auth auth_policy history c viewed code needs = record {
-    code = subst (λ (p : Public). c.command.code ≡ (if has p.attributes attribute.Sign then command.Hmac else command.Unseal)) is code ∙ ap (λ (sign : Bool). if sign then command.Hmac else command.Unseal) no_sign;
+    code =
+        subst (λ (p : Public). c.command.code
+        ≡ (if has p.attributes attribute.Sign then command.Hmac else command.Unseal)) is code
+        ∙ ap (λ (sign : Bool). if sign then command.Hmac else command.Unseal) no_sign;
     viewed = viewed ∙ ap (λ (p : Public). Some (OfObject p)) is;
-    by = opens history c (subst (λ (p : Public). (policy : PolicyExpression) → has p.attributes attribute.UserWithAuth ≡ false → p.auth_policy ≡ policy_digest p.name_alg policy → IsPolicyExpression p.name_alg policy → IsUsedBySession history c 0 p.name_alg policy (λ u. IsMet (IsMetBy u) policy)) is needs policy no_user_with_auth auth_policy policy_text);
+    by =
+        opens history c
+        (subst (λ (p : Public). (policy : PolicyExpression)
+        → has p.attributes attribute.UserWithAuth ≡ false
+        → p.auth_policy ≡ policy_digest p.name_alg policy → IsPolicyExpression p.name_alg policy
+        → IsUsedBySession history c 0 p.name_alg policy (λ u. IsMet (IsMetBy u) policy)) is
+        needs policy no_user_with_auth auth_policy policy_text);
   }
 
-  pub reading_opens : (objects : Public → Bool) → IsDiskKey public objects selection values name reference → (history : History) (c : AcceptedCommand) → ReadsSealed objects history c → OpensDiskKey public selection values name reference history c
+  pub reading_opens : (objects : Public → Bool)
+      → IsDiskKey public objects selection values name reference
+      → (history : History) (c : AcceptedCommand) → ReadsSealed objects history c
+      → OpensDiskKey public selection values name reference history c
   reading_opens objects key history c reads =
-      reads_public reads.public (key.one reads.public reads.secret) key.no_sign key.no_user_with_auth key.auth_policy
+      reads_public reads.public (key.one reads.public reads.secret) key.no_sign
+      key.no_user_with_auth key.auth_policy
       history c reads.viewed reads.code reads.policy
 
 pub followed_disk_key_stays_secret : FollowedDiskKeyStaysSecret
-followed_disk_key_stays_secret public objects selection values name reference key can old history follows executions new led none =
+followed_disk_key_stays_secret public objects selection values name reference key can old history
+    follows executions new led none =
     all_stay objects can (OpensDiskKey public selection values name reference)
     (λ past c reads. reading_opens public selection values name reference objects key past c reads)
     old history follows executions new led none
 
 pub disk_key_stays_secret : DiskKeyStaysSecret
-disk_key_stays_secret public objects selection values name reference key can random before old leads executions new led none =
-    followed_disk_key_stays_secret public objects selection values name reference key can old (history_after [] before) (history_followed can random before old leads) executions new led none
+disk_key_stays_secret public objects selection values name reference key can random before old leads
+    executions new led none =
+    followed_disk_key_stays_secret public objects selection values name reference key can old
+    (history_after [] before) (history_followed can random before old leads) executions new led
+    none

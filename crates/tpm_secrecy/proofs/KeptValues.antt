@@ -13,7 +13,7 @@ use Rattle.tpm_bytes.proofs.Fields.{ok_is}
 use Rattle.tpm_bytes.specs.Reading.{number_at, or_fault, refused_if, ◌>>=◌}
 use Rattle.tpm_commands.specs.CommandCode.{part_of, shape_of}
 use Rattle.tpm_commands.specs.Part.{Part}
-use Rattle.tpm_commands.specs.Shape.{is_of_kind, unauthorized, user}
+use Rattle.tpm_commands.specs.Shape.{is_of_kind, rule_without_role, user}
 use Rattle.tpm_commands.specs.declared.command_code.CommandCode.{CommandCode}
 use Rattle.tpm_commands.specs.declared.shape.HandleRule.{HandleRule}
 use Rattle.tpm_containers.proofs.FoundKeys.{changed_shows}
@@ -21,7 +21,7 @@ use Rattle.tpm_containers.proofs.SlotLaws.{at_set-other, lowest_free-free}
 use Rattle.tpm_containers.specs.Numbered.{at_number, if_of_kind, place_of}
 use Rattle.tpm_containers.specs.Slots.{at_place, lowest_free}
 use Rattle.tpm_mac.specs.Digest.{digest_size}
-use Rattle.tpm_nv.specs.Access.{bits_set, extended, incremented, index_or_fault, read_locked, with_auth_value, write_locked, written}
+use Rattle.tpm_nv.specs.Access.{bits_set, contents_after_extend, contents_after_increment, contents_after_write, index_or_fault, read_locked, with_auth_value, write_locked}
 use Rattle.tpm_nv.specs.Head.{head_of, stays}
 use Rattle.tpm_nv.specs.Index.{NvContents, NvIndex, changed_index, index_at}
 use Rattle.tpm_nv.specs.declared.fault.WriteFault.{WriteFault}
@@ -76,26 +76,32 @@ number_in i = i.public.nv_index.number
 -- Each handle has an index if and only if it had an index before, with the same number in its
 -- public area.
 abbrev KeepsNumbers : NvContents → NvContents → Type 0
-KeepsNumbers old new = (h : Handle) → option_map number_in (index_at new h) ≡ option_map number_in (index_at old h)
+KeepsNumbers old new = (h : Handle) → option_map number_in (index_at new h)
+    ≡ option_map number_in (index_at old h)
 
-changed_numbers : {F : Type 0} (n : NvContents) (h : Handle) (fault : F) (old new : NvIndex) → index_or_fault n h fault ≡ Ok old → new.public.nv_index ≡ old.public.nv_index → KeepsNumbers n (changed_index n h new)
-changed_numbers n h fault old new is same other = changed_shows number_in n.indices h.number old new (some_is _ _ old is) (ap (λ (x : Handle). x.number) same) other.number
+changed_numbers : {F : Type 0} (n : NvContents) (h : Handle) (fault : F) (old new : NvIndex)
+    → index_or_fault n h fault ≡ Ok old → new.public.nv_index ≡ old.public.nv_index
+    → KeepsNumbers n (changed_index n h new)
+changed_numbers n h fault old new is same other =
+    changed_shows number_in n.indices h.number old new (some_is _ _ old is)
+    (ap (λ (x : Handle). x.number) same) other.number
 
 module _ (n : NvContents) (h : Handle) where
-  written_numbers : (offset : ℕ) (bytes : List ℕ) → IfOk (written n h offset bytes) (KeepsNumbers n)
-  unfolding written
+  written_numbers : (offset : ℕ) (bytes : List ℕ)
+      → IfOk (contents_after_write n h offset bytes) (KeepsNumbers n)
+  unfolding contents_after_write
   written_numbers offset bytes = search (ok_bind_is, changed_numbers)
 
   bits_numbers : (bits : ℕ) → IfOk (bits_set n h bits) (KeepsNumbers n)
   unfolding bits_set
   bits_numbers bits = search (ok_bind_is, changed_numbers)
 
-  extended_numbers : (bytes : List ℕ) → IfOk (extended n h bytes) (KeepsNumbers n)
-  unfolding extended
+  extended_numbers : (bytes : List ℕ) → IfOk (contents_after_extend n h bytes) (KeepsNumbers n)
+  unfolding contents_after_extend
   extended_numbers bytes = search (ok_bind_is, changed_numbers)
 
-  incremented_numbers : IfOk (incremented n h) (KeepsNumbers n)
-  unfolding incremented
+  incremented_numbers : IfOk (contents_after_increment n h) (KeepsNumbers n)
+  unfolding contents_after_increment
   incremented_numbers = search (ok_bind_is, changed_numbers)
 
   write_locked_numbers : IfOk (write_locked n h) (KeepsNumbers n)
@@ -114,11 +120,16 @@ module _ (r : Record) (q : Request) where
   abbrev Numbered : Success → Type 0
   Numbered x = KeepsNumbers r.nv x.after.nv
 
-  changed_nv_numbers : {F : Type 0} (refusal : F → Refused) (x : Result NvContents F) → IfOk x (KeepsNumbers r.nv) → IfOk (or_refusal refusal x >>= λ nv. Ok (changed_nv r nv)) Numbered
+  changed_nv_numbers : {F : Type 0} (refusal : F → Refused) (x : Result NvContents F)
+      → IfOk x (KeepsNumbers r.nv)
+      → IfOk (or_refusal refusal x >>= λ nv. Ok (changed_nv r nv)) Numbered
   changed_nv_numbers refusal (Ok nv) keeps = keeps
   changed_nv_numbers refusal (Err e) keeps = tt
 
-  write_row_numbers : {P : Type 0} (read : Result P Refused) (change : P → Handle → Result NvContents WriteFault) → ((p : P) (h : Handle) → IfOk (change p h) (KeepsNumbers r.nv)) → IfOk (write_row r q read change) Numbered
+  write_row_numbers : {P : Type 0} (read : Result P Refused)
+      (change : P → Handle → Result NvContents WriteFault)
+      → ((p : P) (h : Handle) → IfOk (change p h) (KeepsNumbers r.nv))
+      → IfOk (write_row r q read change) Numbered
   write_row_numbers read change keeps =
       ok_bind _ (target_of r q) _ (λ target.
       ok_bind _ read _ (λ p.
@@ -127,19 +138,24 @@ module _ (r : Record) (q : Request) where
 
   nv_write_numbers : IfOk (nv_write_row r q) Numbered
   unfolding nv_write_row
-  nv_write_numbers = write_row_numbers (writing.parameters_in q.parameters) _ (λ p h. written_numbers r.nv h p.offset p.bytes)
+  nv_write_numbers = write_row_numbers (writing.parameters_in q.parameters) _
+      (λ p h. written_numbers r.nv h p.offset p.bytes)
 
   nv_set_bits_numbers : IfOk (nv_set_bits_row r q) Numbered
   unfolding nv_set_bits_row
-  nv_set_bits_numbers = write_row_numbers (only (or_fault (number_at w64 q.parameters) (plain code.Insufficient))) _ (λ bits h. bits_numbers r.nv h bits)
+  nv_set_bits_numbers =
+      write_row_numbers (only (or_fault (number_at w64 q.parameters) (plain code.Insufficient))) _
+      (λ bits h. bits_numbers r.nv h bits)
 
   nv_extend_numbers : IfOk (nv_extend_row r q) Numbered
   unfolding nv_extend_row
-  nv_extend_numbers = write_row_numbers (only (buffer_at data_limit q.parameters)) _ (λ bytes h. extended_numbers r.nv h bytes)
+  nv_extend_numbers = write_row_numbers (only (buffer_at data_limit q.parameters)) _
+      (λ bytes h. extended_numbers r.nv h bytes)
 
   nv_increment_numbers : IfOk (nv_increment_row r q) Numbered
   unfolding nv_increment_row
-  nv_increment_numbers = write_row_numbers (all_read q.parameters) _ (λ ended h. incremented_numbers r.nv h)
+  nv_increment_numbers =
+      write_row_numbers (all_read q.parameters) _ (λ ended h. incremented_numbers r.nv h)
 
   nv_write_lock_numbers : IfOk (nv_write_lock_row r q) Numbered
   unfolding nv_write_lock_row
@@ -147,7 +163,8 @@ module _ (r : Record) (q : Request) where
       ok_bind _ (target_of r q) _ (λ target.
       ok_bind _ (all_read q.parameters) _ (λ ended.
       ok_bind _ (writer_passes target) _ (λ a1.
-      changed_nv_numbers lock_refusal (write_locked r.nv target.handle) (write_locked_numbers r.nv target.handle))))
+      changed_nv_numbers lock_refusal (write_locked r.nv target.handle)
+      (write_locked_numbers r.nv target.handle))))
 
   nv_read_lock_numbers : IfOk (nv_read_lock_row r q) Numbered
   unfolding nv_read_lock_row
@@ -155,7 +172,8 @@ module _ (r : Record) (q : Request) where
       ok_bind _ (target_of r q) _ (λ target.
       ok_bind _ (all_read q.parameters) _ (λ ended.
       ok_bind _ (reader_passes target) _ (λ a1.
-      changed_nv_numbers lock_refusal (read_locked r.nv target.handle) (read_locked_numbers r.nv target.handle))))
+      changed_nv_numbers lock_refusal (read_locked r.nv target.handle)
+      (read_locked_numbers r.nv target.handle))))
 
   nv_change_auth_numbers : IfOk (nv_change_auth_row r q) Numbered
   unfolding nv_change_auth_row
@@ -163,12 +181,15 @@ module _ (r : Record) (q : Request) where
       ok_bind _ (first_handle q.handles) _ (λ handle.
       ok_bind _ (index_or_refusal r handle) _ (λ i.
       ok_bind _ (only (auth_value_at q.parameters)) _ (λ value.
-      ok_bind _ (refused_if (nat_lt (digest_size i.public.name_alg) (length value)) (parameter_refusal action.First 1 code.Size)) _ (λ a1.
-      changed_nv_numbers (λ absence. handle_refusal) (with_auth_value r.nv handle value) (auth_numbers r.nv handle value)))))
+      ok_bind _ (refused_if (nat_lt (digest_size i.public.name_alg) (length value))
+      (parameter_refusal action.First 1 code.Size)) _ (λ a1.
+      changed_nv_numbers (λ absence. handle_refusal) (with_auth_value r.nv handle value)
+      (auth_numbers r.nv handle value)))))
 
 -- ---- the handles of hierarchies and of lockout
 
-no_object : (xs : List (Option Object)) (h : Handle) → is_transient h ≡ false → object_at xs h ≡ None
+no_object : (xs : List (Option Object)) (h : Handle) → is_transient h ≡ false
+    → object_at xs h ≡ None
 unfolding object_at at_number
 no_object xs h other = by (at_place xs (place_of h.number))
   where
@@ -176,10 +197,13 @@ no_object xs h other = by (at_place xs (place_of h.number))
     by None = refl
     by (Some o) = ap (λ (b : Bool). cond b (Some o) None) other
 
-number_kept_not : (h : Handle) (n : ℕ) → (h.number == n) ≡ true → names_kept h ≡ names_kept (record { number = n })
-number_kept_not h n is = ap (λ (number : ℕ). names_kept (record { number = number })) (eqb-true h.number n is)
+number_kept_not : (h : Handle) (n : ℕ) → (h.number == n) ≡ true
+    → names_kept h ≡ names_kept (record { number = n })
+number_kept_not h n is = ap (λ (number : ℕ). names_kept (record { number = number }))
+    (eqb-true h.number n is)
 
-provision_permanent : (h : Handle) → is_of_kind handle_kind.Provision h ≡ true → names_kept h ≡ false
+provision_permanent : (h : Handle) → is_of_kind handle_kind.Provision h ≡ true
+    → names_kept h ≡ false
 provision_permanent h is =
     elim (or_cases (h.number == owner_handle.number) (h.number == platform_handle.number) is) [
       | inl one ↦ number_kept_not h owner_handle.number one
@@ -193,14 +217,27 @@ clear_permanent h is =
       | inr other ↦ number_kept_not h platform_handle.number other
     ]
 
-hierarchy_permanent : (h : Handle) → is_of_kind handle_kind.Hierarchy h ≡ true → names_kept h ≡ false
-hierarchy_permanent h is = by (h.number == owner_handle.number) (h.number == endorsement_handle.number) (h.number == platform_handle.number) (h.number == null_handle.number) refl refl refl refl is
+hierarchy_permanent : (h : Handle) → is_of_kind handle_kind.Hierarchy h ≡ true
+    → names_kept h ≡ false
+hierarchy_permanent h is =
+    by (h.number == owner_handle.number) (h.number == endorsement_handle.number)
+    (h.number == platform_handle.number) (h.number == null_handle.number) refl refl refl refl is
   where
-    by : (a b c d : Bool) → (h.number == owner_handle.number) ≡ a → (h.number == endorsement_handle.number) ≡ b → (h.number == platform_handle.number) ≡ c → (h.number == null_handle.number) ≡ d → is_some (cond a (Some hierarchy.Owner) (cond b (Some hierarchy.Endorsement) (cond c (Some hierarchy.Platform) (cond d (Some hierarchy.Null) None)))) ≡ true → names_kept h ≡ false
+    by : (a b c d : Bool) → (h.number == owner_handle.number) ≡ a
+        → (h.number == endorsement_handle.number) ≡ b → (h.number == platform_handle.number) ≡ c
+        → (h.number == null_handle.number) ≡ d
+        → is_some
+        (cond a (Some hierarchy.Owner)
+        (cond b (Some hierarchy.Endorsement)
+        (cond c (Some hierarchy.Platform) (cond d (Some hierarchy.Null) None)))) ≡ true
+        → names_kept h ≡ false
     by true b c d owner other third fourth is = number_kept_not h owner_handle.number owner
-    by false true c d owner other third fourth is = number_kept_not h endorsement_handle.number other
-    by false false true d owner other third fourth is = number_kept_not h platform_handle.number third
-    by false false false true owner other third fourth is = number_kept_not h null_handle.number fourth
+    by false true c d owner other third fourth is =
+        number_kept_not h endorsement_handle.number other
+    by false false true d owner other third fourth is =
+        number_kept_not h platform_handle.number third
+    by false false false true owner other third fourth is =
+        number_kept_not h null_handle.number fourth
     by false false false false owner other third fourth is = absurd (false≢true is)
 
 -- ---- the parts of a record that contain entities
@@ -220,45 +257,68 @@ module _ (s : Secrecy) where
   abbrev pub StaysOpen : Record → Record → Handle → Type 0
   StaysOpen old new h = has_secret_value s old h ≡ false → has_secret_value s new h ≡ false
 
-  apart_same : (p : Part) (old new : Record) → is_apart p ≡ true → Touches p old new → (h : Handle) → has_secret_value s new h ≡ has_secret_value s old h
+  apart_same : (p : Part) (old new : Record) → is_apart p ≡ true → Touches p old new → (h : Handle)
+      → has_secret_value s new h ≡ has_secret_value s old h
   unfolding entity_at object_of
   apart_same part.Nothing old new is touches h = ap (λ (r : Record). has_secret_value s r h) touches
-  apart_same part.Sessions old new is touches h = ap (λ (r : Record). has_secret_value s r h) touches
-  apart_same part.AuthValues old new is touches h = ap (λ (r : Record). has_secret_value s r h) touches.0
+  apart_same part.Sessions old new is touches h =
+      ap (λ (r : Record). has_secret_value s r h) touches
+  apart_same part.AuthValues old new is touches h =
+      ap (λ (r : Record). has_secret_value s r h) touches.0
   apart_same part.Lockout old new is touches h = ap (λ (r : Record). has_secret_value s r h) touches
   apart_same part.Banks old new is touches h = ap (λ (r : Record). has_secret_value s r h) touches
   apart_same part.Saved old new is touches h = ap (λ (r : Record). has_secret_value s r h) touches
-  apart_same part.DisableClear old new is touches h = ap (λ (r : Record). has_secret_value s r h) touches
+  apart_same part.DisableClear old new is touches h =
+      ap (λ (r : Record). has_secret_value s r h) touches
   apart_same _ old new is touches h = absurd (false≢true is)
 
-  index_secret : (h : Handle) (one other : Option NvIndex) → option_map number_in one ≡ option_map number_in other → entity_has_secret_value s h (option_map_or AnIndex (option_map head_of one) Permanent) ≡ entity_has_secret_value s h (option_map_or AnIndex (option_map head_of other) Permanent)
+  index_secret : (h : Handle) (one other : Option NvIndex)
+      → option_map number_in one ≡ option_map number_in other
+      → entity_has_secret_value s h (option_map_or AnIndex (option_map head_of one) Permanent)
+      ≡ entity_has_secret_value s h (option_map_or AnIndex (option_map head_of other) Permanent)
   index_secret h None None same = refl
   index_secret h None (Some j) same = absurd cc
   index_secret h (Some i) None same = absurd cc
-  index_secret h (Some i) (Some j) same = ap s.index_values (same_Some (number_in i) (number_in j) same)
+  index_secret h (Some i) (Some j) same =
+      ap s.index_values (same_Some (number_in i) (number_in j) same)
 
-  numbers_same : (r : Record) (nv : NvContents) → KeepsNumbers r.nv nv → (h : Handle) → has_secret_value s (record r { nv = nv }) h ≡ has_secret_value s r h
+  numbers_same : (r : Record) (nv : NvContents) → KeepsNumbers r.nv nv → (h : Handle)
+      → has_secret_value s (record r { nv = nv }) h ≡ has_secret_value s r h
   unfolding entity_at object_of
   numbers_same r nv keeps h = by (is_nv_index h)
     where
-      by : (b : Bool) → entity_has_secret_value s h (cond b (option_map_or AnIndex (option_map head_of (index_at nv h)) Permanent) (option_map_or AnObject (object_of r h) Permanent)) ≡ entity_has_secret_value s h (cond b (option_map_or AnIndex (option_map head_of (index_at r.nv h)) Permanent) (option_map_or AnObject (object_of r h) Permanent))
+      by : (b : Bool) → entity_has_secret_value s h
+          (cond b (option_map_or AnIndex (option_map head_of (index_at nv h)) Permanent)
+          (option_map_or AnObject (object_of r h) Permanent))
+          ≡ entity_has_secret_value s h
+          (cond b (option_map_or AnIndex (option_map head_of (index_at r.nv h)) Permanent)
+          (option_map_or AnObject (object_of r h) Permanent))
       by true = index_secret h (index_at nv h) (index_at r.nv h) (keeps h)
       by false = refl
 
-  permanent_value : (t : Record) (h : Handle) → names_kept h ≡ false → has_secret_value s t h ≡ option_map_or s.hierarchy_values (hierarchy_auth_of h) false
+  permanent_value : (t : Record) (h : Handle) → names_kept h ≡ false
+      → has_secret_value s t h ≡ option_map_or s.hierarchy_values (hierarchy_auth_of h) false
   unfolding entity_at object_of
   permanent_value t h kept =
       let last = neither (is_nv_index h || is_transient h) (is_persistent h) kept in
       let first = neither (is_nv_index h) (is_transient h) last.0 in
-      ap (λ (b : Bool). entity_has_secret_value s h (cond b (option_map_or AnIndex (index_of t h) Permanent) (option_map_or AnObject (object_of t h) Permanent))) first.0
-      ∙ ap (λ (b : Bool). entity_has_secret_value s h (option_map_or AnObject (cond b (persistent_at t.persistent h) (object_at t.objects h)) Permanent)) last.1
-      ∙ ap (λ (found : Option Object). entity_has_secret_value s h (option_map_or AnObject found Permanent)) (no_object t.objects h first.1)
+      ap (λ (b : Bool). entity_has_secret_value s h
+      (cond b (option_map_or AnIndex (index_of t h) Permanent)
+      (option_map_or AnObject (object_of t h) Permanent))) first.0
+      ∙ ap (λ (b : Bool). entity_has_secret_value s h
+      (option_map_or AnObject (cond b (persistent_at t.persistent h) (object_at t.objects h))
+      Permanent)) last.1
+      ∙ ap (λ (found : Option Object). entity_has_secret_value s h
+      (option_map_or AnObject found Permanent)) (no_object t.objects h first.1)
 
   permanent_stays : (old new : Record) (h : Handle) → names_kept h ≡ false → StaysOpen old new h
-  permanent_stays old new h kept shown = permanent_value new h kept ∙ sym (permanent_value old h kept) ∙ shown
+  permanent_stays old new h kept shown = permanent_value new h kept
+      ∙ sym (permanent_value old h kept) ∙ shown
 
   -- a new object in a free slot replaces no existing object
-  placed_same : (r : Record) (n : ℕ) (new o : Object) (h : Handle) → object_of r h ≡ Some o → lowest_free r.objects ≡ Some n → object_of (record r { objects = with_object r.objects n new }) h ≡ object_of r h
+  placed_same : (r : Record) (n : ℕ) (new o : Object) (h : Handle) → object_of r h ≡ Some o
+      → lowest_free r.objects ≡ Some n
+      → object_of (record r { objects = with_object r.objects n new }) h ≡ object_of r h
   unfolding object_of object_at at_number
   placed_same r n new o h found free = by (is_persistent h) found
     where
@@ -268,18 +328,30 @@ module _ (s : Secrecy) where
       never : (let none : Option Object = None in none ≡ Some o) → ⊥
       never is = absurd cc
 
-      by : (b : Bool) → cond b (persistent_at r.persistent h) (seen (at_place r.objects (place_of h.number))) ≡ Some o → cond b (persistent_at r.persistent h) (seen (at_place (with_object r.objects n new) (place_of h.number))) ≡ cond b (persistent_at r.persistent h) (seen (at_place r.objects (place_of h.number)))
+      by : (b : Bool) → cond b (persistent_at r.persistent h)
+          (seen (at_place r.objects (place_of h.number))) ≡ Some o
+          → cond b (persistent_at r.persistent h)
+          (seen (at_place (with_object r.objects n new) (place_of h.number)))
+          ≡ cond b (persistent_at r.persistent h) (seen (at_place r.objects (place_of h.number)))
       by true found = refl
       by false found =
           elim (cases_eq (place_of h.number) n) [
-            | inl here ↦ absurd (never (sym (ap seen (ap (at_place r.objects) here ∙ (lowest_free-free r.objects n free).1)) ∙ found))
+            | inl here ↦ absurd
+                (never
+                (sym
+                (ap seen (ap (at_place r.objects) here ∙ (lowest_free-free r.objects n free).1))
+                ∙ found))
             | inr apart ↦ ap seen (at_set-other r.objects n (place_of h.number) (Some new) apart)
           ]
 
-  placed_stays : (r : Record) (n : ℕ) (new o : Object) (h : Handle) → object_of r h ≡ Some o → lowest_free r.objects ≡ Some n → StaysOpen r (record r { objects = with_object r.objects n new }) h
+  placed_stays : (r : Record) (n : ℕ) (new o : Object) (h : Handle) → object_of r h ≡ Some o
+      → lowest_free r.objects ≡ Some n
+      → StaysOpen r (record r { objects = with_object r.objects n new }) h
   unfolding entity_at
   placed_stays r n new o h found free shown =
-      ap (λ (x : Option Object). entity_has_secret_value s h (cond (is_nv_index h) (option_map_or AnIndex (index_of r h) Permanent) (option_map_or AnObject x Permanent))) (placed_same r n new o h found free) ∙ shown
+      ap (λ (x : Option Object). entity_has_secret_value s h
+      (cond (is_nv_index h) (option_map_or AnIndex (index_of r h) Permanent)
+      (option_map_or AnObject x Permanent))) (placed_same r n new o h found free) ∙ shown
 
   -- ---- all commands
 
@@ -299,54 +371,95 @@ module _ (s : Secrecy) where
       ok_bind _ (sensitive_of o p.public p.private) _ (λ sensitive.
       ok_bind_is _ (place_for action.Sixth r) _ (λ n free. λ h first.
       let same : handle ≡ h = ok_is {E = Refused} handle h (sym named ∙ first) in
-      subst (StaysOpen r (record r { objects = with_object r.objects n (loaded_below o p.public sensitive) })) same
-      (placed_stays r n (loaded_below o p.public sensitive) o handle (some_is _ _ o found) (some_is _ _ n free)))))))))
+      subst (StaysOpen r
+      (record r { objects = with_object r.objects n (loaded_below o p.public sensitive) }))
+      same
+      (placed_stays r n (loaded_below o p.public sensitive) o handle (some_is _ _ o found)
+      (some_is _ _ n free)))))))))
 
-  numbers_stay : (r : Record) (c : CommandCode) (q : Request) → ((old new : Record) → Touches (part_of c) old new → new ≡ record old { nv = new.nv }) → IfOk (row_of r c q) (Numbered r q) → IfOk (row_of r c q) (FirstStays r q)
+  numbers_stay : (r : Record) (c : CommandCode) (q : Request)
+      → ((old new : Record) → Touches (part_of c) old new → new ≡ record old { nv = new.nv })
+      → IfOk (row_of r c q) (Numbered r q) → IfOk (row_of r c q) (FirstStays r q)
   numbers_stay r c q touched keeps =
       both (row_of r c q) keeps (row_touches r c q)
     where
-      both : (x : Result Success Refused) → IfOk x (Numbered r q) → IfOk x (λ y. Touches (part_of c) r y.after) → IfOk x (FirstStays r q)
+      both : (x : Result Success Refused) → IfOk x (Numbered r q)
+          → IfOk x (λ y. Touches (part_of c) r y.after) → IfOk x (FirstStays r q)
       both (Ok y) numbers touches = λ h first shown.
-          ap (λ (t : Record). has_secret_value s t h) (touched r y.after touches) ∙ numbers_same r y.after.nv numbers h ∙ shown
+          ap (λ (t : Record). has_secret_value s t h) (touched r y.after touches)
+          ∙ numbers_same r y.after.nv numbers h ∙ shown
       both (Err e) numbers touches = tt
 
-  any_success : (r : Record) (q : Request) (x : Result Success Refused) → ((y : Success) → FirstStays r q y) → IfOk x (FirstStays r q)
+  any_success : (r : Record) (q : Request) (x : Result Success Refused)
+      → ((y : Success) → FirstStays r q y) → IfOk x (FirstStays r q)
   any_success r q (Ok y) stays = stays y
   any_success r q (Err e) stays = tt
 
-  no_handles : (r : Record) (hs : List Handle) (h : Handle) → HandlesFit r [] hs → first_handle hs ≡ Ok h → ⊥
+  no_handles : (r : Record) (hs : List Handle) (h : Handle) → HandlesFit r [] hs
+      → first_handle hs ≡ Ok h → ⊥
   no_handles r [] h fits first = absurd cc
   no_handles r (k ∷ ks) h fits first = fits
 
-  others_stay : (r : Record) (c : CommandCode) (q : Request) → is_apart (part_of c) ≡ true → IfOk (row_of r c q) (FirstStays r q)
-  others_stay r c q apart = of_success _ r c q (λ x laws h first shown. apart_same (part_of c) r x.after apart laws.touches h ∙ shown)
+  others_stay : (r : Record) (c : CommandCode) (q : Request) → is_apart (part_of c) ≡ true
+      → IfOk (row_of r c q) (FirstStays r q)
+  others_stay r c q apart =
+      of_success _ r c q
+      (λ x laws h first shown. apart_same (part_of c) r x.after apart laws.touches h ∙ shown)
 
-  provision_stays : (c : CommandCode) (r : Record) (q : Request) (rules : List HandleRule) → HandlesFit r (user handle_kind.Provision ∷ rules) q.handles → IfOk (row_of r c q) (FirstStays r q)
-  provision_stays c r q rules fits = any_success r q (row_of r c q) (λ y h first. permanent_stays r y.after h (provision_permanent h (first_fits r (user handle_kind.Provision) rules q.handles h fits first).0))
+  provision_stays : (c : CommandCode) (r : Record) (q : Request) (rules : List HandleRule)
+      → HandlesFit r (user handle_kind.Provision ∷ rules) q.handles
+      → IfOk (row_of r c q) (FirstStays r q)
+  provision_stays c r q rules fits =
+      any_success r q (row_of r c q)
+      (λ y h first. permanent_stays r y.after h
+      (provision_permanent h
+      (first_fits r (user handle_kind.Provision) rules q.handles h fits first).0))
 
-  evict_stays : (r : Record) (q : Request) → HandlesFit r (shape_of command.EvictControl).handles q.handles → IfOk (row_of r command.EvictControl q) (FirstStays r q)
+  evict_stays : (r : Record) (q : Request)
+      → HandlesFit r (shape_of command.EvictControl).handles q.handles
+      → IfOk (row_of r command.EvictControl q) (FirstStays r q)
   unfolding shape_of
-  evict_stays r q fits = provision_stays command.EvictControl r q (unauthorized handle_kind.Object ∷ []) fits
+  evict_stays r q fits =
+      provision_stays command.EvictControl r q (rule_without_role handle_kind.Object ∷ []) fits
 
-  undefine_stays : (r : Record) (q : Request) → HandlesFit r (shape_of command.NvUndefineSpace).handles q.handles → IfOk (row_of r command.NvUndefineSpace q) (FirstStays r q)
+  undefine_stays : (r : Record) (q : Request)
+      → HandlesFit r (shape_of command.NvUndefineSpace).handles q.handles
+      → IfOk (row_of r command.NvUndefineSpace q) (FirstStays r q)
   unfolding shape_of
-  undefine_stays r q fits = provision_stays command.NvUndefineSpace r q (unauthorized handle_kind.NvIndex ∷ []) fits
+  undefine_stays r q fits =
+      provision_stays command.NvUndefineSpace r q (rule_without_role handle_kind.NvIndex ∷ []) fits
 
-  define_stays : (r : Record) (q : Request) → HandlesFit r (shape_of command.NvDefineSpace).handles q.handles → IfOk (row_of r command.NvDefineSpace q) (FirstStays r q)
+  define_stays : (r : Record) (q : Request)
+      → HandlesFit r (shape_of command.NvDefineSpace).handles q.handles
+      → IfOk (row_of r command.NvDefineSpace q) (FirstStays r q)
   unfolding shape_of
   define_stays r q fits = provision_stays command.NvDefineSpace r q [] fits
 
-  clear_stays : (r : Record) (q : Request) → HandlesFit r (shape_of command.Clear).handles q.handles → IfOk (row_of r command.Clear q) (FirstStays r q)
+  clear_stays : (r : Record) (q : Request) → HandlesFit r (shape_of command.Clear).handles q.handles
+      → IfOk (row_of r command.Clear q) (FirstStays r q)
   unfolding shape_of
-  clear_stays r q fits = any_success r q (row_of r command.Clear q) (λ y h first. permanent_stays r y.after h (clear_permanent h (first_fits r (user handle_kind.Clear) [] q.handles h fits first).0))
+  clear_stays r q fits =
+      any_success r q (row_of r command.Clear q)
+      (λ y h first. permanent_stays r y.after h
+      (clear_permanent h (first_fits r (user handle_kind.Clear) [] q.handles h fits first).0))
 
-  primary_stays : (r : Record) (q : Request) → HandlesFit r (shape_of command.CreatePrimary).handles q.handles → IfOk (row_of r command.CreatePrimary q) (FirstStays r q)
+  primary_stays : (r : Record) (q : Request)
+      → HandlesFit r (shape_of command.CreatePrimary).handles q.handles
+      → IfOk (row_of r command.CreatePrimary q) (FirstStays r q)
   unfolding shape_of
-  primary_stays r q fits = any_success r q (row_of r command.CreatePrimary q) (λ y h first. permanent_stays r y.after h (hierarchy_permanent h (first_fits r (user handle_kind.Hierarchy) [] q.handles h fits first).0))
+  primary_stays r q fits =
+      any_success r q (row_of r command.CreatePrimary q)
+      (λ y h first. permanent_stays r y.after h
+      (hierarchy_permanent h
+      (first_fits r (user handle_kind.Hierarchy) [] q.handles h fits first).0))
 
-  none_first : (c : CommandCode) (r : Record) (q : Request) → (shape_of c).handles ≡ [] → HandlesFit r (shape_of c).handles q.handles → IfOk (row_of r c q) (FirstStays r q)
-  none_first c r q none fits = any_success r q (row_of r c q) (λ y h first. absurd (no_handles r q.handles h (subst (λ (rules : List HandleRule). HandlesFit r rules q.handles) none fits) first))
+  none_first : (c : CommandCode) (r : Record) (q : Request) → (shape_of c).handles ≡ []
+      → HandlesFit r (shape_of c).handles q.handles → IfOk (row_of r c q) (FirstStays r q)
+  none_first c r q none fits =
+      any_success r q (row_of r c q)
+      (λ y h first. absurd
+      (no_handles r q.handles h
+      (subst (λ (rules : List HandleRule). HandlesFit r rules q.handles) none fits) first))
 
   startup_none : (shape_of command.Startup).handles ≡ []
   unfolding shape_of
@@ -362,22 +475,32 @@ module _ (s : Secrecy) where
   keeps_nv part.NvAuthValue = true
   keeps_nv _ = false
 
-  nv_stays : (c : CommandCode) (r : Record) (q : Request) → keeps_nv (part_of c) ≡ true → IfOk (row_of r c q) (FirstStays r q)
+  nv_stays : (c : CommandCode) (r : Record) (q : Request) → keeps_nv (part_of c) ≡ true
+      → IfOk (row_of r c q) (FirstStays r q)
   unfolding row_of
-  nv_stays command.NvSetBits r q is = numbers_stay r command.NvSetBits q (λ old new touches. touches) (nv_set_bits_numbers r q)
-  nv_stays command.NvExtend r q is = numbers_stay r command.NvExtend q (λ old new touches. touches) (nv_extend_numbers r q)
-  nv_stays command.NvWrite r q is = numbers_stay r command.NvWrite q (λ old new touches. touches) (nv_write_numbers r q)
-  nv_stays command.NvWriteLock r q is = numbers_stay r command.NvWriteLock q (λ old new touches. touches) (nv_write_lock_numbers r q)
-  nv_stays command.NvReadLock r q is = numbers_stay r command.NvReadLock q (λ old new touches. touches) (nv_read_lock_numbers r q)
-  nv_stays command.NvIncrement r q is = numbers_stay r command.NvIncrement q (λ old new touches. touches) (nv_increment_numbers r q)
-  nv_stays command.NvChangeAuth r q is = numbers_stay r command.NvChangeAuth q (λ old new touches. touches) (nv_change_auth_numbers r q)
+  nv_stays command.NvSetBits r q is =
+      numbers_stay r command.NvSetBits q (λ old new touches. touches) (nv_set_bits_numbers r q)
+  nv_stays command.NvExtend r q is =
+      numbers_stay r command.NvExtend q (λ old new touches. touches) (nv_extend_numbers r q)
+  nv_stays command.NvWrite r q is =
+      numbers_stay r command.NvWrite q (λ old new touches. touches) (nv_write_numbers r q)
+  nv_stays command.NvWriteLock r q is =
+      numbers_stay r command.NvWriteLock q (λ old new touches. touches) (nv_write_lock_numbers r q)
+  nv_stays command.NvReadLock r q is =
+      numbers_stay r command.NvReadLock q (λ old new touches. touches) (nv_read_lock_numbers r q)
+  nv_stays command.NvIncrement r q is =
+      numbers_stay r command.NvIncrement q (λ old new touches. touches) (nv_increment_numbers r q)
+  nv_stays command.NvChangeAuth r q is =
+      numbers_stay r command.NvChangeAuth q (λ old new touches. touches)
+      (nv_change_auth_numbers r q)
   nv_stays _ r q is = absurd (false≢true is)
 
   load_row_stays : (r : Record) (q : Request) → IfOk (row_of r command.Load q) (FirstStays r q)
   unfolding row_of
   load_row_stays r q = load_stays r q
 
-  pub first_stays : (c : CommandCode) (r : Record) (q : Request) → HandlesFit r (shape_of c).handles q.handles → IfOk (row_of r c q) (FirstStays r q)
+  pub first_stays : (c : CommandCode) (r : Record) (q : Request)
+      → HandlesFit r (shape_of c).handles q.handles → IfOk (row_of r c q) (FirstStays r q)
   first_stays command.EvictControl r q fits = evict_stays r q fits
   first_stays command.NvUndefineSpace r q fits = undefine_stays r q fits
   first_stays command.NvDefineSpace r q fits = define_stays r q fits

@@ -7,12 +7,12 @@ use Rattle.tpm_object.specs.Object.{is_keyed_hash}
 use Rattle.tpm_object.specs.declared.object.Object.{Object}
 use Rattle.tpm_record.specs.Entity.{object_of}
 use Rattle.tpm_record.specs.Record.{Record}
-use Rattle.tpm_record.specs.Tick.{ticked}
+use Rattle.tpm_record.specs.Tick.{after_tick}
 use Rattle.tpm_session.specs.Sessions.{session_at}
 use Rattle.tpm_session.specs.declared.session.Session.{Session}
 use Rattle.tpm_step.specs.step.Events.{Cycled, Given, Placed, PlainEvent}
 use Rattle.tpm_step.specs.step.Execution.{Executes}
-use Rattle.tpm_step.specs.step.Step.{Accepted, Stepped, accepted}
+use Rattle.tpm_step.specs.step.Step.{Accepted, Stepped, acceptance_in}
 use Rattle.tpm_types.specs.declared.handle.Handle.{Handle}
 use Rattle.tpm_types_command.specs.AuthEntry.{Entry}
 use Rattle.tpm_types_command.specs.Command.{Whole}
@@ -41,7 +41,7 @@ pub record AcceptsReading (objects : Public → Bool) (device : Record) (buffer 
     (locality : ℕ) (random : List ℕ) : Type 0
   where
     pub done : Accepted
-    pub is : accepted device buffer locality random ≡ Ok done
+    pub is : acceptance_in device buffer locality random ≡ Ok done
     pub handle : Handle
     pub first : slice_get done.command.handles 0 ≡ Some handle
     pub object : Object
@@ -55,7 +55,7 @@ pub record AcceptsReading (objects : Public → Bool) (device : Record) (buffer 
 
 abbrev pub IsAcceptedReading : (Public → Bool) → Record → PlainEvent → Type 0
 IsAcceptedReading objects r (Given buffer locality elapsed random) =
-    AcceptsReading objects (ticked r elapsed) buffer locality random
+    AcceptsReading objects (after_tick r elapsed) buffer locality random
 IsAcceptedReading objects r Cycled = ⊥
 IsAcceptedReading objects r (Placed object) = ⊥
 

@@ -5,7 +5,7 @@ use Rattle.std.specs.Option.{option_map_or}
 use Rattle.std.specs.Prelude.{Bool, Err, IfSome, List, None, Ok, Option, Result, Some, [], false, is_ok, option_map, slice_get, true, ℕ, ◌&&◌, ◌+◌, ◌||◌, ◌∷◌, ◌≡◌}
 use Rattle.tpm_auth.specs.Entries.{decrypts, encrypts, session_of}
 use Rattle.tpm_auth.specs.Grant.{authorized, grant, undemanding}
-use Rattle.tpm_auth.specs.SessionGrant.{demanded}
+use Rattle.tpm_auth.specs.SessionGrant.{demand_of_session}
 use Rattle.tpm_auth.specs.declared.session_grant.Grant.{Grant}
 use Rattle.tpm_policy.specs.declared.state.Demand.{Demand}
 use Rattle.tpm_record.specs.Entity.{name_of, protection_of}
@@ -98,7 +98,7 @@ session_guesses secrecy device command locality position None entry session =
     session_uses secrecy device session entry None
 session_guesses secrecy device command locality position (Some handle) entry session =
     demand_uses secrecy device handle session entry
-    (demanded device command locality position handle session)
+    (demand_of_session device command locality position handle session)
 
 abbrev pub guesses_by : SessionKind → Secrecy → Record → Whole → (locality position : ℕ)
     → Option Handle → Entry → Bool

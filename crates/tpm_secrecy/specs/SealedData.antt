@@ -14,7 +14,7 @@ use Rattle.tpm_step.specs.step.Events.{PlainEvent}
 use Rattle.tpm_step.specs.step.Execution.{Executes}
 use Rattle.tpm_step.specs.history.Executions.{Execution, Leads, history_after, with_execution}
 use Rattle.tpm_step.specs.history.Follows.{Follows}
-use Rattle.tpm_step.specs.history.History.{AcceptedCommand, Done, History, recorded}
+use Rattle.tpm_step.specs.history.History.{AcceptedCommand, Done, History, extended_history}
 use Rattle.tpm_step.specs.uses.PolicyReviews.{HavePcrValues, IsUsedBySession, by_pcrs}
 use Rattle.tpm_step.specs.uses.PolicyUses.{IsMetBy, ShowsAuthValue}
 use Rattle.tpm_step.specs.step.Step.{Stepped, Steps}
@@ -68,7 +68,7 @@ FollowedDataNeedPolicy =
     (objects : Public → Bool) (can : Bool) (old : Record) (history : History)
     → Follows old history → (event : PlainEvent) (x : Stepped) → Executes can old event x
     → TellsNothingSealed objects can old event x
-    ⊎ (c : AcceptedCommand) × (recorded old event x.row.check history ≡ Done c ∷ history)
+    ⊎ (c : AcceptedCommand) × (extended_history old event x.row.check history ≡ Done c ∷ history)
     × ReadsSealed objects history c
 
 -- After any executions since a device was manufactured, an execution reveals nothing about sealed
@@ -81,7 +81,7 @@ SealedDataNeedPolicy =
     → (event : PlainEvent) (x : Stepped) → Executes can old event x
     → let history : History = history_after [] executions in
     TellsNothingSealed objects can old event x
-    ⊎ (c : AcceptedCommand) × (recorded old event x.row.check history ≡ Done c ∷ history)
+    ⊎ (c : AcceptedCommand) × (extended_history old event x.row.check history ≡ Done c ∷ history)
     × ReadsSealed objects history c
 
 -- ---- executions before a command reads the data

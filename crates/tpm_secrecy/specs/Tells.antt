@@ -3,7 +3,7 @@ use Rattle.std.specs.Prelude.{Bool, Err, IfOk, List, Ok, Option, Result, [], fal
 use Rattle.tpm_auth.specs.Grant.{authorize}
 use Rattle.tpm_auth.specs.declared.session_grant.Grant.{Grant}
 use Rattle.tpm_record.specs.Record.{Record}
-use Rattle.tpm_record.specs.Tick.{ticked}
+use Rattle.tpm_record.specs.Tick.{after_tick}
 use Rattle.tpm_step.specs.step.Events.{Cycled, Given, Placed, PlainEvent}
 use Rattle.tpm_step.specs.history.Executions.{Execution, Leads, history_after}
 use Rattle.tpm_step.specs.step.General.{general}
@@ -45,7 +45,7 @@ decoded_reads secrecy device locality random (Err e) = false
 -- whether an event reads secret data; a power cycle does not, nor does placing an object
 abbrev pub is_reading : Secrecy → Record → PlainEvent → Bool
 is_reading s r (Given buffer locality elapsed random) =
-    decoded_reads s (ticked r elapsed) locality random (general (ticked r elapsed) buffer)
+    decoded_reads s (after_tick r elapsed) locality random (general (after_tick r elapsed) buffer)
 is_reading s r Cycled = false
 is_reading s r (Placed object) = false
 
@@ -148,8 +148,8 @@ pub record KeepsSecrets (secrecy : Secrecy) (device : Record) (command : Whole) 
 
 abbrev pub EventKeepsSecrets : Secrecy → Record → PlainEvent → Type 0
 EventKeepsSecrets s r (Given buffer locality elapsed random) =
-    IfOk (general (ticked r elapsed) buffer) (λ c.
-    KeepsSecrets s (ticked r elapsed) c locality random)
+    IfOk (general (after_tick r elapsed) buffer) (λ c.
+    KeepsSecrets s (after_tick r elapsed) c locality random)
 EventKeepsSecrets s r Cycled = Unit {0}
 EventKeepsSecrets s r (Placed object) = Unit {0}
 

@@ -41,9 +41,11 @@ unfolding padded
 padded_eq a b =
     same_bool _ _
     (λ e. (bytes_eq-Decides (trimmed a) (trimmed b)).1
-    (sym (trimmed_padded a) ∙ ap trimmed ((bytes_eq-Decides (padded a) (padded b)).0 e) ∙ trimmed_padded b))
+    (sym (trimmed_padded a) ∙ ap trimmed ((bytes_eq-Decides (padded a) (padded b)).0 e)
+    ∙ trimmed_padded b))
     (λ e. (bytes_eq-Decides (padded a) (padded b)).1
-    (ap (λ (t : List ℕ). t ++ replicate (32 - length t) 0) ((bytes_eq-Decides (trimmed a) (trimmed b)).0 e)))
+    (ap (λ (t : List ℕ). t ++ replicate (32 - length t) 0)
+    ((bytes_eq-Decides (trimmed a) (trimmed b)).0 e)))
 
 -- values of different lengths differ
 longer_differs : (a b : List ℕ) → length b < length a → bytes_eq a b ≡ false
@@ -60,5 +62,6 @@ by_size false test same differs is = is
 pub authorizes_by_value : AuthorizesByValue
 authorizes_by_value auth password sequence fits =
     by_size (nat_lt 32 (length (trimmed password))) _ _
-    (λ long. longer_differs (trimmed password) (trimmed auth) (omega (arith, fits, ltb-true 32 (length (trimmed password)) long)))
+    (λ long. longer_differs (trimmed password) (trimmed auth)
+    (omega (arith, fits, ltb-true 32 (length (trimmed password)) long)))
     (padded_eq password auth)

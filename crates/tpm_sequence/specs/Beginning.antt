@@ -19,6 +19,12 @@ unfoldable pub beginning_after : declared.Beginning → List ℕ → declared.Be
 beginning_after beginning [] = beginning
 beginning_after beginning (byte ∷ bytes) = beginning_after (byte_after beginning byte) bytes
 
+-- whether the beginning stays the same, whatever bytes follow
+abbrev pub is_decided : declared.Beginning → Bool
+is_decided Generated = true
+is_decided Ordinary = true
+is_decided _ = false
+
 -- whether the data begin with TPM_GENERATED_VALUE
 abbrev pub is_generated : declared.Beginning → Bool
 is_generated Generated = true

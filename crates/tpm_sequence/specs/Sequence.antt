@@ -4,7 +4,7 @@ use Rattle.std.specs.Prelude.{ℕ, List, [], ◌∷◌}
 use Rattle.tpm_mac.specs.declared.algorithm.HashAlg.{HashAlg}
 use Rattle.tpm_mac.specs.declared.algorithm.HashAlg.TheVariants as alg
 use Rattle.tpm_hash_state.specs.Hmac.{hmac_absorbed, hmac_digest, hmac_state}
-use Rattle.tpm_hash_state.specs.State.{absorbed, empty_state, state_digest}
+use Rattle.tpm_hash_state.specs.State.{empty_state, state_after_bytes, state_digest}
 use Rattle.tpm_sequence.specs.Authorization.{padded}
 use Rattle.tpm_sequence.specs.Beginning.{beginning_after}
 use Rattle.tpm_sequence.specs.declared.beginning.Beginning.TheVariants.{Empty}
@@ -27,8 +27,9 @@ hmac_sequence hash key = Hmac (hmac_state hash key)
 -- the sequence after these bytes were appended to its data
 abbrev pub sequence_updated : declared.Sequence → List ℕ → declared.Sequence
 sequence_updated (Hash state beginning) bytes =
-    Hash (absorbed state bytes) (beginning_after beginning bytes)
-sequence_updated (Event sha1 sha256) bytes = Event (absorbed sha1 bytes) (absorbed sha256 bytes)
+    Hash (state_after_bytes state bytes) (beginning_after beginning bytes)
+sequence_updated (Event sha1 sha256) bytes =
+    Event (state_after_bytes sha1 bytes) (state_after_bytes sha256 bytes)
 sequence_updated (Hmac state) bytes = Hmac (hmac_absorbed state bytes)
 
 -- the sequence after these parts were appended to its data, one after another

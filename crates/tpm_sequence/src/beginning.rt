@@ -1,7 +1,7 @@
 //! How the data of a hash sequence begin.
 
 ghost use Rattle.std.specs.Prelude.{◌≡◌};
-ghost use Rattle.tpm_sequence.specs.Beginning.{beginning_after, byte_after, is_generated};
+ghost use Rattle.tpm_sequence.specs.Beginning.{beginning_after, byte_after, is_decided, is_generated};
 
 /// How the data so far begin, compared with TPM_GENERATED_VALUE (ff 54 43 47; Part 2, section 6.2).
 #[derive(Clone, Copy, PartialEq, Eq)]
@@ -27,9 +27,22 @@ impl Beginning {
     {
         let mut beginning = self;
         for byte in bytes {
+            if beginning.is_decided() {
+                return beginning;
+            }
             beginning = beginning.after_byte(*byte);
         }
         beginning
+    }
+
+    /// Whether the beginning stays the same, whatever bytes follow.
+    fn is_decided(self) -> bool
+        ensures { result ≡ is_decided self }
+    {
+        match self {
+            Beginning::Generated | Beginning::Ordinary => true,
+            _ => false,
+        }
     }
 
     /// How the data begin after one more byte is appended.

@@ -3,7 +3,7 @@
 use Rattle.std.proofs.Common.{◌≡◌, ℕ, ◌^◌, ◌<◌, Option, Some, None, refl, arith}
 use Rattle.std.specs.Int.{w8, to_be_bytes}
 use Rattle.tpm_image_text.proofs.FieldSpelling.{names_spelled}
-use Rattle.tpm_image_text.specs.Fields.{malformed}
+use Rattle.tpm_image_text.specs.Fields.{malformed_fault}
 use Rattle.tpm_bytes.proofs.Fields.{wide8}
 use Rattle.tpm_sequence.specs.declared.beginning.Beginning.{Beginning}
 use Rattle.tpm_sequence.specs.declared.beginning.Beginning.TheVariants as begun
@@ -15,7 +15,8 @@ use Rattle.tpm_sequence_text.specs.declared.kind.SequenceKind.TheVariants as kin
 
 -- ---- the kind of a sequence
 
-kind_is : (number : ℕ) (x : Option SequenceKind) → kind_named number ≡ Some x → number ≡ kind_number x
+kind_is : (number : ℕ) (x : Option SequenceKind) → kind_named number ≡ Some x
+    → number ≡ kind_number x
 kind_is number x =
     link kind_number number None _ x
     λ a. link kind_number number (Some kind.Hash) _ a
@@ -36,11 +37,13 @@ kind_small (Some kind.Hmac) = omega arith
 
 pub kind_spelled : Spelled (λ x. to_be_bytes w8 (kind_number x)) (λ x. Unit {0}) kind_in
 unfolding kind_in
-kind_spelled = names_spelled w8 (2 ^ 8) wide8 kind_number kind_named malformed malformed kind_is kind_again kind_small
+kind_spelled = names_spelled w8 (2 ^ 8) wide8 kind_number kind_named malformed_fault malformed_fault
+    kind_is kind_again kind_small
 
 -- ---- how the data of a hash sequence begin
 
-beginning_is : (number : ℕ) (x : Beginning) → beginning_named number ≡ Some x → number ≡ beginning_number x
+beginning_is : (number : ℕ) (x : Beginning) → beginning_named number ≡ Some x
+    → number ≡ beginning_number x
 beginning_is number x =
     link beginning_number number begun.Empty _ x
     λ a. link beginning_number number begun.One _ a
@@ -65,7 +68,9 @@ beginning_small begun.Three = omega arith
 beginning_small begun.Generated = omega arith
 beginning_small begun.Ordinary = omega arith
 
-pub beginning_spelled : Spelled (λ x. to_be_bytes w8 (beginning_number x)) (λ x. Unit {0}) beginning_in
+pub beginning_spelled : Spelled (λ x. to_be_bytes w8 (beginning_number x)) (λ x. Unit {0})
+    beginning_in
 unfolding beginning_in
 beginning_spelled =
-    names_spelled w8 (2 ^ 8) wide8 beginning_number beginning_named malformed malformed beginning_is beginning_again beginning_small
+    names_spelled w8 (2 ^ 8) wide8 beginning_number beginning_named malformed_fault malformed_fault
+    beginning_is beginning_again beginning_small

@@ -27,34 +27,73 @@ length-words (word ∷ words) =
 value_small : (value : ChainingValue) → IsValue value → length (value_text value) ≤ value_size
 unfolding value_text
 value_small (Sha1 words) is =
-    omega (arith, is.0, length-words words, length-append (to_be_bytes w16 (hash_number (value_alg (Sha1 words)))) (words_text (Sha1 words)))
+    omega (
+      arith,
+      is.0,
+      length-words words,
+      length-append (to_be_bytes w16 (hash_number (value_alg (Sha1 words))))
+          (words_text (Sha1 words)),
+    )
 value_small (Sha256 words) is =
-    omega (arith, is.0, length-words words, length-append (to_be_bytes w16 (hash_number (value_alg (Sha256 words)))) (words_text (Sha256 words)))
+    omega (
+      arith,
+      is.0,
+      length-words words,
+      length-append (to_be_bytes w16 (hash_number (value_alg (Sha256 words))))
+          (words_text (Sha256 words)),
+    )
 
-hash_state_small : (state : HashState) → IsHashState state → length (hash_state_text state) ≤ hash_state_size
+hash_state_small : (state : HashState) → IsHashState state
+    → length (hash_state_text state) ≤ hash_state_size
 unfolding hash_state_text
 hash_state_small state is =
     let value = value_small state.chaining is.value in
     let block = is.block in
     let front = length-append (value_text state.chaining) state.block in
-    let whole = length-append (value_text state.chaining ++ state.block) (to_be_bytes w64 state.length) in
+    let whole = length-append (value_text state.chaining ++ state.block)
+    (to_be_bytes w64 state.length) in
     omega (arith, value, block, front, whole)
 
-sequence_small : (sequence : Sequence) → IsSequence sequence → length (sequence_text sequence) ≤ sequence_size
+sequence_small : (sequence : Sequence) → IsSequence sequence
+    → length (sequence_text sequence) ≤ sequence_size
 sequence_small (Hash state beginning) is =
-    omega (arith, hash_state_small state is, length-append (hash_state_text state) (to_be_bytes w8 (beginning_number beginning)))
+    omega (
+      arith,
+      hash_state_small state is,
+      length-append (hash_state_text state) (to_be_bytes w8 (beginning_number beginning)),
+    )
 sequence_small (Event sha1 sha256) is =
-    omega (arith, hash_state_small sha1 is.0, hash_state_small sha256 is.1, length-append (hash_state_text sha1) (hash_state_text sha256))
+    omega (
+      arith,
+      hash_state_small sha1 is.0,
+      hash_state_small sha256 is.1,
+      length-append (hash_state_text sha1) (hash_state_text sha256),
+    )
 sequence_small (Hmac state) is =
-    omega (arith, hash_state_small state.inner is.0, hash_state_small state.outer is.1, length-append (hash_state_text state.inner) (hash_state_text state.outer))
+    omega (
+      arith,
+      hash_state_small state.inner is.0,
+      hash_state_small state.outer is.1,
+      length-append (hash_state_text state.inner) (hash_state_text state.outer),
+    )
 
 object_small : (object : SequenceObject) → IsSequenceObject object
     → length (object.auth ++ sequence_text object.sequence) ≤ 32 + sequence_size
 object_small object is =
-    omega (arith, is.auth, sequence_small object.sequence is.sequence, length-append object.auth (sequence_text object.sequence))
+    omega (
+      arith,
+      is.auth,
+      sequence_small object.sequence is.sequence,
+      length-append object.auth (sequence_text object.sequence),
+    )
 
 pub stays_small : StaysSmall
 unfolding slot_text
 stays_small None is = omega arith
 stays_small (Some object) is =
-    omega (arith, object_small object is, length-append (to_be_bytes w8 (kind_number (slot_kind (Some object)))) (object.auth ++ sequence_text object.sequence))
+    omega (
+      arith,
+      object_small object is,
+      length-append (to_be_bytes w8 (kind_number (slot_kind (Some object))))
+          (object.auth ++ sequence_text object.sequence),
+    )

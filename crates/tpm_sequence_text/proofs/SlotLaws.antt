@@ -44,7 +44,8 @@ hmac_from (Hash state beginning) is = absurd cc
 hmac_from (Event sha1 sha256) is = absurd cc
 hmac_from (Hmac state) is = ((state.inner, state.outer), refl, is.0)
 
-sequence_spelled : (kind : SequenceKind) → Spelled sequence_text (IsSequenceOf kind) (sequence_in kind)
+sequence_spelled : (kind : SequenceKind)
+    → Spelled sequence_text (IsSequenceOf kind) (sequence_in kind)
 unfolding hash_in event_in hmac_in
 sequence_spelled kind.Hash =
     made_from (λ (p : HashState × Beginning). Hash p.0 p.1) sequence_text (IsSequenceOf kind.Hash)
@@ -87,21 +88,25 @@ some_same : {X : Type 0} (x y : X) → (let one : Option X = Some x in one ≡ S
 some_same x y e = cc
 
 slot_from : (kind : SequenceKind) (slot : Option SequenceObject) → IsSlotOf (Some kind) slot
-    → (object : SequenceObject) × ((let one : Option SequenceObject = Some object in one) ≡ slot) × IsObjectOf kind object
+    → (object : SequenceObject) × ((let one : Option SequenceObject = Some object in one) ≡ slot)
+    × IsObjectOf kind object
 slot_from kind None is = absurd cc
 slot_from kind (Some object) is = (object, refl, (is.0, some_same _ _ is.1))
 
-contents_spelled : (kind : Option SequenceKind) → Spelled contents_text (IsSlotOf kind) (contents_in kind)
+contents_spelled : (kind : Option SequenceKind)
+    → Spelled contents_text (IsSlotOf kind) (contents_in kind)
 contents_spelled None = only None refl (tt, refl) is_free
 contents_spelled (Some kind) =
-    made_from (λ (object : SequenceObject). let one : Option SequenceObject = Some object in one) contents_text (IsSlotOf (Some kind))
+    made_from (λ (object : SequenceObject). let one : Option SequenceObject = Some object in one)
+    contents_text (IsSlotOf (Some kind))
     (λ object is. (is.0, ap Some is.1)) (λ object. refl) (slot_from kind) (object_spelled kind)
 
 -- decoding a slot is exact (`Spelled`)
 pub slot_spelled : Spelled slot_text IsSlot slot_in
 unfolding slot_in slot_text
 slot_spelled =
-    respelled (first kind_spelled (for_each slot_kind contents_text IsSlot contents_in contents_spelled))
+    respelled
+    (first kind_spelled (for_each slot_kind contents_text IsSlot contents_in contents_spelled))
     (λ slot. refl) (λ slot is. is.1) (λ slot is. (tt, is))
 
 pub reads_again : ReadsAgain

@@ -25,9 +25,11 @@ module _ {A E : Type 0} (at : List ℕ → Result (A × List ℕ) E) (count : �
   left_more place things thing text rest below size is =
       ap (λ (front : List A). behind front (many_at at (count - (place + 1)) rest))
       (take_more_set things place thing (omega (arith, below, size)))
-      ∙ one_more_read at (take place things) (count - place) (count - (place + 1)) thing text rest (omega (arith, below)) is
+      ∙ one_more_read at (take place things) (count - place) (count - (place + 1)) thing text rest
+      (omega (arith, below)) is
 
-  pub left_done : (place : ℕ) (things : List A) (text : List ℕ) → place ≡ count → length things ≡ count
+  pub left_done : (place : ℕ) (things : List A) (text : List ℕ) → place ≡ count
+      → length things ≡ count
       → left place things text ≡ Ok (things, text)
   unfolding left
   left_done place things text whole size =
@@ -36,10 +38,12 @@ module _ {A E : Type 0} (at : List ℕ → Result (A × List ℕ) E) (count : �
       ∙ ap (λ (l : List A). let done : Result (List A × List ℕ) E = Ok (l, text) in done)
       (append-nil (take place things) ∙ take_all place things (omega (arith, whole, size)))
 
-  pub left_cut : (place : ℕ) (things : List A) (fault : E) (text : List ℕ) → place < count → at text ≡ Err fault
+  pub left_cut : (place : ℕ) (things : List A) (fault : E) (text : List ℕ) → place < count
+      → at text ≡ Err fault
       → left place things text ≡ Err fault
   unfolding left
   left_cut place things fault text below is =
-      none_more at (take place things) (count - place) (count - (place + 1)) fault text (omega (arith, below)) is
+      none_more at (take place things) (count - place) (count - (place + 1)) fault text
+      (omega (arith, below)) is
 
 pub ruleset left_laws = (left_begun, left_more, left_done, left_cut)

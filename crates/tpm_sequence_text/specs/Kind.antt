@@ -2,7 +2,7 @@
 use Rattle.std.specs.Prelude.{ℕ, ◌==◌, List, if◌then◌else◌, ok_or, Option, Some, None, Result, Ok}
 use Rattle.std.specs.Int.{w8}
 use Rattle.tpm_bytes.specs.Reading.{◌>>=◌}
-use Rattle.tpm_image_text.specs.Fields.{malformed, number_in}
+use Rattle.tpm_image_text.specs.Fields.{malformed_fault, number_in}
 use Rattle.tpm_image_text.specs.declared.fault.Malformed.{Malformed}
 use Rattle.tpm_sequence.specs.declared.beginning.Beginning.{Beginning}
 use Rattle.tpm_sequence.specs.declared.beginning.Beginning.TheVariants as begun
@@ -42,7 +42,7 @@ kind_named number =
 unfoldable pub kind_in : List ℕ → Result (Option SequenceKind × List ℕ) Malformed
 kind_in text = do
   number ← number_in w8 text
-  one ← ok_or (kind_named number.0) malformed
+  one ← ok_or (kind_named number.0) malformed_fault
   Ok (one, number.1)
 
 -- ---- how the data of a hash sequence begin
@@ -68,5 +68,5 @@ beginning_named number =
 unfoldable pub beginning_in : List ℕ → Result (Beginning × List ℕ) Malformed
 beginning_in text = do
   number ← number_in w8 text
-  one ← ok_or (beginning_named number.0) malformed
+  one ← ok_or (beginning_named number.0) malformed_fault
   Ok (one, number.1)

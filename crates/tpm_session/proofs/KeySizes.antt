@@ -14,12 +14,17 @@ front : (n : ℕ) (block : List ℕ) → length block ≡ n → length (take n (
 front n block is = rw append-nil (omega (arith, is, length-take n block))
 
 -- a session key that KDFa derives is as long as a digest, since KDFa derives it from a single block
-derived : (hash : HashAlg) (key label context_u context_v : List ℕ) → length (kdfa_of hash key label context_u context_v (digest_size hash)) ≡ digest_size hash
+derived : (hash : HashAlg) (key label context_u context_v : List ℕ)
+    → length (kdfa_of hash key label context_u context_v (digest_size hash)) ≡ digest_size hash
 unfolding kdfa_of
-derived Sha1 key label context_u context_v = front 20 (hmac_of Sha1 key _) (length-hmac_of Sha1 key _)
-derived Sha256 key label context_u context_v = front 32 (hmac_of Sha256 key _) (length-hmac_of Sha256 key _)
+derived Sha1 key label context_u context_v =
+    front 20 (hmac_of Sha1 key _) (length-hmac_of Sha1 key _)
+derived Sha256 key label context_u context_v =
+    front 32 (hmac_of Sha256 key _) (length-hmac_of Sha256 key _)
 
-pub key_sized : (hash : HashAlg) (binding : Option Binding) (nonce_tpm nonce_caller : List ℕ) → length (session_key hash binding nonce_tpm nonce_caller) ≡ key_size hash binding
+pub key_sized : (hash : HashAlg) (binding : Option Binding) (nonce_tpm nonce_caller : List ℕ)
+    → length (session_key hash binding nonce_tpm nonce_caller) ≡ key_size hash binding
 unfolding session_key
 key_sized hash None nonce_tpm nonce_caller = refl
-key_sized hash (Some binding) nonce_tpm nonce_caller = derived hash binding.auth_value _ nonce_tpm nonce_caller
+key_sized hash (Some binding) nonce_tpm nonce_caller =
+    derived hash binding.auth_value _ nonce_tpm nonce_caller

@@ -3,7 +3,7 @@ use Rattle.std.proofs.Common.{◌≡◌, ◌≤◌, ℕ, List, [], ◌∷◌, ap
 use Rattle.std.specs.Int.Bits.{xor_assoc, xor_self, xor_zero_r}
 use Rattle.tpm_aes.specs.Cipher.{xor_of}
 use Rattle.tpm_mac.specs.Kdf.{kdfa_of}
-use Rattle.tpm_session.specs.Encryption.{mask_bytes, masked}
+use Rattle.tpm_session.specs.Encryption.{mask_bytes, masked_parameter}
 use Rattle.tpm_session.specs.declared.session.Session.{Session}
 
 xor_twice : (x y : ℕ) → bit_xor (bit_xor x y) y ≡ x
@@ -17,10 +17,15 @@ length-xored (x ∷ xs) (y ∷ ys) fits = omega (arith, length-xored xs ys (omeg
 off : (xs ys : List ℕ) → length xs ≤ length ys → xor_of (xor_of xs ys) ys ≡ xs
 off [] ys fits = refl
 off (x ∷ xs) [] fits = absurd (omega arith)
-off (x ∷ xs) (y ∷ ys) fits = ap₂ (λ (b : ℕ) (bs : List ℕ). b ∷ bs) (xor_twice x y) (off xs ys (omega arith))
+off (x ∷ xs) (y ∷ ys) fits =
+    ap₂ (λ (b : ℕ) (bs : List ℕ). b ∷ bs) (xor_twice x y) (off xs ys (omega arith))
 
-pub unmasked : (session : Session) (auth_value newer older bytes : List ℕ) → length (mask_bytes session auth_value newer older (length bytes)) ≡ length bytes → masked session auth_value newer older (masked session auth_value newer older bytes) ≡ bytes
+pub unmasked : (session : Session) (auth_value newer older bytes : List ℕ)
+    → length (mask_bytes session auth_value newer older (length bytes)) ≡ length bytes
+    → masked_parameter session auth_value newer older
+    (masked_parameter session auth_value newer older bytes) ≡ bytes
 unmasked session auth_value newer older bytes size =
     let mask : List ℕ = mask_bytes session auth_value newer older (length bytes) in
-    ap (λ (n : ℕ). xor_of (xor_of bytes mask) (mask_bytes session auth_value newer older n)) (length-xored bytes mask (omega (arith, size)))
+    ap (λ (n : ℕ). xor_of (xor_of bytes mask) (mask_bytes session auth_value newer older n))
+    (length-xored bytes mask (omega (arith, size)))
     ∙ off bytes mask (omega (arith, size))

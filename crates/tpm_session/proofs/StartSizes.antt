@@ -11,6 +11,13 @@ use Rattle.tpm_session.specs.Sessions.{new_session}
 use Rattle.tpm_session.specs.declared.session.Binding.{Binding}
 use Rattle.tpm_session.proofs.KeySizes.{key_sized}
 
-pub started_sizes : (kind : SessionType) (hash : HashAlg) (symmetric : SymmetricDefinition) (binding : Option Binding) (nonce_tpm nonce_caller : List ℕ) → is_nonce_size hash (length nonce_tpm) ≡ true → has_hash_sizes (new_session kind hash symmetric binding nonce_tpm nonce_caller) ≡ true
+pub started_sizes : (kind : SessionType) (hash : HashAlg) (symmetric : SymmetricDefinition)
+    (binding : Option Binding) (nonce_tpm nonce_caller : List ℕ)
+    → is_nonce_size hash (length nonce_tpm) ≡ true
+    → has_hash_sizes (new_session kind hash symmetric binding nonce_tpm nonce_caller) ≡ true
 started_sizes kind hash symmetric binding nonce_tpm nonce_caller is =
-    rw (is, eq-eqb _ _ (key_sized hash binding nonce_tpm nonce_caller), eq-eqb _ _ (starting_sized hash)) refl
+    rw (
+      is,
+      eq-eqb _ _ (key_sized hash binding nonce_tpm nonce_caller),
+      eq-eqb _ _ (starting_sized hash),
+    ) refl

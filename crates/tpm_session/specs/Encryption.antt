@@ -37,8 +37,8 @@ mask_bytes session auth_value newer older size =
     kdfa_of session.hash (session.key ++ auth_value) mask_label newer older size
 
 -- a parameter with its mask applied; applying the mask twice restores the parameter
-abbrev pub masked : Session → (auth_value newer older bytes : List ℕ) → List ℕ
-masked session auth_value newer older bytes =
+abbrev pub masked_parameter : Session → (auth_value newer older bytes : List ℕ) → List ℕ
+masked_parameter session auth_value newer older bytes =
     xor_of bytes (mask_bytes session auth_value newer older (length bytes))
 
 abbrev encrypted_by : SymmetricDefinition → Session → (auth_value newer older plain : List ℕ)
@@ -48,7 +48,7 @@ encrypted_by Aes128Cfb session auth_value newer older plain =
     let bytes : List ℕ = cipher_bytes session auth_value newer older in
     cfb_encrypt_of (cipher_key bytes) (cipher_iv bytes) plain
 encrypted_by (Xor hash) session auth_value newer older plain =
-    masked session auth_value newer older plain
+    masked_parameter session auth_value newer older plain
 
 abbrev decrypted_by : SymmetricDefinition → Session → (auth_value newer older cipher : List ℕ)
     → List ℕ
@@ -57,7 +57,7 @@ decrypted_by Aes128Cfb session auth_value newer older cipher =
     let bytes : List ℕ = cipher_bytes session auth_value newer older in
     cfb_decrypt_of (cipher_key bytes) (cipher_iv bytes) cipher
 decrypted_by (Xor hash) session auth_value newer older cipher =
-    masked session auth_value newer older cipher
+    masked_parameter session auth_value newer older cipher
 
 -- the encrypted bytes of a parameter; unchanged if the session has no symmetric algorithm
 unfoldable pub encrypted_parameter : Session → (auth_value newer older plain : List ℕ) → List ℕ

@@ -5,7 +5,7 @@ ghost use Rattle.std.specs.Prelude.{◌≡◌, ◌≤◌, ◌↔◌, false, IsOk
 ghost use Rattle.tpm_types.specs.Limits.{buffer_limit};
 ghost use Rattle.tpm_types.specs.Symmetric.{is_null};
 ghost use Rattle.tpm_session.specs.Encryption.{cipher_bytes, cipher_iv, cipher_key, cipher_label};
-ghost use Rattle.tpm_session.specs.Encryption.{encrypted_parameter, mask_bytes, masked, plain_parameter};
+ghost use Rattle.tpm_session.specs.Encryption.{encrypted_parameter, mask_bytes, masked_parameter, plain_parameter};
 
 use crate::session::Session;
 use tpm_aes::{Aes128, xor_with};
@@ -76,7 +76,7 @@ impl Session {
         requires auth_value { length auth_value.now ≤ 32 }
         requires size { length bytes.old ≤ buffer_limit }
         ensures value { bytes.new
-            ≡ masked self.now auth_value.now newer.now older.now bytes.old }
+            ≡ masked_parameter self.now auth_value.now newer.now older.now bytes.old }
         // The mask is as long as the parameter.
         ensures whole { length
             (mask_bytes self.now auth_value.now newer.now older.now (length bytes.old))

@@ -7,7 +7,7 @@ ghost use Rattle.tpm_containers.specs.Slots.{AreAll, Puts, at_place, free};
 ghost use Rattle.tpm_mac.specs.Digest.{digest_size};
 ghost use Rattle.tpm_session.specs.Key.{is_nonce_size};
 ghost use Rattle.tpm_session.specs.Session.{IsSession};
-ghost use Rattle.tpm_session.specs.Sessions.{Starts, flushed, handle_of, places_of, rolled, session_at, started_session, with_session_policy};
+ghost use Rattle.tpm_session.specs.Sessions.{Starts, handle_of, places_of, session_at, sessions_after_roll, slots_without_session, started_session, with_session_policy};
 
 use crate::key::{SessionKey, is_nonce_size};
 use crate::nonce::Nonce;
@@ -134,10 +134,11 @@ impl<S: Slots<Session, SESSION_LIMIT>> Sessions<S> {
     }
 
     /// Ends the session with this handle; returns whether it existed.
-    #[tactic(auto, unfolding(crate::specs::Sessions::flushed, crate::specs::Sessions::session_at))]
+    #[tactic(auto, unfolding(crate::specs::Sessions::slots_without_session, crate::specs::Sessions::session_at))]
     pub fn flush(&mut self, handle: Handle) -> bool
         ensures there { result ≡ is_some (session_at (places_of S.places self.old) handle) }
-        ensures after { places_of S.places self.new ≡ flushed (places_of S.places self.old) handle }
+        ensures after { places_of S.places self.new
+            ≡ slots_without_session (places_of S.places self.old) handle }
     {
         numbered::remove(&mut self.slots, handle.number)
     }
@@ -151,13 +152,13 @@ impl<S: Slots<Session, SESSION_LIMIT>> Sessions<S> {
 
     /// Replaces the nonceTPM of the session with this handle by a nonce of the same size; returns
     /// whether the session existed.
-    #[tactic(auto, unfolding(crate::specs::Sessions::rolled, crate::specs::Sessions::session_at))]
+    #[tactic(auto, unfolding(crate::specs::Sessions::sessions_after_roll, crate::specs::Sessions::session_at))]
     pub fn roll(&mut self, handle: Handle, nonce: Nonce) -> bool
         requires { IfSome (session_at (places_of S.places self.old) handle)
             (λ session. length nonce ≡ length session.nonce_tpm) }
         ensures there { result ≡ is_some (session_at (places_of S.places self.old) handle) }
         ensures after { places_of S.places self.new
-            ≡ rolled (places_of S.places self.old) handle nonce }
+            ≡ sessions_after_roll (places_of S.places self.old) handle nonce }
     {
         match numbered::get_mut(&mut self.slots, handle.number) {
             Some(session) => {

@@ -19,32 +19,45 @@ abbrev Had : List (List ℕ) → Option LiveSession → Type 0
 Had nonces None = Unit {0}
 Had nonces (Some s) = s.earlier_nonces ≡ nonces
 
-used_had : (kind : SessionType) (s : LiveSession) → (used_by kind s).earlier_nonces ≡ s.earlier_nonces
+used_had : (kind : SessionType) (s : LiveSession)
+    → (used_by kind s).earlier_nonces ≡ s.earlier_nonces
 used_had type.Hmac s = refl
 used_had type.Policy s = refl
 used_had type.Trial s = refl
 
-map_had : (nonces : List (List ℕ)) (found : Option LiveSession) → Had nonces found → Had nonces (option_map used_session found)
+map_had : (nonces : List (List ℕ)) (found : Option LiveSession) → Had nonces found
+    → Had nonces (option_map used_session found)
 map_had nonces None had = tt
 map_had nonces (Some s) had = used_had s.kind s ∙ had
 
-end_had : (nonces : List (List ℕ)) (live : LiveSessions) (e : Entry) (grant : Option Grant) → Had nonces (live e.session) → Had nonces (entry_ended live e grant e.session)
+end_had : (nonces : List (List ℕ)) (live : LiveSessions) (e : Entry) (grant : Option Grant)
+    → Had nonces (live e.session) → Had nonces (entry_ended live e grant e.session)
 end_had nonces live e grant had = by (continues_session e.attributes) (is_some grant)
   where
-    by : (continues grants : Bool) → Had nonces (cond continues (cond grants (changed_session used_session e.session live) live) (without_session e.session live) e.session)
-    by true true = subst (Had nonces) (sym (at_same e.session e.session (option_map used_session (live e.session)) live refl)) (map_had nonces (live e.session) had)
+    by : (continues grants : Bool)
+        → Had nonces
+        (cond continues (cond grants (changed_session used_session e.session live) live)
+        (without_session e.session live) e.session)
+    by true true =
+        subst (Had nonces)
+        (sym (at_same e.session e.session (option_map used_session (live e.session)) live refl))
+        (map_had nonces (live e.session) had)
     by true false = had
     by false grants = subst (Had nonces) (sym (at_same e.session e.session None live refl)) tt
 
-ends_had : (nonces : List (List ℕ)) (live : LiveSessions) (e : Entry) (grants : List (Option Grant)) → Had nonces (live e.session) → Had nonces (entries_ended live (zip (e ∷ []) grants) e.session)
+ends_had : (nonces : List (List ℕ)) (live : LiveSessions) (e : Entry) (grants : List (Option Grant))
+    → Had nonces (live e.session) → Had nonces (entries_ended live (zip (e ∷ []) grants) e.session)
 ends_had nonces live e [] had = had
 ends_had nonces live e (g ∷ grants) had = end_had nonces live e g had
 
-rolled_had : (live : LiveSessions) (e : Entry) (left : List ℕ) (old : LiveSession) → live e.session ≡ Some old → Had (old.nonce_tpm ∷ old.earlier_nonces) ((entry_rolled live e left).sessions e.session)
+rolled_had : (live : LiveSessions) (e : Entry) (left : List ℕ) (old : LiveSession)
+    → live e.session ≡ Some old
+    → Had (old.nonce_tpm ∷ old.earlier_nonces) ((entry_rolled live e left).sessions e.session)
 rolled_had live e left old lives =
     let nonce : List ℕ = take (nonce_size (live e.session)) left in
     subst (Had (old.nonce_tpm ∷ old.earlier_nonces))
-    (sym (at_same e.session e.session (option_map (with_nonce nonce) (live e.session)) live refl ∙ ap (option_map (with_nonce nonce)) lives))
+    (sym (at_same e.session e.session (option_map (with_nonce nonce) (live e.session)) live
+    refl ∙ ap (option_map (with_nonce nonce)) lives))
     refl
 
 module _ (history : History) (c : AcceptedCommand) where
@@ -57,13 +70,18 @@ module _ (history : History) (c : AcceptedCommand) where
   -- The entries `es` change or end their sessions. If the session of entry `e` still exists after
   -- that, its earlier nonces are `nonces`.
   abbrev Ended : (nonces : List (List ℕ)) → Entry → List Entry → Type 0
-  Ended nonces e es = Had nonces (entries_ended (entries_rolled effect es left).sessions (zip es c.grants) e.session)
+  Ended nonces e es =
+      Had nonces (entries_ended (entries_rolled effect es left).sessions (zip es c.grants)
+      e.session)
 
-  one_entry : (e : Entry) (old : LiveSession) → effect e.session ≡ Some old → Ended (old.nonce_tpm ∷ old.earlier_nonces) e (e ∷ [])
+  one_entry : (e : Entry) (old : LiveSession) → effect e.session ≡ Some old
+      → Ended (old.nonce_tpm ∷ old.earlier_nonces) e (e ∷ [])
   one_entry e old lives =
-      ends_had (old.nonce_tpm ∷ old.earlier_nonces) (entry_rolled effect e left).sessions e c.grants (rolled_had effect e left old lives)
+      ends_had (old.nonce_tpm ∷ old.earlier_nonces) (entry_rolled effect e left).sessions e c.grants
+      (rolled_had effect e left old lives)
 
 pub adds_its_nonce : AddsItsNonce
 adds_its_nonce history c e old new entries lives is =
     let nonces : List (List ℕ) = old.nonce_tpm ∷ old.earlier_nonces in
-    subst (Had nonces) is (subst (Ended history c nonces e) (sym entries) (one_entry history c e old lives))
+    subst (Had nonces) is
+    (subst (Ended history c nonces e) (sym entries) (one_entry history c e old lives))

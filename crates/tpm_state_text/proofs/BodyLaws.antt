@@ -46,7 +46,11 @@ banks_of f = record { sha1 = f.0.0; sha256 = f.0.1; update_count = f.1 }
 banks_spelled : Spelled banks_text IsBanks banks_in
 unfolding banks_in banks_text
 banks_spelled =
-    respelled (first (bank_spelled 20) (then (bank_spelled 32) (then (number_in_spelled w64 (2 ^ 64) wide64) (all_read bank_fields banks_of (λ _. refl) (λ _. refl)))))
+    respelled
+    (first (bank_spelled 20)
+    (then (bank_spelled 32)
+    (then (number_in_spelled w64 (2 ^ 64) wide64)
+    (all_read bank_fields banks_of (λ _. refl) (λ _. refl)))))
     (λ b. three_texts (bank_text b.sha1) (bank_text b.sha256) (to_be_bytes w64 b.update_count))
     (λ b is. record { sha1 = is.0; sha256 = is.1.0; count = is.1.1.0 })
     (λ b is. (is.sha1, (is.sha256, (is.count, tt))))
@@ -62,17 +66,31 @@ lockout_time_spelled =
 
 -- ---- transient objects
 
-transients_spelled : Spelled transients_text (λ objects. (length objects ≡ object_limit) × AreAll IsObject objects) transients_in
+transients_spelled : Spelled transients_text
+    (λ objects. (length objects ≡ object_limit) × AreAll IsObject objects) transients_in
 unfolding transients_in transients_text
 transients_spelled = places_spelled object_fields_spelled object_limit
 
 -- ---- the device
 
 abbrev Fields : Type 0
-Fields = ((((((NonVolatile × Bool) × BankValues) × ℕ) × ℕ) × ℕ) × List (Option Session)) × List (Option Object)
+Fields = ((((((NonVolatile × Bool) × BankValues) × ℕ) × ℕ) × ℕ) × List (Option Session))
+    × List (Option Object)
 
 abbrev fields_of : Record → Fields
-fields_of r = (((((((kept_of r, r.fixed.started), r.fixed.banks), r.fixed.time), r.fixed.lockout.forgiving_time), r.fixed.lockout.closed_time), r.sessions), r.objects)
+fields_of r = (
+  (
+    (
+      (
+        (((kept_of r, r.fixed.started), r.fixed.banks), r.fixed.time),
+        r.fixed.lockout.forgiving_time,
+      ),
+      r.fixed.lockout.closed_time,
+    ),
+    r.sessions,
+  ),
+  r.objects,
+)
 
 abbrev record_of : Fields → Record
 record_of f =
@@ -83,7 +101,12 @@ record_of f =
         saved = state.saved;
         hierarchies = state.hierarchies;
         disable_clear = state.disable_clear;
-        lockout = record { fields = state.lockout; forgiving_time = f.0.0.0.1; closed_time = f.0.0.1 };
+        lockout = record {
+          fields = state.lockout;
+          forgiving_time = f.0.0.0.1;
+          closed_time =
+              f.0.0.1;
+        };
         banks = f.0.0.0.0.0.1;
         time = f.0.0.0.0.1;
         clock = state.clock;
@@ -99,20 +122,75 @@ record_of f =
 pub device_spelled : Spelled device_text IsRecord device_in
 unfolding device_in resumed_in device_text volatile_text
 device_spelled =
-    let places = then sessions_spelled (then transients_spelled (all_read fields_of record_of (λ _. refl) (λ _. refl))) in
-    let times = then (number_in_spelled w64 (2 ^ 64) wide64) (then lockout_time_spelled (then lockout_time_spelled places)) in
+    let places =
+    then sessions_spelled
+    (then transients_spelled (all_read fields_of record_of (λ _. refl) (λ _. refl))) in
+    let times = then (number_in_spelled w64 (2 ^ 64) wide64)
+    (then lockout_time_spelled (then lockout_time_spelled places)) in
     respelled (first (kept_spelled Two) (then yes_no_spelled (then banks_spelled times)))
-    (λ r. parts (image_body_text Two (kept_of r)) (yes_no_text r.fixed.started) (banks_text r.fixed.banks) (to_be_bytes w64 r.fixed.time) (to_be_bytes w64 r.fixed.lockout.forgiving_time) (to_be_bytes w64 r.fixed.lockout.closed_time) (sessions_text r.sessions) (transients_text r.objects))
+    (λ r. parts (image_body_text Two (kept_of r)) (yes_no_text r.fixed.started)
+    (banks_text r.fixed.banks) (to_be_bytes w64 r.fixed.time)
+    (to_be_bytes w64 r.fixed.lockout.forgiving_time)
+    (to_be_bytes w64 r.fixed.lockout.closed_time) (sessions_text r.sessions)
+    (transients_text r.objects))
     (λ r is.
     let kept = is.0.0.state in
     let times = is.1.1.1 in
     let sessions = times.1.1.1.0 in
     let objects = times.1.1.1.1.0 in
-    let lockout : IsLockout r.fixed.lockout = record { failed_tries = kept.lockout.failed_tries; max_tries = kept.lockout.max_tries; recovery_time = kept.lockout.recovery_time; lockout_recovery = kept.lockout.lockout_recovery; forgiving_time = times.1.0; closed_time = times.1.1.0 } in
-    record { saved = kept.saved; hierarchies = kept.hierarchies; lockout = lockout; banks = is.1.1.0; sessions = sessions.0; each_session = sessions.1; objects = objects.0; each_object = objects.1; persistent = is.0.0.persistent; nv = is.0.0.nv; time = times.0; clock = kept.clock; reset_count = kept.reset_count; restart_count = kept.restart_count })
-    (λ r is. ((kept_is r is, within_device (kept_of r) (kept_is r is)), (tt, (is.banks, (is.time, (is.lockout.forgiving_time, (is.lockout.closed_time, ((is.sessions, is.each_session), ((is.objects, is.each_object), tt)))))))))
+    let lockout : IsLockout r.fixed.lockout =
+    record {
+      failed_tries = kept.lockout.failed_tries;
+      max_tries =
+          kept.lockout.max_tries;
+      recovery_time = kept.lockout.recovery_time;
+      lockout_recovery =
+          kept.lockout.lockout_recovery;
+      forgiving_time = times.1.0;
+      closed_time = times.1.1.0;
+    } in
+    record {
+      saved = kept.saved;
+      hierarchies = kept.hierarchies;
+      lockout = lockout;
+      banks =
+          is.1.1.0;
+      sessions = sessions.0;
+      each_session = sessions.1;
+      objects =
+          objects.0;
+      each_object = objects.1;
+      persistent = is.0.0.persistent;
+      nv = is.0.0.nv;
+      time =
+          times.0;
+      clock = kept.clock;
+      reset_count = kept.reset_count;
+      restart_count =
+          kept.restart_count;
+    })
+    (λ r is. (
+      (kept_is r is, within_device (kept_of r) (kept_is r is)),
+      (
+        tt,
+        (
+          is.banks,
+          (
+            is.time,
+            (
+              is.lockout.forgiving_time,
+              (
+                is.lockout.closed_time,
+                ((is.sessions, is.each_session), ((is.objects, is.each_object), tt)),
+              ),
+            ),
+          ),
+        ),
+      ),
+    ))
   where
-    parts : (kept a b c d e f g : List ℕ) → kept ++ (a ++ b ++ c ++ d ++ e ++ f ++ g) ≡ kept ++ (a ++ (b ++ (c ++ (d ++ (e ++ (f ++ (g ++ [])))))))
+    parts : (kept a b c d e f g : List ℕ) → kept ++ (a ++ b ++ c ++ d ++ e ++ f ++ g)
+        ≡ kept ++ (a ++ (b ++ (c ++ (d ++ (e ++ (f ++ (g ++ [])))))))
     parts kept a b c d e f g = simp (append_assoc, append-nil) refl
 
 -- ---- the body
@@ -126,15 +204,19 @@ state_of f = record { device = f.0; layer = f.1 }
 body_spelled : Spelled body_text IsWholeState body_in
 unfolding body_in body_text
 body_spelled =
-    respelled (first device_spelled (then layer_part_spelled (all_read state_fields state_of (λ _. refl) (λ _. refl))))
+    respelled
+    (first device_spelled
+    (then layer_part_spelled (all_read state_fields state_of (λ _. refl) (λ _. refl))))
     (λ s. two_texts (device_text s.device) (layer_part_text s.layer))
     (λ s is. record { device = is.0; layer = is.1.0 })
     (λ s is. (is.device, (is.layer, tt)))
 
-pub body_taken : (text : List ℕ) (state : WholeState) → AreBytes text → state_of_body text ≡ Ok state → (text ≡ body_text state) × IsWholeState state
+pub body_taken : (text : List ℕ) (state : WholeState) → AreBytes text
+    → state_of_body text ≡ Ok state → (text ≡ body_text state) × IsWholeState state
 unfolding state_of_body
 body_taken text state fits e = filling_taken body_spelled text state fits e
 
-pub body_again : (state : WholeState) → IsWholeState state → state_of_body (body_text state) ≡ Ok state
+pub body_again : (state : WholeState) → IsWholeState state
+    → state_of_body (body_text state) ≡ Ok state
 unfolding state_of_body
 body_again state is = filling_again body_spelled state is

@@ -13,13 +13,15 @@ use Rattle.tpm_state_text.specs.Places.{optional_after, optional_in, optional_te
 
 -- if the values in all occupied slots have a property, each element of the list is free or has the
 -- property
-pub each_of_all : {A : Type 0} (Is : A → Type 0) (places : List (Option A)) → AreAll Is places → AllByRecursion (λ value. IfSome value Is) places
+pub each_of_all : {A : Type 0} (Is : A → Type 0) (places : List (Option A)) → AreAll Is places
+    → AllByRecursion (λ value. IfSome value Is) places
 each_of_all Is [] all = tt
 each_of_all Is (value ∷ values) all = (all 0, each_of_all Is values (λ place. all (suc place)))
 
 -- ---- encodings
 
-module _ {A : Type 0} {text : A → List ℕ} {Is : A → Type 0} {at : List ℕ → Result (A × List ℕ) Malformed} (law : Spelled text Is at) where
+module _ {A : Type 0} {text : A → List ℕ} {Is : A → Type 0}
+    {at : List ℕ → Result (A × List ℕ) Malformed} (law : Spelled text Is at) where
   -- the part of an encoded optional value after the byte that says whether there is a value
   abbrev pub after : Option A → List ℕ
   after None = []
@@ -28,7 +30,8 @@ module _ {A : Type 0} {text : A → List ℕ} {Is : A → Type 0} {at : List ℕ
   abbrev pub IsOne : Bool → Option A → Type 0
   IsOne is_there value = IfSome value Is × (is_some value ≡ is_there)
 
-  pub after_spelled : (is_there : Bool) → Spelled after (IsOne is_there) (optional_after at is_there)
+  pub after_spelled : (is_there : Bool)
+      → Spelled after (IsOne is_there) (optional_after at is_there)
   after_spelled false = only None refl (tt, refl) none
     where
       none : (value : Option A) → IsOne false value → value ≡ None
@@ -36,33 +39,42 @@ module _ {A : Type 0} {text : A → List ℕ} {Is : A → Type 0} {at : List ℕ
       none (Some x) is = absurd cc
   after_spelled true = record { taken = taken; again = again }
     where
-      taken : (bytes : List ℕ) (x : Option A × List ℕ) → AreBytes bytes → optional_after at true bytes ≡ Ok x → Takes bytes (after x.0) x.1 × IsOne true x.0
+      taken : (bytes : List ℕ) (x : Option A × List ℕ) → AreBytes bytes
+          → optional_after at true bytes ≡ Ok x → Takes bytes (after x.0) x.1 × IsOne true x.0
       taken bytes x fits e =
           let a = bind_ok (at bytes) (λ y. Ok (Some y.0, y.1)) x e in
           let t = law.taken bytes a.0 fits a.1 in
           let made : Option A × List ℕ = (Some a.0.0, a.0.1) in
-          subst (λ (y : Option A × List ℕ). Takes bytes (after y.0) y.1 × IsOne true y.0) (ok_is made x a.2) (t.0, (t.1, refl))
+          subst (λ (y : Option A × List ℕ). Takes bytes (after y.0) y.1 × IsOne true y.0)
+          (ok_is made x a.2) (t.0, (t.1, refl))
 
-      again : (value : Option A) (rest : List ℕ) → IsOne true value → optional_after at true (after value ++ rest) ≡ Ok (value, rest)
+      again : (value : Option A) (rest : List ℕ) → IsOne true value
+          → optional_after at true (after value ++ rest) ≡ Ok (value, rest)
       again None rest is = absurd cc
       again (Some x) rest is = rw (law.again x rest is.0) refl
 
   pub optional_spelled : Spelled (optional_text text) (λ value. IfSome value Is) (optional_in at)
   optional_spelled =
-      respelled (first yes_no_spelled (for_each is_some after (λ value. IfSome value Is) (optional_after at) after_spelled))
+      respelled
+      (first yes_no_spelled
+      (for_each is_some after (λ value. IfSome value Is) (optional_after at) after_spelled))
       parts (λ value is. is.1) (λ value is. (tt, is))
     where
-      parts : (value : Option A) → optional_text text value ≡ yes_no_text (is_some value) ++ after value
+      parts : (value : Option A) → optional_text text value ≡ yes_no_text (is_some value)
+          ++ after value
       parts None = refl
       parts (Some x) = refl
 
-  pub places_spelled : (count : ℕ) → Spelled (places_text text) (λ places. (length places ≡ count) × AreAll Is places) (places_in count at)
+  pub places_spelled : (count : ℕ)
+      → Spelled (places_text text) (λ places. (length places ≡ count) × AreAll Is places)
+      (places_in count at)
   places_spelled count =
       respelled (many_spelled count optional_spelled) (λ places. refl)
       (λ places is. (is.0, all places is.1))
       (λ places is. (is.0, each_of_all Is places is.1))
     where
-      all : (places : List (Option A)) → AllByRecursion (λ value. IfSome value Is) places → AreAll Is places
+      all : (places : List (Option A)) → AllByRecursion (λ value. IfSome value Is) places
+          → AreAll Is places
       all [] each place = tt
       all (value ∷ values) each zero = each.0
       all (value ∷ values) each (suc place) = all values each.1 place

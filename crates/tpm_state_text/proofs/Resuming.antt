@@ -22,14 +22,45 @@ use Rattle.std.specs.Int.{w64}
 
 -- reading one field after another of the state that a power cycle clears yields the device that the
 -- bytes encode
-pub resumes : (r : Record) (old : Fixed) (lockout : LockoutState) (fields : LockoutFields) (started : Bool) (banks : BankValues) (time forgiving_time closed_time : ℕ) (sessions : List (Option Session)) (objects : List (Option Object)) (new : Record) (text behind_started behind_banks behind_time behind_forgiving behind_closed behind_sessions rest : List ℕ) → old ≡ r.fixed → fields ≡ old.lockout.fields → lockout ≡ record { fields = fields; forgiving_time = forgiving_time; closed_time = closed_time } → new ≡ record r { fixed = record old { started = started; banks = banks; time = time; lockout = lockout }; sessions = sessions; objects = objects } → yes_no_in text ≡ Ok (started, behind_started) → banks_in behind_started ≡ Ok (banks, behind_banks) → number_in w64 behind_banks ≡ Ok (time, behind_time) → lockout_time_in behind_time ≡ Ok (forgiving_time, behind_forgiving) → lockout_time_in behind_forgiving ≡ Ok (closed_time, behind_closed) → sessions_in behind_closed ≡ Ok (sessions, behind_sessions) → transients_in behind_sessions ≡ Ok (objects, rest) → resumed_in (kept_of r) text ≡ Ok (new, rest)
+pub resumes : (r : Record) (old : Fixed) (lockout : LockoutState) (fields : LockoutFields)
+    (started : Bool) (banks : BankValues) (time forgiving_time closed_time : ℕ)
+    (sessions : List (Option Session)) (objects : List (Option Object)) (new : Record)
+    (text behind_started behind_banks behind_time behind_forgiving behind_closed behind_sessions
+    rest : List ℕ) → old ≡ r.fixed → fields ≡ old.lockout.fields
+    → lockout ≡ record {
+      fields = fields;
+      forgiving_time = forgiving_time;
+      closed_time =
+          closed_time;
+    }
+    → new ≡ record r {
+      fixed =
+          record old { started = started; banks = banks; time = time; lockout = lockout };
+      sessions =
+          sessions;
+      objects = objects;
+    } → yes_no_in text ≡ Ok (started, behind_started)
+    → banks_in behind_started ≡ Ok (banks, behind_banks)
+    → number_in w64 behind_banks ≡ Ok (time, behind_time)
+    → lockout_time_in behind_time ≡ Ok (forgiving_time, behind_forgiving)
+    → lockout_time_in behind_forgiving ≡ Ok (closed_time, behind_closed)
+    → sessions_in behind_closed ≡ Ok (sessions, behind_sessions)
+    → transients_in behind_sessions ≡ Ok (objects, rest)
+    → resumed_in (kept_of r) text ≡ Ok (new, rest)
 unfolding resumed_in
-resumes r old lockout fields started banks time forgiving_time closed_time sessions objects new text behind_started behind_banks behind_time behind_forgiving behind_closed behind_sessions rest is same made written first second third fourth fifth sixth seventh =
+resumes r old lockout fields started banks time forgiving_time closed_time sessions objects new text
+    behind_started behind_banks behind_time behind_forgiving behind_closed behind_sessions rest is
+    same made written first second third fourth fifth sixth seventh =
     rw (written, made, same, is, first, second, third, fourth, fifth, sixth, seventh) refl
 
 -- reading first the state that a device keeps without power, and then the state that a power cycle
 -- clears, yields the complete device
-pub device_filled : (can : Bool) (kept : NonVolatile) (middle new : Record) (result : Result (Unit {0}) FillFault) (text behind rest : List ℕ) → kept_in Two text ≡ Ok (kept, behind) → middle ≡ powered_on kept → Fills can (resumed_in (kept_of middle) behind) new result rest → Fills can (device_in text) new result rest
+pub device_filled : (can : Bool) (kept : NonVolatile) (middle new : Record)
+    (result : Result (Unit {0}) FillFault) (text behind rest : List ℕ)
+    → kept_in Two text ≡ Ok (kept, behind) → middle ≡ powered_on kept
+    → Fills can (resumed_in (kept_of middle) behind) new result rest
+    → Fills can (device_in text) new result rest
 unfolding device_in
 device_filled can kept middle new result text behind rest is same filled =
-    rw is (subst (λ (r : Record). Fills can (resumed_in (kept_of r) behind) new result rest) same filled)
+    rw is (subst (λ (r : Record). Fills can (resumed_in (kept_of r) behind) new result rest) same
+    filled)

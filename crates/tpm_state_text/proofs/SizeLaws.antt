@@ -42,29 +42,37 @@ use Rattle.tpm_state_text.proofs.PlaceLaws.{each_of_all}
 
 -- ---- optional values, and lists
 
-pub optional_small : {A : Type 0} (text : A → List ℕ) (Is : A → Type 0) (most : ℕ) → ((x : A) → Is x → length (text x) ≤ most) → (value : Option A) → IfSome value Is → length (optional_text text value) ≤ 1 + most
+pub optional_small : {A : Type 0} (text : A → List ℕ) (Is : A → Type 0) (most : ℕ)
+    → ((x : A) → Is x → length (text x) ≤ most) → (value : Option A) → IfSome value Is
+    → length (optional_text text value) ≤ 1 + most
 optional_small text Is most each None is = omega arith
 optional_small text Is most each (Some x) is = omega (arith, each x is)
 
 -- the encoding of a list is at most as long as the list's number of elements times the largest size
 -- of an encoded element
-pub each_small : {A : Type 0} (text : A → List ℕ) (Is : A → Type 0) (most : ℕ) → ((x : A) → Is x → length (text x) ≤ most) → (xs : List A) → AllByRecursion Is xs → length (flat_map text xs) ≤ most * length xs
+pub each_small : {A : Type 0} (text : A → List ℕ) (Is : A → Type 0) (most : ℕ)
+    → ((x : A) → Is x → length (text x) ≤ most) → (xs : List A) → AllByRecursion Is xs
+    → length (flat_map text xs) ≤ most * length xs
 each_small text Is most each [] all = omega arith
 each_small text Is most each (x ∷ xs) all =
     let one = each x all.0 in
     let others = each_small text Is most each xs all.1 in
     rw (length-append (text x) (flat_map text xs)) (grind (arith, one, others))
 
-places_small : {A : Type 0} (text : A → List ℕ) (Is : A → Type 0) (most : ℕ) → ((x : A) → Is x → length (text x) ≤ most) → (places : List (Option A)) → AreAll Is places → length (places_text text places) ≤ (1 + most) * length places
+places_small : {A : Type 0} (text : A → List ℕ) (Is : A → Type 0) (most : ℕ)
+    → ((x : A) → Is x → length (text x) ≤ most) → (places : List (Option A)) → AreAll Is places
+    → length (places_text text places) ≤ (1 + most) * length places
 places_small text Is most each places all =
-    each_small (optional_text text) (λ value. IfSome value Is) (1 + most) (optional_small text Is most each) places (each_of_all Is places all)
+    each_small (optional_text text) (λ value. IfSome value Is) (1 + most)
+    (optional_small text Is most each) places (each_of_all Is places all)
 
 -- ---- sessions
 
 policy_small : (p : Policy) → IsPolicy p → length (policy_text p) ≤ policy_size
 unfolding policy_text
 policy_small p is =
-    let count = optional_small (to_be_bytes w64) _ 8 (λ n _. omega arith) p.update_count is.update_count in
+    let count = optional_small (to_be_bytes w64) _ 8 (λ n _. omega arith) p.update_count
+    is.update_count in
     let command = optional_small (to_be_bytes w32) _ 4 (λ n _. omega arith) p.command is.command in
     let hash = optional_small sized_text _ 34 (λ hash is. omega (arith, is)) p.cp_hash is.cp_hash in
     simp length-append (omega (arith, is.digest, count, command, hash, written p.nv_written))
@@ -87,31 +95,54 @@ session_small : (s : Session) → IsSession s → length (session_text s) ≤ se
 unfolding session_text
 session_small s is =
     let binding = optional_small binding_text IsBinding 71 binding_small s.binding is.binding in
-    simp length-append (omega (arith, is.nonce_tpm, is.key, symmetric_small s.symmetric, binding, policy_small s.policy is.policy))
+    simp length-append
+    (omega (
+      arith,
+      is.nonce_tpm,
+      is.key,
+      symmetric_small s.symmetric,
+      binding,
+      policy_small s.policy is.policy,
+    ))
 
 -- ---- banks
 
-bank_small : (size : ℕ) (values : List (List ℕ)) → IsBank size values → length (bank_text values) ≤ size * length values
-bank_small size values is = each_small (λ value. value) (λ value. length value ≡ size) size (λ value same. omega (arith, same)) values (recursion_from_All (λ value. length value ≡ size) values is.1)
+bank_small : (size : ℕ) (values : List (List ℕ)) → IsBank size values
+    → length (bank_text values) ≤ size * length values
+bank_small size values is = each_small (λ value. value) (λ value. length value ≡ size) size
+    (λ value same. omega (arith, same)) values
+    (recursion_from_All (λ value. length value ≡ size) values is.1)
 
 banks_small : (b : BankValues) → IsBanks b → length (banks_text b) ≤ banks_size
 unfolding banks_text
-banks_small b is = simp length-append (omega (arith, is.sha1.0, is.sha256.0, bank_small 20 b.sha1 is.sha1, bank_small 32 b.sha256 is.sha256))
+banks_small b is =
+    simp length-append
+    (omega (
+      arith,
+      is.sha1.0,
+      is.sha256.0,
+      bank_small 20 b.sha1 is.sha1,
+      bank_small 32 b.sha256 is.sha256,
+    ))
 
 -- ---- the layer
 
 -- the context numbers of sessions take at most eight bytes each
-pub contexts_small : (sessions : List ℕ) → All (λ context. context < 2 ^ 64) sessions → length (flat_map (to_be_bytes w64) sessions) ≤ 8 * length sessions
+pub contexts_small : (sessions : List ℕ) → All (λ context. context < 2 ^ 64) sessions
+    → length (flat_map (to_be_bytes w64) sessions) ≤ 8 * length sessions
 contexts_small sessions all =
     let IsContext : ℕ → Type 0 = λ n. n < 2 ^ 64 in
-    each_small (to_be_bytes w64) IsContext 8 (λ n _. omega arith) sessions (recursion_from_All IsContext sessions all)
+    each_small (to_be_bytes w64) IsContext 8 (λ n _. omega arith) sessions
+    (recursion_from_All IsContext sessions all)
 
-slots_small : (slots : List (Option SequenceObject)) → length slots ≡ sequence_slots → All IsSlot slots → length (slots_text slots) ≤ slots_size
+slots_small : (slots : List (Option SequenceObject)) → length slots ≡ sequence_slots
+    → All IsSlot slots → length (slots_text slots) ≤ slots_size
 unfolding slots_text
 slots_small slots size all = by (has_sequence slots)
   where
     each : length (flat_map slot_text slots) ≤ slot_size * length slots
-    each = each_small slot_text IsSlot slot_size stays_small slots (recursion_from_All IsSlot slots all)
+    each = each_small slot_text IsSlot slot_size stays_small slots
+        (recursion_from_All IsSlot slots all)
 
     by : (is_used : Bool) → length (cond is_used (flat_map slot_text slots) []) ≤ slots_size
     by true = omega (arith, each, size)
@@ -120,9 +151,16 @@ slots_small slots size all = by (has_sequence slots)
 layer_small : (l : Layer) → IsLayer l → length (layer_text l) ≤ layer_size
 unfolding layer_text
 layer_small l is =
-    simp length-append (omega (arith, is.sessions, contexts_small l.sessions is.each_session, slots_small l.sequences is.sequences is.each_sequence))
+    simp length-append
+    (omega (
+      arith,
+      is.sessions,
+      contexts_small l.sessions is.each_session,
+      slots_small l.sequences is.sequences is.each_sequence,
+    ))
 
-layer_part_small : (layer : Option Layer) → IfSome layer IsLayer → length (layer_part_text layer) ≤ 1 + layer_size
+layer_part_small : (layer : Option Layer) → IfSome layer IsLayer
+    → length (layer_part_text layer) ≤ 1 + layer_size
 unfolding layer_part_text
 layer_part_small None is = omega arith
 layer_part_small (Some layer) is = omega (arith, layer_small layer is)
@@ -131,22 +169,38 @@ layer_part_small (Some layer) is = omega (arith, layer_small layer is)
 
 sessions_small : (r : Record) → IsRecord r → length (sessions_text r.sessions) ≤ sessions_size
 unfolding sessions_text
-sessions_small r is = omega (arith, is.sessions, places_small session_text IsSession session_size session_small r.sessions is.each_session)
+sessions_small r is =
+    omega (
+      arith,
+      is.sessions,
+      places_small session_text IsSession session_size session_small
+          r.sessions is.each_session,
+    )
 
 transients_small : (r : Record) → IsRecord r → length (transients_text r.objects) ≤ transients_size
 unfolding transients_text
-transients_small r is = omega (arith, is.objects, places_small object_fields_text IsObject object_fields_size object_fields_small r.objects is.each_object)
+transients_small r is =
+    omega (
+      arith,
+      is.objects,
+      places_small object_fields_text IsObject object_fields_size
+          object_fields_small r.objects is.each_object,
+    )
 
 volatile_small : (r : Record) → IsRecord r → length (volatile_text r) ≤ volatile_size
 unfolding volatile_text
-volatile_small r is = simp length-append (omega (arith, banks_small r.fixed.banks is.banks, sessions_small r is, transients_small r is))
+volatile_small r is =
+    simp length-append
+    (omega (arith, banks_small r.fixed.banks is.banks, sessions_small r is, transients_small r is))
 
 pub device_small : (r : Record) → IsRecord r → length (device_text r) ≤ body_size + volatile_size
 unfolding device_text
 device_small r is =
-    simp length-append (omega (arith, body_small Two (kept_of r) (kept_is r is), volatile_small r is))
+    simp length-append
+    (omega (arith, body_small Two (kept_of r) (kept_is r is), volatile_small r is))
 
-pub whole_small : (state : WholeState) → IsWholeState state → length (body_text state) + 42 ≤ state_text_size
+pub whole_small : (state : WholeState) → IsWholeState state
+    → length (body_text state) + 42 ≤ state_text_size
 unfolding body_text
 whole_small s is =
     let layer = layer_part_small s.layer is.layer in

@@ -1,6 +1,6 @@
 -- The result of a call that reads a device from a state text, and the device after the call.
 use Rattle.std.specs.Prelude.{◌≡◌, ℕ, Bool, true, List, Option, Some, None, Result, Ok, Err, slice_set}
-use Rattle.tpm_image_text.specs.Fields.{malformed}
+use Rattle.tpm_image_text.specs.Fields.{malformed_fault}
 use Rattle.tpm_image_text.specs.declared.fault.FillFault.{FillFault}
 use Rattle.tpm_image_text.specs.declared.fault.FillFault.TheVariants as unfilled
 use Rattle.tpm_image_text.specs.declared.fault.Malformed.{Malformed}
@@ -30,7 +30,7 @@ abbrev pub FillsPlace : {X : Type 0}
     → Result (Unit {0}) FillFault → (new : List (Option X)) → List ℕ → Type 0
 FillsPlace {X} can read old place (Ok done) new rest =
     (value : Option X) × (read ≡ Ok (value, rest)) × (new ≡ with_value old place value)
-FillsPlace can read old place (Err unfilled.Malformed) new rest = read ≡ Err malformed
+FillsPlace can read old place (Err unfilled.Malformed) new rest = read ≡ Err malformed_fault
 FillsPlace can read old place (Err unfilled.NoMemory) new rest = can ≡ true
 
 -- On success, the device has the state that the body encodes, and its layer is returned. On error,
@@ -39,7 +39,7 @@ FillsPlace can read old place (Err unfilled.NoMemory) new rest = can ≡ true
 abbrev pub FillsState : Bool → Result WholeState Malformed → Record
     → Result (Option Layer) FillFault → Type 0
 FillsState can read device (Ok layer) = read ≡ Ok (state_of device layer)
-FillsState can read device (Err unfilled.Malformed) = read ≡ Err malformed
+FillsState can read device (Err unfilled.Malformed) = read ≡ Err malformed_fault
 FillsState can read device (Err unfilled.NoMemory) = can ≡ true
 
 -- On success, the new device has the state `read`, and its layer is returned. On error, the result

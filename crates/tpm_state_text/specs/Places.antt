@@ -6,7 +6,7 @@ use Rattle.std.specs.Int.{Width}
 use Rattle.std.specs.List.{flat_map}
 use Rattle.tpm_bytes.specs.Many.{many_at}
 use Rattle.tpm_bytes.specs.Reading.{◌>>=◌}
-use Rattle.tpm_image_text.specs.Fields.{malformed, number_in, yes_no_in, yes_no_text}
+use Rattle.tpm_image_text.specs.Fields.{malformed_fault, number_in, yes_no_in, yes_no_text}
 use Rattle.tpm_image_text.specs.declared.fault.Malformed.{Malformed}
 
 -- decodes a number, and returns the value that it stands for
@@ -14,7 +14,7 @@ abbrev pub named_in : {X : Type 0}
     → Width → (named : ℕ → Option X) → List ℕ → Result (X × List ℕ) Malformed
 named_in width named text = do
   number ← number_in width text
-  one ← ok_or (named number.0) malformed
+  one ← ok_or (named number.0) malformed_fault
   Ok (one, number.1)
 
 -- ---- an optional value

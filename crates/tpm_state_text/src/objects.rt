@@ -54,10 +54,7 @@ fn read_place<O: Slots<Object, OBJECT_LIMIT>>(
     let Some(object) = value else {
         return Ok(());
     };
-    match objects.put(place, object) {
-        Ok(()) => Ok(()),
-        Err(_) => Err(FillFault::NoMemory),
-    }
+    objects.put(place, object).map_err(|_| FillFault::NoMemory)
 }
 
 /// Reads the transient objects into the slots of a device. All of these slots must be free.

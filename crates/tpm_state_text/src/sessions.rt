@@ -35,10 +35,9 @@ fn read_place<S: Slots<Session, SESSION_LIMIT>>(
     let Some(session) = value else {
         return Ok(());
     };
-    match sessions.put(place, session) {
-        Ok(()) => Ok(()),
-        Err(_) => Err(FillFault::NoMemory),
-    }
+    sessions
+        .put(place, session)
+        .map_err(|_| FillFault::NoMemory)
 }
 
 /// Reads the sessions into the slots of a device. All of these slots must be free.

@@ -17,7 +17,7 @@ ghost use Rattle.tpm_session.specs.declared.session.Session.{Session};
 ghost use Rattle.tpm_types.specs.AuthValue.{trimmed};
 ghost use Rattle.tpm_types.specs.Handle.{hierarchy_auth_of};
 ghost use Rattle.tpm_types.specs.declared.handle.Handle.{Handle};
-ghost use Rattle.tpm_record.specs.Cycle.{cycled};
+ghost use Rattle.tpm_record.specs.Cycle.{after_cycle};
 ghost use Rattle.tpm_record.specs.Entity.{auth_value_of, is_present, names_kept};
 ghost use Rattle.tpm_record.specs.IsRecord.{IsRecord};
 ghost use Rattle.tpm_record.specs.Record.{Record, manufactured};
@@ -39,9 +39,9 @@ ghost use Rattle.tpm_step.specs.history.Follows.{After, Follows, RunFollows, Str
 ghost use Rattle.tpm_step.specs.uses.Grounds.{AllHaveGrounds};
 ghost use Rattle.tpm_step.specs.history.History.{AcceptedCommand, Done, History, PastEvent};
 ghost use Rattle.tpm_step.specs.history.History.{PowerCycled};
-ghost use Rattle.tpm_step.specs.history.History.{recorded};
+ghost use Rattle.tpm_step.specs.history.History.{extended_history};
 ghost use Rattle.tpm_step.specs.history.Pcrs.{before_shutdown, pcr_of, pcrs_after};
-ghost use Rattle.tpm_step.specs.step.Placing.{placed};
+ghost use Rattle.tpm_step.specs.step.Placing.{record_with_object};
 ghost use Rattle.tpm_step.specs.uses.PolicyLaws.{KeepsQuietValues, UsesItsCommand};
 ghost use Rattle.tpm_step.specs.uses.PolicyLaws.{UsesAsWritten, UsesPcrsAsTheyAre};
 ghost use Rattle.tpm_step.specs.uses.PolicyReviews.{IsWrittenOnce, NeedsCount, NeedsItsPolicy};
@@ -68,7 +68,7 @@ pub fn following_laws()
     ensures executed { (can : Bool) (old : Record) (event : PlainEvent) (x : Stepped)
         → Executes can old event x → After Follows old event x }
     ensures cycled { (r : Record) (history : History)
-        → Follows r history → Follows (cycled r) (PowerCycled ∷ history) }
+        → Follows r history → Follows (after_cycle r) (PowerCycled ∷ history) }
 {}
 
 /// Laws about sequences of executions. A power cycle alone is a sequence. Placing an object that
@@ -78,9 +78,9 @@ pub fn following_laws()
 #[inline(always)]
 pub fn stretch_laws()
     ensures power_cycle { (can : Bool) (r : Record)
-        → IsRecord r → Leads can r (power_cycle r ∷ []) (cycled r) }
+        → IsRecord r → Leads can r (power_cycle r ∷ []) (after_cycle r) }
     ensures placed { (can : Bool) (r : Record) (object : Object) → IsObject object
-        → IsRecord r → Leads can r (placing_execution r object ∷ []) (placed r object) }
+        → IsRecord r → Leads can r (placing_execution r object ∷ []) (record_with_object r object) }
     ensures joined { (can : Bool) (old : Record) (first : List Execution) (mid : Record)
         (second : List Execution) (new : Record)
         → Leads can old first mid → Leads can mid second new → Leads can old (first ++ second) new }
@@ -117,7 +117,7 @@ pub fn run_history_laws<F: FnMut(&Outcome)>()
 pub fn view_laws()
     ensures tell { (r : Record) (handle : Handle) → TellsOf (view_of r handle) r handle }
     ensures recorded { (r : Record) (event : PlainEvent) (check : ℕ) (history : History)
-        (c : AcceptedCommand) → recorded r event check history ≡ Done c ∷ history
+        (c : AcceptedCommand) → extended_history r event check history ≡ Done c ∷ history
         → c.views ≡ map (view_of r) c.command.handles }
 {}
 

@@ -19,7 +19,7 @@ ghost use Rattle.tpm_commands.specs.CommandCode.{part_of, shape_of};
 ghost use Rattle.tpm_commands.specs.declared.command_code.CommandCode.{CommandCode};
 ghost use Rattle.tpm_commands.specs.declared.shape.HandleRule.{HandleRule};
 ghost use Rattle.tpm_types.specs.declared.handle.Handle.{Handle};
-ghost use Rattle.tpm_record.specs.Cycle.{cycled};
+ghost use Rattle.tpm_record.specs.Cycle.{after_cycle};
 ghost use Rattle.tpm_record.specs.Record.{Record, manufactured};
 ghost use Rattle.tpm_auth.specs.Entries.{entries_pass};
 ghost use Rattle.tpm_auth.specs.Grant.{authorize, grants_pass};
@@ -34,7 +34,7 @@ ghost use Rattle.tpm_step.specs.step.Events.{PlainEvent, IsEvent};
 ghost use Rattle.tpm_step.specs.step.Execution.{Executes};
 ghost use Rattle.tpm_step.specs.step.General.{general, is_startup};
 ghost use Rattle.tpm_step.specs.step.Run.{Runs, after_all};
-ghost use Rattle.tpm_step.specs.step.Step.{Accepted, Stepped, acceptance, accepted};
+ghost use Rattle.tpm_step.specs.step.Step.{Accepted, Stepped, acceptance, acceptance_in};
 ghost use Rattle.tpm_step.specs.step.Step.{step, step_where, success_step};
 ghost use Rattle.tpm_step.specs.rows.Acceptance.{IsAcceptance, LeavesEffect, OnlySessions};
 ghost use Rattle.tpm_step.specs.step.Table.{row_of};
@@ -223,7 +223,7 @@ pub fn grant_laws()
 #[tactic(auto, using(crate::proofs::rows::Acceptance::accepted_is))]
 pub fn acceptance_laws()
     ensures { (r : Record) (buffer : List ℕ) (locality : ℕ) (random : List ℕ)
-        → IfOk (accepted r buffer locality random) (IsAcceptance r locality random) }
+        → IfOk (acceptance_in r buffer locality random) (IsAcceptance r locality random) }
 {}
 
 /// After the row's effect, the rest of the step changes only sessions and the state that a shutdown
@@ -264,7 +264,7 @@ pub fn uncounted_laws()
 #[tactic(auto, using(crate::proofs::rows::SizedSteps::manufactured_sized, crate::proofs::rows::SizedSteps::cycled_sized))]
 pub fn new_device_size_laws()
     ensures manufactured { (random : List ℕ) → AreSized (manufactured random) }
-    ensures cycled { (r : Record) → AreSized (cycled r) }
+    ensures cycled { (r : Record) → AreSized (after_cycle r) }
 {}
 
 /// A success draws at most `draw_limit` of the event's 256 random bytes. Unless the command is

@@ -14,8 +14,11 @@ low_octets n =
     let e0 : (n % 4294967296) % 256 ≡ n % 256 = omega arith in
     rw (e3, e2, e1, e0) refl
 
-pub pieces_counted : (separator : ℕ) (text : List ℕ) (count : ℕ) → count ≡ count_by (λ byte. byte == separator) text
-    → to_be_bytes w32 ((count % 4294967296 + 1) % 4294967296) ≡ to_be_bytes w32 (length (pieces_of separator text))
+pub pieces_counted : (separator : ℕ) (text : List ℕ) (count : ℕ)
+    → count ≡ count_by (λ byte. byte == separator) text
+    → to_be_bytes w32 ((count % 4294967296 + 1) % 4294967296)
+    ≡ to_be_bytes w32 (length (pieces_of separator text))
 pieces_counted separator text count e =
     let same : (count % 4294967296 + 1) % 4294967296 ≡ (count + 1) % 4294967296 = omega arith in
-    ap (to_be_bytes w32) same ∙ low_octets (count + 1) ∙ ap (λ n. to_be_bytes w32 (n + 1)) e ∙ ap (to_be_bytes w32) (sym (length-slice_split (λ byte. byte == separator) text))
+    ap (to_be_bytes w32) same ∙ low_octets (count + 1) ∙ ap (λ n. to_be_bytes w32 (n + 1)) e
+    ∙ ap (to_be_bytes w32) (sym (length-slice_split (λ byte. byte == separator) text))

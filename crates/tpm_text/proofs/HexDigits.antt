@@ -19,16 +19,23 @@ pub odd_is_bad : (digits : List ℕ) → length digits % 2 ≡ 1 → IsChecked (
 odd_is_bad digits odd = rw (decode_of-odd digits odd) refl
 
 -- Digits are refused if one of them is not a hex digit.
-decoded_are_digits : (digits : List ℕ) (read : Result (List ℕ) FromHexError) → decode_of digits ≡ read → list_all is_hex_digit digits ≡ false → IsChecked (or_fault read Bad) (Err Bad)
-decoded_are_digits digits (Ok bytes) e other = let all = list_all-from_AllPass is_hex_digit digits (decode_of-ok digits bytes e).1 in absurd cc
+decoded_are_digits : (digits : List ℕ) (read : Result (List ℕ) FromHexError)
+    → decode_of digits ≡ read → list_all is_hex_digit digits ≡ false
+    → IsChecked (or_fault read Bad) (Err Bad)
+decoded_are_digits digits (Ok bytes) e other = let all =
+    list_all-from_AllPass is_hex_digit digits (decode_of-ok digits bytes e).1 in absurd cc
 decoded_are_digits digits (Err fault) e other = refl
 
-pub other_is_bad : (digits : List ℕ) → list_all is_hex_digit digits ≡ false → IsChecked (hex_in digits) (Err Bad)
+pub other_is_bad : (digits : List ℕ) → list_all is_hex_digit digits ≡ false
+    → IsChecked (hex_in digits) (Err Bad)
 other_is_bad digits other = decoded_are_digits digits (decode_of digits) refl other
 
 -- An even number of hex digits can be decoded to bytes.
-pub digits_are_good : (digits : List ℕ) → (length digits % 2 ≡ 1 → ⊥) → list_all is_hex_digit digits ≡ true → IsChecked (hex_in digits) (Ok tt)
-digits_are_good digits even all = rw ((decode_of-digits digits (omega (arith, even)) (AllPass-from_list_all is_hex_digit digits all)).1) tt
+pub digits_are_good : (digits : List ℕ) → (length digits % 2 ≡ 1 → ⊥)
+    → list_all is_hex_digit digits ≡ true → IsChecked (hex_in digits) (Ok tt)
+digits_are_good digits even all =
+    rw ((decode_of-digits digits (omega (arith, even))
+    (AllPass-from_list_all is_hex_digit digits all)).1) tt
 
 pub ruleset hex_digits = (odd_is_bad, other_is_bad, digits_are_good)
 
@@ -42,13 +49,18 @@ pub half_of : (digits bytes : List ℕ) → hex_in digits ≡ Ok bytes → lengt
 half_of digits bytes e = (decode_of-ok digits bytes (or_fault_ok _ _ bytes e)).2
 
 -- If the bytes of the hex digits make the command too long, the draft becomes None.
-pub hex_too_long : (digits text : List ℕ) (result : Result (Unit {0}) TokenFault) → IsChecked (hex_in digits) result → buffer_limit < length text + length digits / 2
+pub hex_too_long : (digits text : List ℕ) (result : Result (Unit {0}) TokenFault)
+    → IsChecked (hex_in digits) result → buffer_limit < length text + length digits / 2
     → Drafts (hex_in digits) (Some text) result None
 unfolding grown_draft
 hex_too_long digits text result checked long = by (hex_in digits) refl result checked
   where
-    by : (read : Result (List ℕ) TokenFault) → hex_in digits ≡ read → (result : Result (Unit {0}) TokenFault) → IsChecked read result → Drafts read (Some text) result None
-    by (Ok bytes) e (Ok done) checked = let half = half_of digits bytes e in rw (lt-leb (length text + length bytes) buffer_limit (omega (arith, half, long))) refl
+    by : (read : Result (List ℕ) TokenFault) → hex_in digits ≡ read
+        → (result : Result (Unit {0}) TokenFault) → IsChecked read result
+        → Drafts read (Some text) result None
+    by (Ok bytes) e (Ok done) checked = let half =
+        half_of digits bytes e in
+        rw (lt-leb (length text + length bytes) buffer_limit (omega (arith, half, long))) refl
     by (Ok bytes) e (Err fault) checked = absurd checked
     by (Err fault) e (Ok done) checked = absurd checked
     by (Err fault) e (Err found) checked = checked

@@ -5,7 +5,7 @@ use Rattle.std.specs.Int.{w8, w32, from_be_bytes}
 use Rattle.std.specs.List.{starts_with}
 use Rattle.tpm_bytes.specs.Reading.{◌>>=◌, refused_if}
 use Rattle.tpm_types.specs.declared.handle.Handle.{Handle}
-use Rattle.tpm_types.specs.Handle.{endorsement_handle, lockout_handle, null_handle, numbered, owner_handle, password_handle, platform_handle}
+use Rattle.tpm_types.specs.Handle.{endorsement_handle, lockout_handle, null_handle, numbered_handle, owner_handle, password_handle, platform_handle}
 use Rattle.tpm_types_command.specs.AuthEntry.{Entry, auth_entry_text}
 use Rattle.tpm_number.specs.declared.fault.TokenFault.{TokenFault}
 use Rattle.tpm_number.specs.declared.fault.TokenFault.TheVariants.{Bad}
@@ -17,7 +17,7 @@ unfoldable pub hex_handle_in : List ℕ → Result Handle TokenFault
 hex_handle_in token = do
   eight ← refused_if (not (length token == 8)) Bad
   bytes ← hex_in token
-  Ok (numbered (from_be_bytes w32 bytes))
+  Ok (numbered_handle (from_be_bytes w32 bytes))
 
 -- a handle: the name of a permanent entity, or eight hex digits
 unfoldable pub handle_in : List ℕ → Result Handle TokenFault

@@ -84,8 +84,8 @@ spelled_command line = do
 
 -- the encoding of the command that a line encodes; the fault TooLong is returned only if nothing
 -- else is wrong
-unfoldable pub assembled : List ℕ → Result (List ℕ) AsmFault
-assembled line = do
+unfoldable pub assembled_bytes : List ℕ → Result (List ℕ) AsmFault
+assembled_bytes line = do
   command ← spelled_command line
   fits ← refused_if (nat_lt buffer_limit (command_size command)) fault.TooLong
   Ok (command_text command)

@@ -9,7 +9,7 @@ ghost use Rattle.tpm_types_command.specs.Command.{Whole, command_at, command_siz
 ghost use Rattle.tpm_text.specs.Draft.{Finishes, drafted_bytes};
 ghost use Rattle.tpm_bytes.specs.Reading.{Gives};
 ghost use Rattle.tpm_text.specs.TokenReading.{DraftsRead, DraftsSessions, ReadsTokens};
-ghost use Rattle.tpm_text.specs.Line.{Assembles, assembled, end_of_line, entry_tokens_in, handles_in, name_in, parameters_in, spelled_command};
+ghost use Rattle.tpm_text.specs.Line.{Assembles, assembled_bytes, end_of_line, entry_tokens_in, handles_in, name_in, parameters_in, spelled_command};
 ghost use Rattle.tpm_text.specs.Tokens.{tokens_left};
 
 use crate::draft::Draft;
@@ -108,7 +108,7 @@ fn check_end(tokens: &mut Tokens) -> Result<(), AsmFault>
 /// Returns the buffer of the command that a line encodes, or the first fault of the line from the
 /// left.
 pub fn assemble_in<'a>(line: &[u8], draft: &'a mut Draft) -> Result<&'a [u8], AsmFault>
-    ensures value { Gives (λ bytes. bytes.now) (assembled line.now) result }
+    ensures value { Gives (λ bytes. bytes.now) (assembled_bytes line.now) result }
     ensures fits { IfOk result (λ bytes. length bytes.now ≤ buffer_limit) }
 {
     write_command(line, draft)?;
@@ -117,7 +117,7 @@ pub fn assemble_in<'a>(line: &[u8], draft: &'a mut Draft) -> Result<&'a [u8], As
 
 /// Writes the command that a line encodes.
 fn write_command(line: &[u8], draft: &mut Draft) -> Result<(), AsmFault>
-    ensures { Finishes (assembled line.now) result (drafted_bytes draft.new) }
+    ensures { Finishes (assembled_bytes line.now) result (drafted_bytes draft.new) }
 {
     let mut tokens = Tokens::of(line);
     let code = read_name(&mut tokens)?;
@@ -133,7 +133,7 @@ fn write_command(line: &[u8], draft: &mut Draft) -> Result<(), AsmFault>
 /// Returns the buffer of the command that a line encodes, or the first fault of the line from the
 /// left. NoMemory occurs only if the line encodes a command that fits in a buffer.
 pub fn assemble(alloc: Global, line: &str) -> Result<Vec<u8>, AsmFault>
-    ensures { Assembles (λ buffer. buffer.items) (assembled line.now) result }
+    ensures { Assembles (λ buffer. buffer.items) (assembled_bytes line.now) result }
 {
     let mut draft = Draft::new();
     let bytes = assemble_in(line.as_bytes(), &mut draft)?;

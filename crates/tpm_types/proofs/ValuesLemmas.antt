@@ -10,12 +10,17 @@ pub values_text-nil : values_text [] ≡ []
 unfolding values_text
 values_text-nil = refl
 
-values_text_more : (values : List DigestValue) (i : ℕ) (d : DigestValue) → i < length values → values_text (take (i + 1) values) ≡ values_text (take i values) ++ digest_value_text (get_or values i d)
+values_text_more : (values : List DigestValue) (i : ℕ) (d : DigestValue) → i < length values
+    → values_text (take (i + 1) values) ≡ values_text (take i values)
+    ++ digest_value_text (get_or values i d)
 unfolding values_text
 values_text_more values i d below = rw (take_more values i d below) (grind (arith, common_steps))
 
 -- Writing one more digest appends its encoding to the encoding of the previous digests.
-pub value_written : (values : List DigestValue) (i : ℕ) (d : DigestValue) (start so_far new : List ℕ) → i < length values → so_far ≡ start ++ values_text (take i values) → new ≡ so_far ++ digest_value_text (get_or values i d) → new ≡ start ++ values_text (take (i + 1) values)
+pub value_written : (values : List DigestValue) (i : ℕ) (d : DigestValue)
+    (start so_far new : List ℕ) → i < length values → so_far ≡ start ++ values_text (take i values)
+    → new ≡ so_far ++ digest_value_text (get_or values i d)
+    → new ≡ start ++ values_text (take (i + 1) values)
 value_written values i d start so_far new below so wrote =
     let text = digest_value_text (get_or values i d) in
     wrote
@@ -24,6 +29,9 @@ value_written values i d start so_far new below so wrote =
     ∙ ap (λ (l : List ℕ). start ++ l) (sym (values_text_more values i d below))
 
 -- the encoding of a list is the number of digests, followed by the encoded digests
-pub values_list_written : (values : List DigestValue) (start : List ℕ) → start ++ to_be_bytes w32 (length values) ++ values_text values ≡ start ++ digest_values_text values
+pub values_list_written : (values : List DigestValue) (start : List ℕ)
+    → start ++ to_be_bytes w32 (length values) ++ values_text values
+    ≡ start ++ digest_values_text values
 unfolding digest_values_text
-values_list_written values start = append_assoc start (to_be_bytes w32 (length values)) (values_text values)
+values_list_written values start =
+    append_assoc start (to_be_bytes w32 (length values)) (values_text values)

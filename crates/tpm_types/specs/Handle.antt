@@ -12,8 +12,8 @@ use Rattle.tpm_types.specs.declared.handle.SessionKind.{SessionKind}
 use Rattle.tpm_types.specs.declared.handle.SessionKind.TheVariants.{Password, Session, Other}
 
 -- the handle with this number
-abbrev pub numbered : ℕ → Handle
-numbered number = record { number = number }
+abbrev pub numbered_handle : ℕ → Handle
+numbered_handle number = record { number = number }
 
 -- the most significant byte of a handle, which is the type of the entity (TPM_HT)
 abbrev pub handle_type : Handle → ℕ
@@ -43,22 +43,22 @@ is_persistent handle = handle_type handle == 0x81
 -- the permanent handles of the standard: TPM_RH_OWNER, TPM_RH_NULL, TPM_RS_PW, TPM_RH_LOCKOUT,
 -- TPM_RH_ENDORSEMENT and TPM_RH_PLATFORM
 abbrev pub owner_handle : Handle
-owner_handle = numbered 0x4000_0001
+owner_handle = numbered_handle 0x4000_0001
 
 abbrev pub null_handle : Handle
-null_handle = numbered 0x4000_0007
+null_handle = numbered_handle 0x4000_0007
 
 abbrev pub password_handle : Handle
-password_handle = numbered 0x4000_0009
+password_handle = numbered_handle 0x4000_0009
 
 abbrev pub lockout_handle : Handle
-lockout_handle = numbered 0x4000_000a
+lockout_handle = numbered_handle 0x4000_000a
 
 abbrev pub endorsement_handle : Handle
-endorsement_handle = numbered 0x4000_000b
+endorsement_handle = numbered_handle 0x4000_000b
 
 abbrev pub platform_handle : Handle
-platform_handle = numbered 0x4000_000c
+platform_handle = numbered_handle 0x4000_000c
 
 -- the meaning of a handle in an authorization entry: a password (TPM_RS_PW), an HMAC session (02)
 -- or policy session (03), or neither

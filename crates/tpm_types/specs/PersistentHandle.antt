@@ -6,7 +6,7 @@ use Rattle.tpm_bytes.specs.Reading.{◌>>=◌, number_at, or_fault, refused_if}
 use Rattle.tpm_types.specs.declared.handle.Handle.{Handle}
 use Rattle.tpm_types.specs.declared.rc.Rc.{Rc}
 use Rattle.tpm_types.specs.declared.rc.ResponseCode.TheVariants as code
-use Rattle.tpm_types.specs.Handle.{is_persistent, numbered}
+use Rattle.tpm_types.specs.Handle.{is_persistent, numbered_handle}
 use Rattle.tpm_types.specs.Rc.{plain}
 
 -- the handle of a persistent object at the start of the bytes, and the remaining bytes. The object
@@ -14,5 +14,5 @@ use Rattle.tpm_types.specs.Rc.{plain}
 unfoldable pub persistent_handle_at : List ℕ → Result (Handle × List ℕ) Rc
 persistent_handle_at text = do
   number ← or_fault (number_at w32 text) (plain code.Insufficient)
-  named ← refused_if (not (is_persistent (numbered number.0))) (plain code.Value)
-  Ok (numbered number.0, number.1)
+  named ← refused_if (not (is_persistent (numbered_handle number.0))) (plain code.Value)
+  Ok (numbered_handle number.0, number.1)

@@ -11,6 +11,6 @@ abbrev pub refusal : Check → Rc → Refused
 refusal check rc = record { rc = rc; check = check; counted = counted.None }
 
 -- the result of a read or of an entry's checks, with any fault turned into a refusal by this check
-abbrev pub checked : {X : Type 0} → Check → Result X Rc → Result X Refused
-checked check (Ok x) = Ok x
-checked check (Err rc) = Err (refusal check rc)
+abbrev pub checked_result : {X : Type 0} → Check → Result X Rc → Result X Refused
+checked_result check (Ok x) = Ok x
+checked_result check (Err rc) = Err (refusal check rc)

@@ -33,27 +33,46 @@ pub record AreSessions (tag : Tag) (bytes : List ℕ) (x : List Entry × List �
   pub few : length x.0 ≤ 3
   pub each : AllByRecursion IsEntry x.0
 
-area_is : (bytes rest : List ℕ) (entries : List Entry) → Takes bytes (area_text entries) rest → length entries ≤ 3 → AllByRecursion IsEntry entries → 9 ≤ length (entries_text entries) → AreSessions Sessions bytes (entries, rest)
+area_is : (bytes rest : List ℕ) (entries : List Entry) → Takes bytes (area_text entries) rest
+    → length entries ≤ 3 → AllByRecursion IsEntry entries → 9 ≤ length (entries_text entries)
+    → AreSessions Sessions bytes (entries, rest)
 area_is bytes rest [] text few each some = absurd (omega arith)
-area_is bytes rest (entry ∷ entries) text few each some = record { text = text; tag_is = refl; few = few; each = each }
+area_is bytes rest (entry ∷ entries) text few each some =
+    record { text = text; tag_is = refl; few = few; each = each }
 
-sessions_take : (tag : Tag) (bytes : List ℕ) (x : List Entry × List ℕ) → AreBytes bytes → sessions_at tag bytes ≡ Ok x → AreSessions tag bytes x
-sessions_take NoSessions bytes x fits e = subst (AreSessions NoSessions bytes) (ok_is ([], bytes) x e) (record { text = record { parts = refl; rest_fits = fits }; tag_is = refl; few = omega arith; each = tt })
-sessions_take Sessions bytes x fits e = let t = area_takes bytes x fits e in area_is bytes x.1 x.0 t.0 t.1 t.2 t.3
+sessions_take : (tag : Tag) (bytes : List ℕ) (x : List Entry × List ℕ) → AreBytes bytes
+    → sessions_at tag bytes ≡ Ok x → AreSessions tag bytes x
+sessions_take NoSessions bytes x fits e =
+    subst (AreSessions NoSessions bytes) (ok_is ([], bytes) x e)
+    (record {
+      text = record { parts = refl; rest_fits = fits };
+      tag_is = refl;
+      few =
+          omega arith;
+      each = tt;
+    })
+sessions_take Sessions bytes x fits e = let t =
+    area_takes bytes x fits e in area_is bytes x.1 x.0 t.0 t.1 t.2 t.3
 
-sessions_again : (entries : List Entry) (rest : List ℕ) → length entries ≤ 3 → AllByRecursion IsEntry entries → length (sessions_text entries) < 2 ^ 32 → sessions_at (tag_for entries) (sessions_text entries ++ rest) ≡ Ok (entries, rest)
+sessions_again : (entries : List Entry) (rest : List ℕ) → length entries ≤ 3
+    → AllByRecursion IsEntry entries → length (sessions_text entries) < 2 ^ 32
+    → sessions_at (tag_for entries) (sessions_text entries ++ rest) ≡ Ok (entries, rest)
 sessions_again [] rest few each small = refl
-sessions_again (entry ∷ entries) rest few each small = area_again (entry ∷ entries) rest (omega arith) few each (omega arith)
+sessions_again (entry ∷ entries) rest few each small =
+    area_again (entry ∷ entries) rest (omega arith) few each (omega arith)
 
 -- ---- a command
 
-pub command_text-is : (c : Whole) → command_text c ≡ header_text (tag_for c.entries) (command_size c) c.code ++ command_body_text c
+pub command_text-is : (c : Whole) → command_text c
+    ≡ header_text (tag_for c.entries) (command_size c) c.code ++ command_body_text c
 unfolding command_text
 command_text-is c = refl
 
-pub command_body_text-is : (c : Whole) → command_body_text c ≡ flat_map handle_text c.handles ++ sessions_text c.entries ++ c.parameters
+pub command_body_text-is : (c : Whole) → command_body_text c ≡ flat_map handle_text c.handles
+    ++ sessions_text c.entries ++ c.parameters
 unfolding command_body_text
-command_body_text-is c = ap (λ (l : List ℕ). l ++ sessions_text c.entries ++ c.parameters) (handles_text-is c.handles)
+command_body_text-is c = ap (λ (l : List ℕ). l ++ sessions_text c.entries ++ c.parameters)
+    (handles_text-is c.handles)
 
 pub command_size-is : (c : Whole) → command_size c ≡ 10 + length (command_body_text c)
 unfolding command_size
@@ -63,32 +82,100 @@ length-header_text : (tag : Tag) (size : ℕ) (code : _) → length (header_text
 unfolding header_text
 length-header_text tag size code = refl
 
-pub length-body : (c : Whole) → length (command_body_text c) ≡ 4 * length c.handles + length (sessions_text c.entries) + length c.parameters
+pub length-body : (c : Whole) → length (command_body_text c)
+    ≡ 4 * length c.handles + length (sessions_text c.entries) + length c.parameters
 length-body c =
     let handles = flat_map handle_text c.handles in
-    ap length (command_body_text-is c) ∙ omega (arith, length-append (handles ++ sessions_text c.entries) c.parameters, length-append handles (sessions_text c.entries), length-handles c.handles)
+    ap length (command_body_text-is c)
+    ∙ omega (
+      arith,
+      length-append (handles ++ sessions_text c.entries) c.parameters,
+      length-append handles (sessions_text c.entries),
+      length-handles c.handles,
+    )
 
-pub command_takes : (bytes : List ℕ) (x : Whole × List ℕ) → AreBytes bytes → command_at bytes ≡ Ok x → IsCommand x.0 × (bytes ≡ command_text x.0) × (x.1 ≡ [])
+pub command_takes : (bytes : List ℕ) (x : Whole × List ℕ) → AreBytes bytes → command_at bytes ≡ Ok x
+    → IsCommand x.0 × (bytes ≡ command_text x.0) × (x.1 ≡ [])
 unfolding command_at
 command_takes bytes x fits e =
-    let a = bind_ok (header_or_rc (header_at bytes)) (λ header. handles_at 1 (handle_count header.0.code) header.1 >>= λ handles. sessions_at header.0.tag handles.1 >>= λ entries. Ok (record { code = header.0.code; handles = handles.0; entries = entries.0; parameters = entries.1 }, [])) x e in
-    let b = bind_ok (handles_at 1 (handle_count a.0.0.code) a.0.1) (λ handles. sessions_at a.0.0.tag handles.1 >>= λ entries. Ok (record { code = a.0.0.code; handles = handles.0; entries = entries.0; parameters = entries.1 }, [])) x a.2 in
-    let d = bind_ok (sessions_at a.0.0.tag b.0.1) (λ entries. Ok (record { code = a.0.0.code; handles = b.0.0; entries = entries.0; parameters = entries.1 }, [])) x b.2 in
+    let a = bind_ok (header_or_rc (header_at bytes))
+    (λ header. handles_at 1 (handle_count header.0.code) header.1
+    >>= λ handles. sessions_at header.0.tag handles.1
+    >>= λ entries.
+    Ok (
+      record {
+        code = header.0.code;
+        handles = handles.0;
+        entries = entries.0;
+        parameters =
+            entries.1;
+      },
+      [],
+    )) x e in
+    let b = bind_ok (handles_at 1 (handle_count a.0.0.code) a.0.1)
+    (λ handles. sessions_at a.0.0.tag handles.1
+    >>= λ entries.
+    Ok (
+      record {
+        code = a.0.0.code;
+        handles = handles.0;
+        entries = entries.0;
+        parameters =
+            entries.1;
+      },
+      [],
+    )) x a.2 in
+    let d = bind_ok (sessions_at a.0.0.tag b.0.1)
+    (λ entries.
+    Ok (
+      record {
+        code = a.0.0.code;
+        handles = b.0.0;
+        entries = entries.0;
+        parameters =
+            entries.1;
+      },
+      [],
+    )) x b.2 in
     let h = header_takes bytes a.0 fits (header_or_rc_ok (header_at bytes) a.0 a.1) in
     let t1 = handles_take (handle_count a.0.0.code) 1 a.0.1 b.0 h.text.rest_fits b.1 in
     let t2 = sessions_take a.0.0.tag b.0.1 d.0 t1.0.rest_fits d.1 in
-    let whole : Whole = record { code = a.0.0.code; handles = b.0.0; entries = d.0.0; parameters = d.0.1 } in
-    let body : a.0.1 ≡ command_body_text whole = (Takes-then a.0.1 (flat_map handle_text b.0.0) b.0.1 (sessions_text d.0.0) d.0.1 t1.0 t2.text).parts ∙ sym (command_body_text-is whole) in
-    let size : length bytes ≡ command_size whole = ap length h.text.parts ∙ length-append (header_text a.0.0.tag (length bytes) a.0.0.code) a.0.1 ∙ ap (λ n. n + length a.0.1) (length-header_text a.0.0.tag (length bytes) a.0.0.code) ∙ ap (λ (l : List ℕ). 10 + length l) body ∙ sym (command_size-is whole) in
+    let whole : Whole = record {
+      code = a.0.0.code;
+      handles = b.0.0;
+      entries = d.0.0;
+      parameters =
+          d.0.1;
+    } in
+    let body : a.0.1 ≡ command_body_text whole =
+    (Takes-then a.0.1 (flat_map handle_text b.0.0) b.0.1 (sessions_text d.0.0) d.0.1 t1.0
+    t2.text).parts ∙ sym (command_body_text-is whole) in
+    let size : length bytes ≡ command_size whole =
+    ap length h.text.parts ∙ length-append (header_text a.0.0.tag (length bytes) a.0.0.code)
+    a.0.1 ∙ ap (λ n. n + length a.0.1) (length-header_text a.0.0.tag (length bytes) a.0.0.code)
+    ∙ ap (λ (l : List ℕ). 10 + length l) body ∙ sym (command_size-is whole) in
     let spelled : bytes ≡ command_text whole =
     h.text.parts
     ∙ ap (λ (l : List ℕ). header_text a.0.0.tag (length bytes) a.0.0.code ++ l) body
     ∙ ap (λ n. header_text a.0.0.tag n a.0.0.code ++ command_body_text whole) size
-    ∙ ap (λ (t : Tag). header_text t (command_size whole) a.0.0.code ++ command_body_text whole) (sym t2.tag_is)
+    ∙ ap (λ (t : Tag). header_text t (command_size whole) a.0.0.code ++ command_body_text whole)
+    (sym t2.tag_is)
     ∙ sym (command_text-is whole) in
     let most = h.most in
     let made : Whole × List ℕ = (whole, []) in
-    subst (λ (y : Whole × List ℕ). IsCommand y.0 × (bytes ≡ command_text y.0) × (y.1 ≡ [])) (ok_is made x d.2) (record { handle_count = t1.1; handles = t1.2; entry_count = t2.few; entries = t2.each; size = omega arith }, spelled, refl)
+    subst (λ (y : Whole × List ℕ). IsCommand y.0 × (bytes ≡ command_text y.0) × (y.1 ≡ []))
+    (ok_is made x d.2) (
+      record {
+        handle_count = t1.1;
+        handles = t1.2;
+        entry_count = t2.few;
+        entries =
+            t2.each;
+        size = omega arith;
+      },
+      spelled,
+      refl,
+    )
 
 pub command_again : (c : Whole) → IsCommand c → command_at (command_text c) ≡ Ok (c, [])
 unfolding command_at
@@ -96,9 +183,14 @@ command_again c is =
     let small = is.size in
     let size-is = command_size-is c in
     let length-is = length-body c in
-    let header = header_again (tag_for c.entries) (command_size c) c.code (command_body_text c) size-is small in
-    let regrouped : command_body_text c ≡ flat_map handle_text c.handles ++ (sessions_text c.entries ++ c.parameters) = command_body_text-is c ∙ append_assoc (flat_map handle_text c.handles) (sessions_text c.entries) c.parameters in
-    let handles : handles_at 1 (handle_count c.code) (command_body_text c) ≡ Ok (c.handles, sessions_text c.entries ++ c.parameters) =
+    let header = header_again (tag_for c.entries) (command_size c) c.code (command_body_text c)
+    size-is small in
+    let regrouped : command_body_text c ≡ flat_map handle_text c.handles
+    ++ (sessions_text c.entries ++ c.parameters) =
+    command_body_text-is c ∙ append_assoc (flat_map handle_text c.handles)
+    (sessions_text c.entries) c.parameters in
+    let handles : handles_at 1 (handle_count c.code) (command_body_text c)
+    ≡ Ok (c.handles, sessions_text c.entries ++ c.parameters) =
     ap (λ n. handles_at 1 n (command_body_text c)) (sym is.handle_count)
     ∙ ap (handles_at 1 (length c.handles)) regrouped
     ∙ handles_again c.handles 1 (sessions_text c.entries ++ c.parameters) is.handles in
@@ -107,31 +199,54 @@ command_again c is =
 
 -- ---- the contracts of reading a command
 
-pub command_found : (old : List ℕ) (result : Result Command Rc) (new : List ℕ) → AreBytes old → Reads whole_of (command_at old) old result new → IfOk result (λ command. IsCommand (whole_of command) × (old ≡ command_text (whole_of command)) × (new ≡ []))
+pub command_found : (old : List ℕ) (result : Result Command Rc) (new : List ℕ) → AreBytes old
+    → Reads whole_of (command_at old) old result new
+    → IfOk result (λ command. IsCommand (whole_of command) × (old ≡ command_text (whole_of command))
+    × (new ≡ []))
 command_found old (Ok command) new fits reads = command_takes old (whole_of command, new) fits reads
 command_found old (Err fault) new fits reads = tt
 
 -- ---- writing a command
 
 -- commandSize is the sum of the sizes of the command's parts
-pub size_is : (c : Whole) (handles sessions : ℕ) → handles ≡ length c.handles → sessions ≡ length (sessions_text c.entries) → 10 + 4 * handles + sessions + length c.parameters ≡ command_size c
+pub size_is : (c : Whole) (handles sessions : ℕ) → handles ≡ length c.handles
+    → sessions ≡ length (sessions_text c.entries)
+    → 10 + 4 * handles + sessions + length c.parameters ≡ command_size c
 size_is c handles sessions e f = omega (arith, command_size-is c, length-body c)
 
 -- If the sink has room for a whole command, it still has room for the rest of the command after the
 -- header is written.
-pub room_behind_header : (c : Whole) (capacity size : ℕ) (tag : Tag) (old one : List ℕ) → one ≡ old ++ header_text tag size c.code → length old + command_size c ≤ capacity → length one + 4 * length c.handles + length (sessions_text c.entries) + length c.parameters ≤ capacity
-room_behind_header c capacity size tag old one is room = rw is (omega (arith, command_size-is c, length-body c, length-append old (header_text tag size c.code), length-header_text tag size c.code))
+pub room_behind_header : (c : Whole) (capacity size : ℕ) (tag : Tag) (old one : List ℕ)
+    → one ≡ old ++ header_text tag size c.code → length old + command_size c ≤ capacity
+    → length one + 4 * length c.handles + length (sessions_text c.entries) + length c.parameters
+    ≤ capacity
+room_behind_header c capacity size tag old one is room =
+    rw is
+    (omega (
+      arith,
+      command_size-is c,
+      length-body c,
+      length-append old (header_text tag size c.code),
+      length-header_text tag size c.code,
+    ))
 
-pub length-handles_text : (handles : List Handle) → length (handles_text handles) ≡ 4 * length handles
+pub length-handles_text : (handles : List Handle)
+    → length (handles_text handles) ≡ 4 * length handles
 length-handles_text handles = ap length (handles_text-is handles) ∙ length-handles handles
 
-pub command_written : (c : Whole) (size : ℕ) (tag : Tag) (old one two three new : List ℕ) → size ≡ command_size c → tag ≡ tag_for c.entries → one ≡ old ++ header_text tag size c.code → two ≡ one ++ handles_text c.handles → three ≡ two ++ sessions_text c.entries → new ≡ three ++ c.parameters → new ≡ old ++ command_text c
+pub command_written : (c : Whole) (size : ℕ) (tag : Tag) (old one two three new : List ℕ)
+    → size ≡ command_size c → tag ≡ tag_for c.entries → one ≡ old ++ header_text tag size c.code
+    → two ≡ one ++ handles_text c.handles → three ≡ two ++ sessions_text c.entries
+    → new ≡ three ++ c.parameters → new ≡ old ++ command_text c
 command_written c size tag old one two three new size-is tag-is e1 e2 e3 e4 =
     let header = header_text (tag_for c.entries) (command_size c) c.code in
     let handles = handles_text c.handles in
     let sessions = sessions_text c.entries in
-    let first : one ≡ old ++ header = e1 ∙ ap (λ (t : Tag). old ++ header_text t size c.code) tag-is ∙ ap (λ n. old ++ header_text (tag_for c.entries) n c.code) size-is in
-    let body : (handles ++ sessions) ++ c.parameters ≡ command_body_text c = ap (λ (l : List ℕ). l ++ sessions ++ c.parameters) (handles_text-is c.handles) ∙ sym (command_body_text-is c) in
+    let first : one ≡ old ++ header = e1 ∙ ap (λ (t : Tag). old ++ header_text t size c.code) tag-is
+    ∙ ap (λ n. old ++ header_text (tag_for c.entries) n c.code) size-is in
+    let body : (handles ++ sessions) ++ c.parameters ≡ command_body_text c =
+    ap (λ (l : List ℕ). l ++ sessions ++ c.parameters) (handles_text-is c.handles)
+    ∙ sym (command_body_text-is c) in
     e4
     ∙ ap (λ (l : List ℕ). l ++ c.parameters) e3
     ∙ ap (λ (l : List ℕ). (l ++ sessions) ++ c.parameters) e2

@@ -6,7 +6,8 @@ use Rattle.tpm_types_command.specs.declared.tag.Tag.TheVariants.{NoSessions, Ses
 use Rattle.tpm_types_command.specs.Tag.{tag_named, tag_number}
 
 pub tag_named-is : (number : ℕ) (tag : Tag) → tag_named number ≡ Some tag → number ≡ tag_number tag
-tag_named-is number tag = link tag_number number NoSessions _ tag λ o. link tag_number number Sessions None o (none tag_number number)
+tag_named-is number tag = link tag_number number NoSessions _ tag λ o. link tag_number number
+    Sessions None o (none tag_number number)
 
 pub tag_named-again : (tag : Tag) → tag_named (tag_number tag) ≡ Some tag
 tag_named-again NoSessions = refl

@@ -24,17 +24,26 @@ set_other n k i apart = omega (arith, bit_at_or n (2 ^ k) i, bit_at-pow_other k 
 not_at : (k i : ℕ) → 2 ^ k < 2 ^ 32 → i < 32 → bit_at (bit_not w32 (2 ^ k)) i ≡ 1 - bit_at (2 ^ k) i
 not_at k i small within = bit_at_not w32 (2 ^ k) i small within
 
-pub cleared_same : (n k : ℕ) → 2 ^ k < 2 ^ 32 → k < 32 → bit_at (bit_and n (bit_not w32 (2 ^ k))) k ≡ 0
+pub cleared_same : (n k : ℕ) → 2 ^ k < 2 ^ 32 → k < 32
+    → bit_at (bit_and n (bit_not w32 (2 ^ k))) k ≡ 0
 cleared_same n k small within =
     omega (arith, bit_at_and n (bit_not w32 (2 ^ k)) k, not_at k k small within, bit_at-pow_same k)
 
-pub cleared_other : (n k i : ℕ) → 2 ^ k < 2 ^ 32 → i < 32 → i ≢ k → bit_at (bit_and n (bit_not w32 (2 ^ k))) i ≡ bit_at n i
+pub cleared_other : (n k i : ℕ) → 2 ^ k < 2 ^ 32 → i < 32 → i ≢ k
+    → bit_at (bit_and n (bit_not w32 (2 ^ k))) i ≡ bit_at n i
 cleared_other n k i small within apart =
-    omega (arith, bit_at_and n (bit_not w32 (2 ^ k)) i, not_at k i small within, bit_at-pow_other k i apart, bit_at-lt n i)
+    omega (
+      arith,
+      bit_at_and n (bit_not w32 (2 ^ k)) i,
+      not_at k i small within,
+      bit_at-pow_other k i apart,
+      bit_at-lt n i,
+    )
 
 -- ---- a mask that does not contain the bit
 
-pub set_masked : (n k mask : ℕ) → bit_at mask k ≡ 0 → bit_and (bit_or n (2 ^ k)) mask ≡ bit_and n mask
+pub set_masked : (n k mask : ℕ) → bit_at mask k ≡ 0
+    → bit_and (bit_or n (2 ^ k)) mask ≡ bit_and n mask
 set_masked n k mask free = same_from_bits _ _ at
   where
     at : (i : ℕ) → bit_at (bit_and (bit_or n (2 ^ k)) mask) i ≡ bit_at (bit_and n mask) i
@@ -44,25 +53,47 @@ set_masked n k mask free = same_from_bits _ _ at
               let m : bit_at mask i ≡ 0 = ap (bit_at mask) same ∙ free in
               omega (arith, bit_at_and (bit_or n (2 ^ k)) mask i, bit_at_and n mask i, m)
           | inr apart ↦
-              omega (arith, bit_at_and (bit_or n (2 ^ k)) mask i, bit_at_and n mask i, set_other n k i apart)
+              omega (
+                arith,
+                bit_at_and (bit_or n (2 ^ k)) mask i,
+                bit_at_and n mask i,
+                set_other n k i apart,
+              )
         ]
 
-pub cleared_masked : (n k mask : ℕ) → 2 ^ k < 2 ^ 32 → mask < 2 ^ 32 → bit_at mask k ≡ 0 → bit_and (bit_and n (bit_not w32 (2 ^ k))) mask ≡ bit_and n mask
+pub cleared_masked : (n k mask : ℕ) → 2 ^ k < 2 ^ 32 → mask < 2 ^ 32 → bit_at mask k ≡ 0
+    → bit_and (bit_and n (bit_not w32 (2 ^ k))) mask ≡ bit_and n mask
 cleared_masked n k mask small narrow free = same_from_bits _ _ at
   where
-    at : (i : ℕ) → bit_at (bit_and (bit_and n (bit_not w32 (2 ^ k))) mask) i ≡ bit_at (bit_and n mask) i
+    at : (i : ℕ) → bit_at (bit_and (bit_and n (bit_not w32 (2 ^ k))) mask) i
+        ≡ bit_at (bit_and n mask) i
     at i =
         elim (cases_lt i 32) [
           | inr above ↦
               let m = bit_at_above mask 32 i narrow above in
-              omega (arith, bit_at_and (bit_and n (bit_not w32 (2 ^ k))) mask i, bit_at_and n mask i, m)
+              omega (
+                arith,
+                bit_at_and (bit_and n (bit_not w32 (2 ^ k))) mask i,
+                bit_at_and n mask i,
+                m,
+              )
           | inl within ↦
               elim (cases_eq i k) [
                 | inl same ↦
                     let m : bit_at mask i ≡ 0 = ap (bit_at mask) same ∙ free in
-                    omega (arith, bit_at_and (bit_and n (bit_not w32 (2 ^ k))) mask i, bit_at_and n mask i, m)
+                    omega (
+                      arith,
+                      bit_at_and (bit_and n (bit_not w32 (2 ^ k))) mask i,
+                      bit_at_and n mask i,
+                      m,
+                    )
                 | inr apart ↦
-                    omega (arith, bit_at_and (bit_and n (bit_not w32 (2 ^ k))) mask i, bit_at_and n mask i, cleared_other n k i small within apart)
+                    omega (
+                      arith,
+                      bit_at_and (bit_and n (bit_not w32 (2 ^ k))) mask i,
+                      bit_at_and n mask i,
+                      cleared_other n k i small within apart,
+                    )
               ]
         ]
 
@@ -86,7 +117,8 @@ not_typed attribute.PpWrite = refl
 not_typed _ = refl
 
 -- Two numbers with equal type bits encode the same type.
-type_bits : (a b : ℕ) → bit_and a (2 ^ 8 - 2 ^ 4) ≡ bit_and b (2 ^ 8 - 2 ^ 4) → a / 2 ^ 4 % 2 ^ 4 ≡ b / 2 ^ 4 % 2 ^ 4
+type_bits : (a b : ℕ) → bit_and a (2 ^ 8 - 2 ^ 4) ≡ bit_and b (2 ^ 8 - 2 ^ 4)
+    → a / 2 ^ 4 % 2 ^ 4 ≡ b / 2 ^ 4 % 2 ^ 4
 type_bits a b same =
     let first : bit_and a (2 ^ 8 - 2 ^ 4) ≡ a / 2 ^ 4 % 2 ^ 4 * 2 ^ 4 = and_high a 4 4 in
     let second : bit_and b (2 ^ 8 - 2 ^ 4) ≡ b / 2 ^ 4 % 2 ^ 4 * 2 ^ 4 = and_high b 4 4 in
@@ -95,17 +127,28 @@ type_bits a b same =
 pub are_attributes : AreNvAttributes
 are_attributes = record {
   set_there = λ a one. rw (set_same a.bits (attribute_bit one)) refl;
-  set_others = λ a one other apart. rw (set_other a.bits (attribute_bit one) (attribute_bit other) apart) refl;
-  cleared_gone = λ a one. rw (cleared_same a.bits (attribute_bit one) (power_small one) (bit_small one)) refl;
-  cleared_others = λ a one other apart. rw (cleared_other a.bits (attribute_bit one) (attribute_bit other) (power_small one) (bit_small other) apart) refl;
-  set_type = λ a one. ap nv_type_named (type_bits _ a.bits (set_masked a.bits (attribute_bit one) (2 ^ 8 - 2 ^ 4) (not_typed one)));
-  cleared_type = λ a one. ap nv_type_named (type_bits _ a.bits (cleared_masked a.bits (attribute_bit one) (2 ^ 8 - 2 ^ 4) (power_small one) (omega arith) (not_typed one)));
+  set_others =
+      λ a one other apart. rw (set_other a.bits (attribute_bit one) (attribute_bit other) apart)
+      refl;
+  cleared_gone =
+      λ a one. rw (cleared_same a.bits (attribute_bit one) (power_small one) (bit_small one)) refl;
+  cleared_others =
+      λ a one other apart.
+      rw (cleared_other a.bits (attribute_bit one) (attribute_bit other) (power_small one)
+      (bit_small other) apart) refl;
+  set_type = λ a one. ap nv_type_named
+      (type_bits _ a.bits (set_masked a.bits (attribute_bit one) (2 ^ 8 - 2 ^ 4) (not_typed one)));
+  cleared_type = λ a one. ap nv_type_named
+      (type_bits _ a.bits
+      (cleared_masked a.bits (attribute_bit one) (2 ^ 8 - 2 ^ 4) (power_small one) (omega arith)
+      (not_typed one)));
   set_named = λ a one is. record {
     fits = or_of_32 a.bits (2 ^ attribute_bit one) is.fits (power_small one);
     named = set_masked a.bits (attribute_bit one) reserved_bits (not_reserved one) ∙ is.named;
   };
   cleared_named = λ a one is. record {
     fits = omega (arith, and_le_l a.bits (bit_not w32 (2 ^ attribute_bit one)), is.fits);
-    named = cleared_masked a.bits (attribute_bit one) reserved_bits (power_small one) (omega arith) (not_reserved one) ∙ is.named;
+    named = cleared_masked a.bits (attribute_bit one) reserved_bits (power_small one) (omega arith)
+        (not_reserved one) ∙ is.named;
   };
 }

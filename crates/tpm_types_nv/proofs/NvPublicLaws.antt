@@ -10,7 +10,7 @@ use Rattle.tpm_types.specs.Handle.{is_nv_index}
 use Rattle.tpm_types.specs.declared.handle.Handle.{Handle}
 use Rattle.tpm_types.specs.declared.rc.ResponseCode.TheVariants as code
 use Rattle.tpm_types.specs.Algorithm.{hash_number}
-use Rattle.tpm_types.specs.Handle.{numbered}
+use Rattle.tpm_types.specs.Handle.{numbered_handle}
 use Rattle.tpm_types.specs.Rc.{plain}
 use Rattle.tpm_types.specs.AttributeBits.{attribute_bits_at}
 use Rattle.tpm_types.proofs.AttributeBitsLaws.{attribute_bits_spelled}
@@ -33,15 +33,20 @@ nv_attributes_spelled : Spelled nv_attributes_text IsNvAttributes nv_attributes_
 unfolding nv_attributes_at
 nv_attributes_spelled = record {
   taken = λ bytes x fits e.
-      let a = bind_ok (attribute_bits_at reserved_bits bytes) (λ bits. Ok (attributes_of bits)) x e in
-      subst (λ (y : NvAttributes × List ℕ). Takes bytes (nv_attributes_text y.0) y.1 × IsNvAttributes y.0) (ok_is (attributes_of a.0) x a.2) ((attribute_bits_spelled reserved_bits).taken bytes a.0 fits a.1);
-  again = λ attributes rest is. rw ((attribute_bits_spelled reserved_bits).again attributes.bits rest is) refl;
+      let a = bind_ok (attribute_bits_at reserved_bits bytes) (λ bits. Ok (attributes_of bits)) x
+      e in
+      subst (λ (y : NvAttributes × List ℕ). Takes bytes (nv_attributes_text y.0) y.1
+      × IsNvAttributes y.0) (ok_is (attributes_of a.0) x a.2)
+      ((attribute_bits_spelled reserved_bits).taken bytes a.0 fits a.1);
+  again =
+      λ attributes rest is.
+      rw ((attribute_bits_spelled reserved_bits).again attributes.bits rest is) refl;
 }
 
 -- ---- the handle of an index
 
 abbrev index_of : ℕ × List ℕ → Handle × List ℕ
-index_of number = (numbered number.0, number.1)
+index_of number = (numbered_handle number.0, number.1)
 
 not_false : (b : Bool) → not b ≡ false → b ≡ true
 not_false true e = refl
@@ -51,12 +56,22 @@ nv_index_spelled : Spelled nv_index_text IsNvIndex nv_index_at
 unfolding nv_index_at
 nv_index_spelled = record {
   taken = λ bytes x fits e.
-      let a = bind_ok (or_fault (number_at w32 bytes) (plain code.Insufficient)) (λ number. refused_if (not (is_nv_index (numbered number.0))) (plain code.Value) >>= λ named. Ok (index_of number)) x e in
-      let b = bind_ok (refused_if (not (is_nv_index (numbered a.0.0))) (plain code.Value)) (λ named. Ok (index_of a.0)) x a.2 in
+      let a = bind_ok (or_fault (number_at w32 bytes) (plain code.Insufficient))
+      (λ number. refused_if (not (is_nv_index (numbered_handle number.0))) (plain code.Value)
+      >>= λ named. Ok (index_of number)) x e in
+      let b = bind_ok (refused_if (not (is_nv_index (numbered_handle a.0.0))) (plain code.Value))
+      (λ named. Ok (index_of a.0)) x a.2 in
       let t = number_or_takes w32 (2 ^ 32) wide32 (plain code.Insufficient) bytes a.0 fits a.1 in
-      let named = not_false (is_nv_index (numbered a.0.0)) (passed (not (is_nv_index (numbered a.0.0))) (plain code.Value) b.0 b.1) in
-      subst (λ (y : Handle × List ℕ). Takes bytes (nv_index_text y.0) y.1 × IsNvIndex y.0) (ok_is (index_of a.0) x b.2) (t.0, record { fits = t.1; named = named });
-  again = λ handle rest is. rw (number_or_again w32 (2 ^ 32) wide32 (plain code.Insufficient) handle.number rest is.fits, is.named) refl;
+      let named = not_false (is_nv_index (numbered_handle a.0.0))
+      (passed (not (is_nv_index (numbered_handle a.0.0))) (plain code.Value) b.0 b.1) in
+      subst (λ (y : Handle × List ℕ). Takes bytes (nv_index_text y.0) y.1 × IsNvIndex y.0)
+      (ok_is (index_of a.0) x b.2) (t.0, record { fits = t.1; named = named });
+  again =
+      λ handle rest is.
+      rw (
+        number_or_again w32 (2 ^ 32) wide32 (plain code.Insufficient) handle.number rest is.fits,
+        is.named,
+      ) refl;
 }
 
 -- ---- public areas
@@ -69,7 +84,14 @@ abbrev fields_of : NvPublic → Fields
 fields_of p = ((((p.nv_index, p.name_alg), p.attributes), p.auth_policy), p.data_size)
 
 abbrev public_of : Fields → NvPublic
-public_of f = record { nv_index = f.0.0.0.0; name_alg = f.0.0.0.1; attributes = f.0.0.1; auth_policy = f.0.1; data_size = f.1 }
+public_of f = record {
+  nv_index = f.0.0.0.0;
+  name_alg = f.0.0.0.1;
+  attributes =
+      f.0.0.1;
+  auth_policy = f.0.1;
+  data_size = f.1;
+}
 
 five_texts : (a b c d e : List ℕ) → a ++ b ++ c ++ d ++ e ≡ a ++ (b ++ (c ++ (d ++ (e ++ []))))
 five_texts a b c d e = simp (append_assoc, append-nil) refl
@@ -79,10 +101,22 @@ unfolding nv_public_at nv_public_text
 nv_public_spelled =
     let b32 = buffer_spelled 32 (omega arith) in
     let size = number_spelled w16 (2 ^ 16) wide16 (plain code.Insufficient) in
-    let fields = first nv_index_spelled (then hash_spelled (then nv_attributes_spelled (then b32 (then size (all_read fields_of public_of (λ _. refl) (λ _. refl)))))) in
+    let fields =
+    first nv_index_spelled
+    (then hash_spelled
+    (then nv_attributes_spelled
+    (then b32 (then size (all_read fields_of public_of (λ _. refl) (λ _. refl)))))) in
     respelled fields
-    (λ p. five_texts (nv_index_text p.nv_index) (to_be_bytes w16 (hash_number p.name_alg)) (nv_attributes_text p.attributes) (sized_text p.auth_policy) (to_be_bytes w16 p.data_size))
-    (λ p is. record { nv_index = is.0; attributes = is.1.1.0; auth_policy = is.1.1.1.0; data_size = is.1.1.1.1.0 })
+    (λ p. five_texts (nv_index_text p.nv_index) (to_be_bytes w16 (hash_number p.name_alg))
+    (nv_attributes_text p.attributes) (sized_text p.auth_policy)
+    (to_be_bytes w16 p.data_size))
+    (λ p is. record {
+      nv_index = is.0;
+      attributes = is.1.1.0;
+      auth_policy = is.1.1.1.0;
+      data_size =
+          is.1.1.1.1.0;
+    })
     (λ p is. (is.nv_index, (tt, (is.attributes, (is.auth_policy, (is.data_size, tt))))))
 
 -- ---- the length of an encoded public area
@@ -90,11 +124,18 @@ nv_public_spelled =
 pub nv_public_small : (p : NvPublic) → IsNvPublic p → length (nv_public_text p) < 2 ^ 16
 unfolding nv_public_text
 nv_public_small p is =
-    let front = nv_index_text p.nv_index ++ to_be_bytes w16 (hash_number p.name_alg) ++ nv_attributes_text p.attributes in
+    let front = nv_index_text p.nv_index ++ to_be_bytes w16 (hash_number p.name_alg)
+    ++ nv_attributes_text p.attributes in
     let policy = front ++ sized_text p.auth_policy in
-    omega (arith, is.auth_policy, length-append front (sized_text p.auth_policy), length-append policy (to_be_bytes w16 p.data_size))
+    omega (
+      arith,
+      is.auth_policy,
+      length-append front (sized_text p.auth_policy),
+      length-append policy (to_be_bytes w16 p.data_size),
+    )
 
 -- ---- public areas in a sized buffer
 
-pub sized_nv_public_spelled : Spelled (λ p. sized_text (nv_public_text p)) IsNvPublic (filled_by nv_public_at)
+pub sized_nv_public_spelled : Spelled (λ p. sized_text (nv_public_text p)) IsNvPublic
+    (filled_by nv_public_at)
 sized_nv_public_spelled = filled_spelled nv_public_spelled nv_public_small

@@ -12,7 +12,7 @@ use Rattle.tpm_types.specs.declared.rc.Rc.{Rc}
 use Rattle.tpm_types.specs.declared.rc.ResponseCode.TheVariants as code
 use Rattle.tpm_types.specs.Algorithm.{hash_at, hash_number}
 use Rattle.tpm_types.specs.Buffer.{buffer_at}
-use Rattle.tpm_types.specs.Handle.{is_nv_index, numbered}
+use Rattle.tpm_types.specs.Handle.{is_nv_index, numbered_handle}
 use Rattle.tpm_types.specs.Rc.{plain}
 
 abbrev pub nv_index_text : Handle → List ℕ
@@ -22,8 +22,8 @@ nv_index_text handle = to_be_bytes w32 handle.number
 unfoldable pub nv_index_at : List ℕ → Result (Handle × List ℕ) Rc
 nv_index_at text = do
   number ← or_fault (number_at w32 text) (plain code.Insufficient)
-  named ← refused_if (not (is_nv_index (numbered number.0))) (plain code.Value)
-  Ok (numbered number.0, number.1)
+  named ← refused_if (not (is_nv_index (numbered_handle number.0))) (plain code.Value)
+  Ok (numbered_handle number.0, number.1)
 
 -- the encoding of a public area: the handle of the index, nameAlg, the attributes, the policy, and
 -- the size of the data

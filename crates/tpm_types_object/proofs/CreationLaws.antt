@@ -23,7 +23,13 @@ abbrev Fields : Type 0
 Fields = (((((List BankSelection × List ℕ) × ℕ) × Option HashAlg) × List ℕ) × List ℕ) × List ℕ
 
 abbrev fields_of : CreationData → Fields
-fields_of c = ((((((c.pcr_select.banks.items, c.pcr_digest), c.locality), c.parent_name_alg), c.parent_name), c.parent_qualified_name), c.outside_info)
+fields_of c = (
+  (
+    ((((c.pcr_select.banks.items, c.pcr_digest), c.locality), c.parent_name_alg), c.parent_name),
+    c.parent_qualified_name,
+  ),
+  c.outside_info,
+)
 
 abbrev creation_data_of : Fields → CreationData
 creation_data_of f = record {
@@ -42,27 +48,72 @@ creation_data_spelled =
     let b32 = buffer_spelled 32 (omega arith) in
     let b34 = buffer_spelled 34 (omega arith) in
     let octet = number_spelled w8 (2 ^ 8) wide8 (plain code.Insufficient) in
-    let fields = first selection_spelled (then b32 (then octet (then hash_or_null_spelled (then b34 (then b34 (then b34 (all_read fields_of creation_data_of (λ _. refl) (λ _. refl)))))))) in
+    let fields =
+    first selection_spelled
+    (then b32
+    (then octet
+    (then hash_or_null_spelled
+    (then b34
+    (then b34
+    (then b34 (all_read fields_of creation_data_of (λ _. refl) (λ _. refl)))))))) in
     respelled fields
-    (λ c. seven_texts (selection_text c.pcr_select.banks.items) (sized_text c.pcr_digest) (to_be_bytes w8 c.locality) (to_be_bytes w16 (hash_or_null_number c.parent_name_alg)) (sized_text c.parent_name) (sized_text c.parent_qualified_name) (sized_text c.outside_info))
-    (λ c is. record { pcr_select = is.0; pcr_digest = is.1.0; locality = is.1.1.0; parent_name = is.1.1.1.1.0; parent_qualified_name = is.1.1.1.1.1.0; outside_info = is.1.1.1.1.1.1.0 })
-    (λ c is. (is.pcr_select, (is.pcr_digest, (is.locality, (tt, (is.parent_name, (is.parent_qualified_name, (is.outside_info, tt))))))))
+    (λ c. seven_texts (selection_text c.pcr_select.banks.items) (sized_text c.pcr_digest)
+    (to_be_bytes w8 c.locality) (to_be_bytes w16 (hash_or_null_number c.parent_name_alg))
+    (sized_text c.parent_name) (sized_text c.parent_qualified_name)
+    (sized_text c.outside_info))
+    (λ c is. record {
+      pcr_select = is.0;
+      pcr_digest = is.1.0;
+      locality = is.1.1.0;
+      parent_name =
+          is.1.1.1.1.0;
+      parent_qualified_name = is.1.1.1.1.1.0;
+      outside_info = is.1.1.1.1.1.1.0;
+    })
+    (λ c is. (
+      is.pcr_select,
+      (
+        is.pcr_digest,
+        (
+          is.locality,
+          (tt, (is.parent_name, (is.parent_qualified_name, (is.outside_info, tt)))),
+        ),
+      ),
+    ))
 
 -- ---- creation data in a sized buffer
 
-pub creation_data_small : (c : CreationData) → IsCreationData c → length (creation_data_text c) < 2 ^ 16
+pub creation_data_small : (c : CreationData) → IsCreationData c
+    → length (creation_data_text c) < 2 ^ 16
 unfolding creation_data_text
 creation_data_small c is =
     let select = selection_text c.pcr_select.banks.items in
     let digest = select ++ sized_text c.pcr_digest in
-    let numbers = digest ++ to_be_bytes w8 c.locality ++ to_be_bytes w16 (hash_or_null_number c.parent_name_alg) in
+    let numbers = digest ++ to_be_bytes w8 c.locality
+    ++ to_be_bytes w16 (hash_or_null_number c.parent_name_alg) in
     let parent = numbers ++ sized_text c.parent_name in
     let qualified = parent ++ sized_text c.parent_qualified_name in
     let few = is.pcr_select.few in
-    omega (arith, few, is.pcr_digest, is.parent_name, is.parent_qualified_name, is.outside_info, length-selection_text c.pcr_select.banks.items, length-append select (sized_text c.pcr_digest), length-append digest (to_be_bytes w8 c.locality), length-append (digest ++ to_be_bytes w8 c.locality) (to_be_bytes w16 (hash_or_null_number c.parent_name_alg)), length-append numbers (sized_text c.parent_name), length-append parent (sized_text c.parent_qualified_name), length-append qualified (sized_text c.outside_info))
+    omega (
+      arith,
+      few,
+      is.pcr_digest,
+      is.parent_name,
+      is.parent_qualified_name,
+      is.outside_info,
+      length-selection_text c.pcr_select.banks.items,
+      length-append select (sized_text c.pcr_digest),
+      length-append digest (to_be_bytes w8 c.locality),
+      length-append (digest ++ to_be_bytes w8 c.locality)
+          (to_be_bytes w16 (hash_or_null_number c.parent_name_alg)),
+      length-append numbers (sized_text c.parent_name),
+      length-append parent (sized_text c.parent_qualified_name),
+      length-append qualified (sized_text c.outside_info),
+    )
 
 abbrev pub sized_creation_data_text : CreationData → List ℕ
 sized_creation_data_text c = sized_text (creation_data_text c)
 
-pub sized_creation_data_spelled : Spelled sized_creation_data_text IsCreationData (filled_by creation_data_at)
+pub sized_creation_data_spelled : Spelled sized_creation_data_text IsCreationData
+    (filled_by creation_data_at)
 sized_creation_data_spelled = filled_spelled creation_data_spelled creation_data_small

@@ -2,7 +2,7 @@
 use Rattle.std.specs.Prelude.{ℕ, Option, Some, None, Result, Ok}
 use Rattle.tpm_containers.specs.Slots.{at_place}
 use Rattle.tpm_record.specs.Record.{Record}
-use Rattle.tpm_machine.specs.History.{History, recorded}
+use Rattle.tpm_machine.specs.History.{History, extended_history}
 use Rattle.tpm_wire.specs.Stream.{Cut, Stream, next_of}
 use Rattle.tpm_wire.specs.Wire.{Wire, given_event}
 use Rattle.tpm_wire.specs.declared.fault.NoConnection.{NoConnection}
@@ -14,7 +14,7 @@ use Rattle.tpm_wire.specs.declared.turn.Turn.TheVariants.{Answer}
 -- is added to the history if it was accepted
 abbrev pub answered_history : Cut → Record → Host → Result Turn NoConnection → History → History
 answered_history c r host (Ok (Answer outcome)) history =
-    recorded r (given_event c.buffer host) outcome.row.check history
+    extended_history r (given_event c.buffer host) outcome.row.check history
 answered_history c r host result history = history
 
 abbrev pub cut_history : Option Cut → Record → Host → Result Turn NoConnection → History → History

@@ -4,7 +4,7 @@ use Rattle.std.specs.Prelude.{◌≡◌, ℕ, Bool, false, List, [], ◌∷◌, 
 use Rattle.std.specs.Prelude.{Option, Some, None, option_map, unwrap_or, Result, Ok}
 use Rattle.std.specs.List.{AllZip, FoldsTo}
 use Rattle.tpm_containers.specs.Slots.{at_place, free}
-use Rattle.tpm_record.specs.Cycle.{cycled}
+use Rattle.tpm_record.specs.Cycle.{after_cycle}
 use Rattle.tpm_record.specs.IsRecord.{IsRecord}
 use Rattle.tpm_record.specs.Record.{Record}
 use Rattle.tpm_step.specs.step.Events.{PlainEvent, Cycled}
@@ -39,7 +39,7 @@ Does can old (Feeding connection piece result) new =
     Feeds old (number_of connection) piece result new
 Does can old (Turning connection host result) new =
     Turns can old (number_of connection) host result new
-Does can old PowerCycling new = new ≡ record old { machine = cycled old.machine }
+Does can old PowerCycling new = new ≡ record old { machine = after_cycle old.machine }
 Does can old (Closing connection result) new = Closes old (number_of connection) result new
 
 -- Making these calls in this order changed `old` to `new`.

@@ -5,7 +5,7 @@ ghost use Rattle.tpm_machine.specs.State.{state_of};
 ghost use Rattle.tpm_step.specs.step.Execution.{Executes};
 ghost use Rattle.tpm_step.specs.step.Step.{outcome_step};
 ghost use Rattle.tpm_containers.specs.Slots.{lowest_free};
-ghost use Rattle.tpm_record.specs.Cycle.{cycled};
+ghost use Rattle.tpm_record.specs.Cycle.{after_cycle};
 ghost use Rattle.tpm_machine.specs.Follows.{Follows};
 ghost use Rattle.tpm_machine.specs.History.{History, PowerCycled};
 ghost use Rattle.tpm_wire.specs.History.{turn_history};
@@ -137,7 +137,7 @@ impl<K: Keep> Mux<K> {
     /// Power-cycles the machine; the connections keep their bytes.
     pub fn power_cycle(&mut self)
         ensures cycled { wire_of K.record_of self.new ≡ record (wire_of K.record_of self.old)
-            { machine = cycled (wire_of K.record_of self.old).machine } }
+            { machine = after_cycle (wire_of K.record_of self.old).machine } }
 
         // If the machine followed a history, it follows that history with one more power cycle.
         ensures history { (history : History)

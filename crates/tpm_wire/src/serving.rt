@@ -3,7 +3,7 @@
 
 ghost use Rattle.tpm_types.specs.Limits.{buffer_limit};
 ghost use Rattle.std.specs.Prelude.{◌≡◌, ◌≢◌, ◌+◌, ◌≤◌, Err, IfOk, List, None, OnOk, length, take};
-ghost use Rattle.tpm_bytes.specs.Tap.{device_of, marks_of, unmarked};
+ghost use Rattle.tpm_bytes.specs.Tap.{device_of, first_marks, marks_of};
 ghost use Rattle.tpm_machine.specs.State.{state_of};
 ghost use Rattle.tpm_machine.specs.Executions.{Execution, Leads};
 ghost use Rattle.tpm_step.specs.step.Execution.{Executes};
@@ -41,8 +41,8 @@ pub fn serve<K: Keep, R: Read, W: Write, H: FnMut() -> Result<Host, HostFault>>(
     host: &mut H,
 ) -> Result<u64, ServeFault>
     requires callable { H.IsAlwaysCallable host.old }
-    requires unread { marks_of reader.old ≡ unmarked }
-    requires unwritten { marks_of writer.old ≡ unmarked }
+    requires unread { marks_of reader.old ≡ first_marks }
+    requires unwritten { marks_of writer.old ≡ first_marks }
     ensures closed { (wire_of K.record_of mux.new).streams ≡ (wire_of K.record_of mux.old).streams }
     ensures full { lowest_free (wire_of K.record_of mux.old).streams ≡ None
         → (result ≡ Err Full) × (mux.new ≡ mux.old) × (reader.new ≡ reader.old)
@@ -69,8 +69,8 @@ pub fn serve_saving<K: Keep, R: Read, W: Write, H: FnMut() -> Result<Host, HostF
     witness: &mut S,
 ) -> Result<u64, ServeFault>
     requires callable { H.IsAlwaysCallable host.old }
-    requires unread { marks_of reader.old ≡ unmarked }
-    requires unwritten { marks_of writer.old ≡ unmarked }
+    requires unread { marks_of reader.old ≡ first_marks }
+    requires unwritten { marks_of writer.old ≡ first_marks }
     ensures closed { (wire_of K.record_of mux.new).streams ≡ (wire_of K.record_of mux.old).streams }
     ensures full { lowest_free (wire_of K.record_of mux.old).streams ≡ None
         → (result ≡ Err Full) × (mux.new ≡ mux.old) × (reader.new ≡ reader.old)
@@ -99,7 +99,7 @@ fn serve_connection<K: Keep, R: Read, W: Write, H: FnMut() -> Result<Host, HostF
     witness: &mut S,
 ) -> Result<u64, ServeFault>
     requires callable { H.IsAlwaysCallable host.old }
-    requires unread { marks_of reader.old ≡ unmarked }
+    requires unread { marks_of reader.old ≡ first_marks }
     ensures { (served : Serves H.FnMut K.can_refuse
         (R.remaining (device_of reader.old)) (R.remaining (device_of reader.new))
         (W.contents (device_of writer.old)) (W.contents (device_of writer.new))
@@ -201,8 +201,7 @@ fn answer_front<K: Keep, W: Write, S: Witness>(
     let Ok(()) = execute_front(machine, connection, front, host, witness, outcome) else {
         return Err(ServeFault::Save);
     };
-    match writer.write_all(outcome.response.as_slice()) {
-        Ok(()) => Ok(()),
-        Err(_) => Err(ServeFault::Write),
-    }
+    writer
+        .write_all(outcome.response.as_slice())
+        .map_err(|_| ServeFault::Write)
 }

@@ -35,10 +35,7 @@ fn print_journal(rt: &HostRuntime, text: &[u8]) -> Result<(), Fault> {
     let mut machine: Machine<SlotKeep> = Machine::manufacture(rt.alloc(), &[0; 256])?;
     let mut outcome = Outcome::empty();
     let output = &mut Tap::new(rt.stdout());
-    match retell(Telling::Script, &mut machine, text, &mut outcome, output) {
-        Ok(()) => Ok(()),
-        Err(fault) => Err(fault_of_retelling(fault)),
-    }
+    retell(Telling::Script, &mut machine, text, &mut outcome, output).map_err(fault_of_retelling)
 }
 
 fn fault_of_retelling(fault: RetellFault) -> Fault {

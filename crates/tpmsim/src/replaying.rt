@@ -21,16 +21,14 @@ pub fn replay_journal(rt: &HostRuntime, path: &str) -> Result<(), Fault> {
     let mut machine: Machine<SlotKeep> = Machine::manufacture(rt.alloc(), &[0; 256])?;
     let mut outcome = Outcome::empty();
     let output = &mut Tap::new(rt.stdout());
-    match retell(
+    retell(
         Telling::Answers,
         &mut machine,
         text.as_slice(),
         &mut outcome,
         output,
-    ) {
-        Ok(()) => Ok(()),
-        Err(fault) => Err(fault_of(fault, text.as_slice())),
-    }
+    )
+    .map_err(|fault| fault_of(fault, text.as_slice()))
 }
 
 /// Returns the fault of a journal that could not be executed to its end.

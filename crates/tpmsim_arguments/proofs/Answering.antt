@@ -34,18 +34,21 @@ not_found (Some y) e = absurd cc
 
 -- the request to run a script is never a request for clap's help or version
 no_run : (kind : ErrorKind) (trace : Bool) (script : Option Text) (storage : Option (Option Stored))
-    → option_and_then (λ s. option_and_then (λ kept. Some (run s trace kept)) storage) script ≡ Some (tell kind) → ⊥
+    → option_and_then (λ s. option_and_then (λ kept. Some (run s trace kept)) storage) script
+    ≡ Some (tell kind) → ⊥
 no_run kind trace None storage e = cc
 no_run kind trace (Some s) None e = cc
 no_run kind trace (Some s) (Some kept) e = cc
 
 -- if neither of two requests is `wish`, the chosen request is not `wish`
-otherwise : {A : Type 0} (wish : A) (here : Bool) (this other : Option A) → (this ≡ Some wish → ⊥) → (other ≡ Some wish → ⊥)
+otherwise : {A : Type 0} (wish : A) (here : Bool) (this other : Option A) → (this ≡ Some wish → ⊥)
+    → (other ≡ Some wish → ⊥)
     → (if here then this else other) ≡ Some wish → ⊥
 otherwise wish true this other one two e = one e
 otherwise wish false this other one two e = two e
 
-no_check : (kind : ErrorKind) (script : Option Text) → option_map check script ≡ Some (tell kind) → ⊥
+no_check : (kind : ErrorKind) (script : Option Text) → option_map check script ≡ Some (tell kind)
+    → ⊥
 no_check kind None e = cc
 no_check kind (Some text) e = cc
 
@@ -53,50 +56,59 @@ no_line : (kind : ErrorKind) (line : Option Text) → option_map assemble line �
 no_line kind None e = cc
 no_line kind (Some text) e = cc
 
-no_digits : (kind : ErrorKind) (digits : Option Text) → option_map spell digits ≡ Some (tell kind) → ⊥
+no_digits : (kind : ErrorKind) (digits : Option Text) → option_map spell digits ≡ Some (tell kind)
+    → ⊥
 no_digits kind None e = cc
 no_digits kind (Some text) e = cc
 
 no_forms : (kind : ErrorKind) (name : Option Text) → Some (forms name) ≡ Some (tell kind) → ⊥
 no_forms kind name e = cc
 
-no_code : (kind : ErrorKind) (number : Option Text) → option_map name_code number ≡ Some (tell kind) → ⊥
+no_code : (kind : ErrorKind) (number : Option Text) → option_map name_code number ≡ Some (tell kind)
+    → ⊥
 no_code kind None e = cc
 no_code kind (Some text) e = cc
 
-no_service : (kind : ErrorKind) (service : Option Served) → option_map serve service ≡ Some (tell kind) → ⊥
+no_service : (kind : ErrorKind) (service : Option Served)
+    → option_map serve service ≡ Some (tell kind) → ⊥
 no_service kind None e = cc
 no_service kind (Some s) e = cc
 
 no_power : (kind : ErrorKind) (cuts : Bool) (state : Option Text) (past : Option ℕ)
-    → option_and_then (λ s. option_and_then (λ p. Some (cycle_power s cuts p)) past) state ≡ Some (tell kind) → ⊥
+    → option_and_then (λ s. option_and_then (λ p. Some (cycle_power s cuts p)) past) state
+    ≡ Some (tell kind) → ⊥
 no_power kind cuts None past e = cc
 no_power kind cuts (Some s) None e = cc
 no_power kind cuts (Some s) (Some p) e = cc
 
-no_snapshot : (kind : ErrorKind) (state : Option Text) → option_map snapshot state ≡ Some (tell kind) → ⊥
+no_snapshot : (kind : ErrorKind) (state : Option Text)
+    → option_map snapshot state ≡ Some (tell kind) → ⊥
 no_snapshot kind None e = cc
 no_snapshot kind (Some text) e = cc
 
 no_restore : (kind : ErrorKind) (state text : Option Text) (past : Option ℕ)
-    → option_and_then (λ s. option_and_then (λ t. option_and_then (λ p. Some (restore s t p)) past) text) state ≡ Some (tell kind) → ⊥
+    → option_and_then (λ s. option_and_then (λ t. option_and_then (λ p. Some (restore s t p)) past)
+    text) state ≡ Some (tell kind) → ⊥
 no_restore kind None text past e = cc
 no_restore kind (Some s) None past e = cc
 no_restore kind (Some s) (Some t) None e = cc
 no_restore kind (Some s) (Some t) (Some p) e = cc
 
-no_script : (kind : ErrorKind) (state : Option Text) → option_map retell state ≡ Some (tell kind) → ⊥
+no_script : (kind : ErrorKind) (state : Option Text) → option_map retell state ≡ Some (tell kind)
+    → ⊥
 no_script kind None e = cc
 no_script kind (Some text) e = cc
 
-no_replay : (kind : ErrorKind) (journal : Option Text) → option_map replay journal ≡ Some (tell kind) → ⊥
+no_replay : (kind : ErrorKind) (journal : Option Text)
+    → option_map replay journal ≡ Some (tell kind) → ⊥
 no_replay kind None e = cc
 no_replay kind (Some text) e = cc
 
 unknown : (kind : ErrorKind) → (let none : Option Invocation = None in none ≡ Some (tell kind)) → ⊥
 unknown kind e = cc
 
-none_tells : (kind : ErrorKind) (command : Option (Text × List Row)) → asked_in command ≡ Some (tell kind) → ⊥
+none_tells : (kind : ErrorKind) (command : Option (Text × List Row))
+    → asked_in command ≡ Some (tell kind) → ⊥
 none_tells kind None e = cc
 none_tells kind (Some command) e =
     let rows = command.1 in
@@ -129,14 +141,17 @@ taken words (Ok (arguments.Snapshot state)) right e = (right, found_is _ _ e)
 taken words (Ok (arguments.Restore state text past)) right e = (right, found_is _ _ e)
 taken words (Ok (arguments.Retell state)) right e = (right, found_is _ _ e)
 taken words (Ok (arguments.Replay journal)) right e = (right, found_is _ _ e)
-taken words (Ok (arguments.Tell error)) right e = absurd (none_tells _ (subcommand_of program words) (found_is _ _ e))
+taken words (Ok (arguments.Tell error)) right e =
+    absurd (none_tells _ (subcommand_of program words) (found_is _ _ e))
 taken words (Err Usage) right e = inr (right, not_found _ e)
 taken words (Err NoMemory) right e = tt
 
 -- if clap refuses the words, but not because the user requested help or the version, the result is
 -- as `Answers` requires
-pub refused : (words : List Text) (kind : ErrorKind) (fault : ArgumentFault) → fault ≡ fault_of_words kind
-    → (kind ≡ OutOfMemory) ⊎ IsAmong kind (fault_of program words) → kind ≢ DisplayHelp → kind ≢ DisplayVersion
+pub refused : (words : List Text) (kind : ErrorKind) (fault : ArgumentFault)
+    → fault ≡ fault_of_words kind
+    → (kind ≡ OutOfMemory) ⊎ IsAmong kind (fault_of program words) → kind ≢ DisplayHelp
+    → kind ≢ DisplayVersion
     → Answers words (Err fault)
 refused words kind NoMemory is why help version = tt
 refused words kind Usage is (inl out) help version =
@@ -168,8 +183,10 @@ is_wish OutOfMemory never = absurd (never (λ e. cc, λ e. cc))
 
 -- if clap refuses the words because the user requested help or the version, the result is as
 -- `Answers` requires
-pub told : (words : List Text) (kind : ErrorKind) → (kind ≡ OutOfMemory) ⊎ IsAmong kind (fault_of program words)
-    → ((kind ≢ DisplayHelp) × (kind ≢ DisplayVersion) → ⊥) → IsAmong kind (fault_of program words) × IsTold kind
+pub told : (words : List Text) (kind : ErrorKind)
+    → (kind ≡ OutOfMemory) ⊎ IsAmong kind (fault_of program words)
+    → ((kind ≢ DisplayHelp) × (kind ≢ DisplayVersion) → ⊥) → IsAmong kind (fault_of program words)
+    × IsTold kind
 told words kind (inr among) never = (among, is_wish kind never)
 told words kind (inl out) never =
     elim (is_wish kind never) [

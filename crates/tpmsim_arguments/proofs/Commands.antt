@@ -16,21 +16,31 @@ third_is_false true true true rest e = absurd cc
 third_is_false true false g rest e = absurd cc
 third_is_false false b g rest e = absurd cc
 
-pub subcommand_added : {old sub new : Command} {app : App} {shape : Shape} → AddsSubcommand old sub new
-    → shape.is_plain ≡ true → app_of old ≡ app → shape_of sub ≡ shape → app_of new ≡ with_subcommand app shape
+pub subcommand_added : {old sub new : Command} {app : App} {shape : Shape}
+    → AddsSubcommand old sub new
+    → shape.is_plain ≡ true → app_of old ≡ app → shape_of sub ≡ shape
+    → app_of new ≡ with_subcommand app shape
 subcommand_added added plain old_is shape_is =
-    added.shape (third_is_false _ _ _ _ (ap (λ s. s.is_plain) shape_is ∙ plain)) ∙ ap₂ with_subcommand old_is shape_is
+    added.shape (third_is_false _ _ _ _ (ap (λ s. s.is_plain) shape_is ∙ plain))
+    ∙ ap₂ with_subcommand old_is shape_is
 
-one_added : {E : Type 0} (app : App) (shape : Shape) (given command : Result Command E) (new : Command)
-    → IsOkAnd given (λ old. IsOkAnd command (λ sub. AddsSubcommand old sub new)) → IfOk command (λ sub. shape_of sub ≡ shape)
-    → shape.is_plain ≡ true → IfOk given (λ old. app_of old ≡ app) → app_of new ≡ with_subcommand app shape
-one_added app shape (Ok old) (Ok sub) new added shape_is plain old_is = subcommand_added added plain old_is shape_is
+one_added : {E : Type 0} (app : App) (shape : Shape) (given command : Result Command E)
+    (new : Command)
+    → IsOkAnd given (λ old. IsOkAnd command (λ sub. AddsSubcommand old sub new))
+    → IfOk command (λ sub. shape_of sub ≡ shape)
+    → shape.is_plain ≡ true → IfOk given (λ old. app_of old ≡ app)
+    → app_of new ≡ with_subcommand app shape
+one_added app shape (Ok old) (Ok sub) new added shape_is plain old_is =
+    subcommand_added added plain old_is shape_is
 one_added app shape (Ok old) (Err error) new added shape_is plain old_is = absurd added
 one_added app shape (Err error) command new added shape_is plain old_is = absurd added
 
-pub command_added : {E : Type 0} (app : App) (shape : Shape) (given command whole : Result Command E)
+pub command_added : {E : Type 0} (app : App) (shape : Shape)
+    (given command whole : Result Command E)
     → IfOk whole (λ new. IsOkAnd given (λ old. IsOkAnd command (λ sub. AddsSubcommand old sub new)))
-    → IfOk command (λ sub. shape_of sub ≡ shape) → shape.is_plain ≡ true → IfOk given (λ old. app_of old ≡ app)
+    → IfOk command (λ sub. shape_of sub ≡ shape) → shape.is_plain ≡ true
+    → IfOk given (λ old. app_of old ≡ app)
     → IfOk whole (λ new. app_of new ≡ with_subcommand app shape)
 command_added app shape given command whole added shape_is plain old_is =
-    IfOk-weaker whole _ _ (λ new one. one_added app shape given command new one shape_is plain old_is) added
+    IfOk-weaker whole _ _
+    (λ new one. one_added app shape given command new one shape_is plain old_is) added

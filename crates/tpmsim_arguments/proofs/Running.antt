@@ -56,7 +56,9 @@ is_asked : (name : Text) (rest : List Text) (end : Walk) (asked : Invocation)
 is_asked name rest end asked w r a =
     let below : entered_fault (built program) (Some (codes "run", rest)) ≡ [] = level run_shape [] rest false [] end w.1 w.0 refl r in
     let args : List Text = codes "run" ∷ rest in (
-      subst (λ (w : Walk). level_fault top top_names nothing_held args (is_some (entered (built program) w.stopped)) (entered_fault (built program) w.stopped) ≡ [])
+      subst (λ (w : Walk). level_fault top top_names nothing_held args
+          (is_some (entered (built program) w.stopped)) (entered_fault (built program) w.stopped)
+          ≡ [])
           (sym (run_walk rest))
           (level top top_names args true (entered_fault (built program) (Some (codes "run", rest))) (stopped_at (codes "run") rest)
           (run_fault rest) (run_walk rest) below top_end),
@@ -68,35 +70,45 @@ is_asked name rest end asked w r a =
 
 -- the state of the walk after a script
 abbrev with_script : Held → Text → Walk
-with_script h script = to_positional run_shape.rules (arg_by_index run_shape.rules 1) script (walk_from h) h
+with_script h script = to_positional run_shape.rules (arg_by_index run_shape.rules 1) script
+    (walk_from h) h
 
 -- these words are accepted, and the walk over them ends in this state
 abbrev LeadsTo : Walk → List Text → Walk → Type 0
 LeadsTo w words end = (fold R w words ≡ end) × (walk_fault run_shape [] w words ≡ [])
 
-ahead : (w v end : Walk) (word : Text) (rest : List Text) → R w word ≡ v → turn_fault run_shape [] w word ≡ []
+ahead : (w v end : Walk) (word : Text) (rest : List Text) → R w word ≡ v
+    → turn_fault run_shape [] w word ≡ []
     → LeadsTo v rest end → LeadsTo w (word ∷ rest) end
-ahead w v end word rest e t after = (ap (λ w. fold R w rest) e ∙ after.0, step run_shape [] w v word rest t e ∙ after.1)
+ahead w v end word rest e t after =
+    (ap (λ w. fold R w rest) e ∙ after.0, step run_shape [] w v word rest t e ∙ after.1)
 
-with_script_ends : (h : Held) (script : Text) → begins_with_hyphen script ≡ false → step_fault run_shape 1 h value ≡ []
+with_script_ends : (h : Held) (script : Text) → begins_with_hyphen script ≡ false
+    → step_fault run_shape 1 h value ≡ []
     → LeadsTo (walk_from h) (script ∷ []) (with_script h script)
-with_script_ends h script e s = ahead (walk_from h) (with_script h script) (with_script h script) script []
-    (plain_walked run_shape.rules h script e) (plain_turn run_shape h script e ∙ s) (refl, none run_shape [] (with_script h script))
+with_script_ends h script e s =
+    ahead (walk_from h) (with_script h script) (with_script h script) script []
+    (plain_walked run_shape.rules h script e) (plain_turn run_shape h script e ∙ s)
+    (refl, none run_shape [] (with_script h script))
 
 -- ---- a script alone
 
-word_is_run : (name script : Text) → begins_with_hyphen script ≡ false → AskFor (run_line name script) (run script false None)
+word_is_run : (name script : Text) → begins_with_hyphen script ≡ false
+    → AskFor (run_line name script) (run script false None)
 unfolding clap_on_literals
-word_is_run name script e = is_asked name (script ∷ []) (with_script nothing_held script) (run script false None)
+word_is_run name script e = is_asked name (script ∷ []) (with_script nothing_held script)
+    (run script false None)
     (with_script_ends nothing_held script e refl) refl refl
 
 hyphen_is_run : (name : Text) → AskFor (run_line name (codes "-")) (run (codes "-") false None)
 unfolding clap_on_literals
 hyphen_is_run name = (refl, refl)
 
-pub script_is_run : (name script : Text) → IsScript script → AskFor (run_line name script) (run script false None)
+pub script_is_run : (name script : Text) → IsScript script
+    → AskFor (run_line name script) (run script false None)
 script_is_run name script (inl e) = word_is_run name script e
-script_is_run name script (inr e) = subst (λ word. AskFor (run_line name word) (run word false None)) (sym e) (hyphen_is_run name)
+script_is_run name script (inr e) =
+    subst (λ word. AskFor (run_line name word) (run word false None)) (sym e) (hyphen_is_run name)
 
 -- ---- a script after --trace
 
@@ -111,7 +123,8 @@ trace_turn : turn_fault run_shape [] begun (codes "--trace") ≡ []
 unfolding clap_on_literals
 trace_turn = refl
 
-word_is_traced : (name script : Text) → begins_with_hyphen script ≡ false → AskFor (trace_line name script) (run script true None)
+word_is_traced : (name script : Text) → begins_with_hyphen script ≡ false
+    → AskFor (trace_line name script) (run script true None)
 unfolding clap_on_literals
 word_is_traced name script e = is_asked name (codes "--trace" ∷ script ∷ []) (with_script traced script) (run script true None)
     (ahead begun (walk_from traced) (with_script traced script) (codes "--trace") (script ∷ []) trace_met trace_turn
@@ -121,9 +134,12 @@ hyphen_is_traced : (name : Text) → AskFor (trace_line name (codes "-")) (run (
 unfolding clap_on_literals
 hyphen_is_traced name = (refl, refl)
 
-pub script_is_traced : (name script : Text) → IsScript script → AskFor (trace_line name script) (run script true None)
+pub script_is_traced : (name script : Text) → IsScript script
+    → AskFor (trace_line name script) (run script true None)
 script_is_traced name script (inl e) = word_is_traced name script e
-script_is_traced name script (inr e) = subst (λ word. AskFor (trace_line name word) (run word true None)) (sym e) (hyphen_is_traced name)
+script_is_traced name script (inr e) =
+    subst (λ word. AskFor (trace_line name word) (run word true None)) (sym e)
+    (hyphen_is_traced name)
 
 -- ---- a script on a device with an image
 
@@ -151,7 +167,8 @@ entropy_turn image entropy = refl
 
 -- a request to run a script with traces, on the device in an image
 abbrev run_kept : (image entropy script : Text) → Invocation
-run_kept image entropy script = run script true (Some (record { place = in_image image; entropy = Some entropy }))
+run_kept image entropy script =
+    run script true (Some (record { place = in_image image; entropy = Some entropy }))
 
 word_is_kept : (name image entropy script : Text) → begins_with_hyphen script ≡ false
     → AskFor (kept_line name image entropy script) (run_kept image entropy script)
@@ -172,7 +189,9 @@ unfolding clap_on_literals
 hyphen_is_kept name image entropy = (refl, refl)
 
 pub device_is_kept : (name image entropy script : Text) → IsScript script
-    → AskFor (kept_line name image entropy script) (run script true (Some (record { place = in_image image; entropy = Some entropy })))
+    → AskFor (kept_line name image entropy script)
+    (run script true (Some (record { place = in_image image; entropy = Some entropy })))
 device_is_kept name image entropy script (inl e) = word_is_kept name image entropy script e
 device_is_kept name image entropy script (inr e) =
-    subst (λ word. AskFor (kept_line name image entropy word) (run_kept image entropy word)) (sym e) (hyphen_is_kept name image entropy)
+    subst (λ word. AskFor (kept_line name image entropy word) (run_kept image entropy word)) (sym e)
+    (hyphen_is_kept name image entropy)

@@ -31,7 +31,8 @@ walk_at rows id values waiting = record {
 }
 
 value_walked : (c : List Rule) (rows : List Row) (id word : Text) → begins_with_hyphen word ≡ false
-    → option_word (arg_by_id c id) id word (held_at rows id []) ≡ (held_at rows id (word ∷ []), idle)
+    → option_word (arg_by_id c id) id word (held_at rows id [])
+    ≡ (held_at rows id (word ∷ []), idle)
     → walked c [] (walk_at rows id [] (option id)) word ≡ walk_at rows id (word ∷ []) idle
 unfolding walked
 value_walked c rows id word e o = rw (no_end word e, no_long word e, no_short word e) (rw o refl)
@@ -40,14 +41,19 @@ value_turn : (s : Shape) (rows : List Row) (id word : Text) → begins_with_hyph
     → turn_fault s [] (walk_at rows id [] (option id)) word ≡ []
 value_turn s rows id word e = rw (no_end word e, no_long word e, no_short word e) refl
 
-pub step : (s : Shape) (names : Names) (w v : Walk) (word : Text) (rest : List Text) → turn_fault s names w word ≡ []
-    → walked s.rules names w word ≡ v → walk_fault s names w (word ∷ rest) ≡ walk_fault s names v rest
+pub step : (s : Shape) (names : Names) (w v : Walk) (word : Text) (rest : List Text)
+    → turn_fault s names w word ≡ []
+    → walked s.rules names w word ≡ v → walk_fault s names w (word ∷ rest)
+    ≡ walk_fault s names v rest
 unfolding walk_fault
 step s names w v word rest t e = rw (t, e) refl
 
 pub level : (s : Shape) (names : Names) (words : List Text) (sub : Bool) (below : Kinds) (w : Walk)
-    → walk_fault s names (walk_from nothing_held) words ≡ [] → walk s.rules names nothing_held words ≡ w → below ≡ []
-    → or_else (settle_fault s.rules s.args_override_self w.held) (or_else (defaults_fault (settled s.rules w.held).rows s.rules) (check_fault s (finished s.rules w.held) sub)) ≡ []
+    → walk_fault s names (walk_from nothing_held) words ≡ []
+    → walk s.rules names nothing_held words ≡ w → below ≡ []
+    → or_else (settle_fault s.rules s.args_override_self w.held)
+    (or_else (defaults_fault (settled s.rules w.held).rows s.rules)
+    (check_fault s (finished s.rules w.held) sub)) ≡ []
     → level_fault s names nothing_held words sub below ≡ []
 level s names words sub below w f e b r = rw (f, e, b) r
 
@@ -70,13 +76,16 @@ pub stopped_walk : (c : List Rule) (names : Names) (name : Text) (words rest : L
     → fold (walked c names) (stopped_at name words) rest ≡ stopped_at name (words ++ rest)
 stopped_walk c names name words [] = ap (stopped_at name) (sym (append-nil words))
 stopped_walk c names name words (word ∷ rest) =
-    ap (λ w. fold (walked c names) w rest) (one c names name words word) ∙ stopped_walk c names name (words ++ word ∷ []) rest
+    ap (λ w. fold (walked c names) w rest) (one c names name words word)
+    ∙ stopped_walk c names name (words ++ word ∷ []) rest
     ∙ ap (stopped_at name) (append_assoc words (word ∷ []) rest)
 
-pub stopped_fault : (s : Shape) (names : Names) (name : Text) (words rest : List Text) → walk_fault s names (stopped_at name words) rest ≡ []
+pub stopped_fault : (s : Shape) (names : Names) (name : Text) (words rest : List Text)
+    → walk_fault s names (stopped_at name words) rest ≡ []
 stopped_fault s names name words [] = none s names (stopped_at name words)
 stopped_fault s names name words (word ∷ rest) =
-    step s names (stopped_at name words) (stopped_at name (words ++ word ∷ [])) word rest refl (one s.rules names name words word)
+    step s names (stopped_at name words) (stopped_at name (words ++ word ∷ [])) word rest
+    refl (one s.rules names name words word)
     ∙ stopped_fault s names name (words ++ word ∷ []) rest
 
 abbrev pub top : Shape
@@ -106,7 +115,14 @@ top_fault rest = step top top_names (walk_from nothing_held) (stopped_at (codes 
 -- ---- the settings
 
 abbrev row : Text → Text → Row
-row id value = record { id = id; values = value ∷ []; count = None; source = Some CommandLine; reading = AsWritten }
+row id value = record {
+  id = id;
+  values = value ∷ [];
+  count = None;
+  source =
+      Some CommandLine;
+  reading = AsWritten;
+}
 
 abbrev rows₁ : Text → List Row
 rows₁ s = row (codes "socket") s ∷ []
@@ -150,7 +166,8 @@ abbrev words : (s i e l n : Text) → List Text
 words s i e l n = codes "--socket" ∷ s ∷ codes "--image" ∷ i ∷ codes "--entropy" ∷ e ∷ codes "--locality" ∷ l ∷ codes "--connections" ∷ n ∷ []
 
 abbrev Plain : (s i e l n : Text) → Type 0
-Plain s i e l n = (begins_with_hyphen s ≡ false) × (begins_with_hyphen i ≡ false) × (begins_with_hyphen e ≡ false)
+Plain s i e l n = (begins_with_hyphen s ≡ false) × (begins_with_hyphen i ≡ false)
+    × (begins_with_hyphen e ≡ false)
     × (begins_with_hyphen l ≡ false) × (begins_with_hyphen n ≡ false)
 
 given₁ : (s : Text) → begins_with_hyphen s ≡ false → W (walk_at [] (codes "socket") [] (option (codes "socket"))) s ≡ walk_at [] (codes "socket") (s ∷ []) idle
@@ -173,10 +190,12 @@ abbrev ended : (s i e l n : Text) → Walk
 ended s i e l n = walk_at (rows₄ s i e l) (codes "connections") (n ∷ []) idle
 
 -- a walk over several words consists of the step over the first word and the walk over the others
-ahead : (w v : Walk) (word : Text) (rest : List Text) → W w word ≡ v → fold W w (word ∷ rest) ≡ fold W v rest
+ahead : (w v : Walk) (word : Text) (rest : List Text) → W w word ≡ v
+    → fold W w (word ∷ rest) ≡ fold W v rest
 ahead w v word rest e = ap (λ x. fold W x rest) e
 
-walk_is : (s i e l n : Text) → Plain s i e l n → walk serve_shape.rules [] nothing_held (words s i e l n) ≡ ended s i e l n
+walk_is : (s i e l n : Text) → Plain s i e l n
+    → walk serve_shape.rules [] nothing_held (words s i e l n) ≡ ended s i e l n
 walk_is s i e l n p =
     let t9 : List Text = n ∷ [] in
     let t8 : List Text = codes "--connections" ∷ t9 in
@@ -187,8 +206,10 @@ walk_is s i e l n p =
     let t3 : List Text = i ∷ t4 in
     let t2 : List Text = codes "--image" ∷ t3 in
     let t1 : List Text = s ∷ t2 in
-    ahead _ _ _ t1 named₁ ∙ ahead _ _ _ t2 (given₁ s p.0) ∙ ahead _ _ _ t3 (named₂ s) ∙ ahead _ _ _ t4 (given₂ s i p.1)
-    ∙ ahead _ _ _ t5 (named₃ s i) ∙ ahead _ _ _ t6 (given₃ s i e p.2) ∙ ahead _ _ _ t7 (named₄ s i e) ∙ ahead _ _ _ t8 (given₄ s i e l p.3)
+    ahead _ _ _ t1 named₁ ∙ ahead _ _ _ t2 (given₁ s p.0) ∙ ahead _ _ _ t3 (named₂ s)
+    ∙ ahead _ _ _ t4 (given₂ s i p.1)
+    ∙ ahead _ _ _ t5 (named₃ s i) ∙ ahead _ _ _ t6 (given₃ s i e p.2)
+    ∙ ahead _ _ _ t7 (named₄ s i e) ∙ ahead _ _ _ t8 (given₄ s i e l p.3)
     ∙ ahead _ _ _ t9 (named₅ s i e l) ∙ ahead _ _ _ [] (given₅ s i e l n p.4)
 
 turn₁ : turn_fault serve_shape [] begun (codes "--socket") ≡ []
@@ -211,7 +232,8 @@ turn₅ : (s i e l : Text) → turn_fault serve_shape [] (walk_at (rows₃ s i e
 unfolding clap_on_literals
 turn₅ s i e l = refl
 
-faultless : (s i e l n : Text) → Plain s i e l n → walk_fault serve_shape [] begun (words s i e l n) ≡ []
+faultless : (s i e l n : Text) → Plain s i e l n → walk_fault serve_shape [] begun (words s i e l n)
+    ≡ []
 faultless s i e l n p = step serve_shape [] _ _ _ _ turn₁ named₁ ∙ step serve_shape [] _ _ _ _ (value_turn serve_shape [] (codes "socket") s p.0) (given₁ s p.0)
     ∙ step serve_shape [] _ _ _ _ (turn₂ s) (named₂ s) ∙ step serve_shape [] _ _ _ _ (value_turn serve_shape (rows₁ s) (codes "image") i p.1) (given₂ s i p.1)
     ∙ step serve_shape [] _ _ _ _ (turn₃ s i) (named₃ s i) ∙ step serve_shape [] _ _ _ _ (value_turn serve_shape (rows₂ s i) (codes "entropy") e p.2) (given₃ s i e p.2)
@@ -219,14 +241,17 @@ faultless s i e l n p = step serve_shape [] _ _ _ _ turn₁ named₁ ∙ step se
     ∙ step serve_shape [] _ _ _ _ (turn₅ s i e l) (named₅ s i e l) ∙ step serve_shape [] _ _ _ _ (value_turn serve_shape (rows₄ s i e l) (codes "connections") n p.4) (given₅ s i e l n p.4)
     ∙ none serve_shape [] (ended s i e l n)
 
-end_fault : (s i e l n : Text) → or_else (settle_fault serve_shape.rules serve_shape.args_override_self (ended s i e l n).held)
-    (or_else (defaults_fault (settled serve_shape.rules (ended s i e l n).held).rows serve_shape.rules)
+end_fault : (s i e l n : Text)
+    → or_else (settle_fault serve_shape.rules serve_shape.args_override_self (ended s i e l n).held)
+    (or_else (defaults_fault (settled serve_shape.rules (ended s i e l n).held).rows
+    serve_shape.rules)
     (check_fault serve_shape (finished serve_shape.rules (ended s i e l n).held) false)) ≡ []
 unfolding clap_on_literals
 end_fault s i e l n = refl
 
 below_is : (s i e l n : Text) → Plain s i e l n → entered_fault (built program) (Some (codes "serve", words s i e l n)) ≡ []
-below_is s i e l n p = level serve_shape [] (words s i e l n) false [] (ended s i e l n) (faultless s i e l n p) (walk_is s i e l n p) refl (end_fault s i e l n)
+below_is s i e l n p = level serve_shape [] (words s i e l n) false [] (ended s i e l n)
+    (faultless s i e l n p) (walk_is s i e l n p) refl (end_fault s i e l n)
 
 pub top_end : or_else (settle_fault top.rules top.args_override_self nothing_held)
     (or_else (defaults_fault (settled top.rules nothing_held).rows top.rules)
@@ -238,7 +263,9 @@ taken : (s i e l n : Text) → Plain s i e l n → built_fault (built program) n
 taken s i e l n p =
     let rest = words s i e l n in
     let args = codes "serve" ∷ rest in
-    subst (λ (w : Walk). level_fault top top_names nothing_held args (is_some (entered (built program) w.stopped)) (entered_fault (built program) w.stopped) ≡ [])
+    subst (λ (w : Walk). level_fault top top_names nothing_held args
+    (is_some (entered (built program) w.stopped)) (entered_fault (built program) w.stopped)
+    ≡ [])
     (sym (top_walk rest))
     (level top top_names args true (entered_fault (built program) (Some (codes "serve", rest))) (stopped_at (codes "serve") rest)
     (top_fault rest) (top_walk rest) (below_is s i e l n p) top_end)
@@ -254,4 +281,5 @@ pub device_is_served : (name s i e l n : Text) → NoneBeginsWithHyphen (s ∷ i
     → AskForDevice (serve_line name s i e l n) s i e l n
 device_is_served name s i e l n p =
     let plain : Plain s i e l n = (p.0, p.1.0, p.1.1.0, p.1.1.1.0, p.1.1.1.1.0) in
-    device_is_asked_for (serve_line name s i e l n) s (in_image i) None e l n false (taken s i e l n plain) (asked_is s i e l n plain)
+    device_is_asked_for (serve_line name s i e l n) s (in_image i) None e l n false
+    (taken s i e l n plain) (asked_is s i e l n plain)

@@ -7,8 +7,8 @@ use Rattle.tpmsim_image.specs.declared.image_saver.ImageSaver.{ImageSaver}
 
 -- the saver after it was notified that its device may have changed. If anything except the device's
 -- clock changed, the saver has written the device
-abbrev pub changed : ImageSaver → Record → ImageSaver
-changed old r = record old {
+abbrev pub saver_after_change : ImageSaver → Record → ImageSaver
+saver_after_change old r = record old {
   kept = kept_text r;
   clock = (if bytes_eq old.kept (kept_text r) then old.clock else Some r.fixed.clock);
 }

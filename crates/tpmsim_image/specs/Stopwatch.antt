@@ -13,8 +13,8 @@ since_first now s = (now - unwrap_or s.first now) / 1_000_000
 
 -- the elapsed time of a command that arrives at this time: all milliseconds since the first command
 -- that have not yet been reported or dropped, at most 2^32 - 1
-abbrev pub told : (now : ℕ) → StopwatchState → ℕ
-told now s = min (since_first now s - s.passed) 0xffff_ffff
+abbrev pub reported_time : (now : ℕ) → StopwatchState → ℕ
+reported_time now s = min (since_first now s - s.passed) 0xffff_ffff
 
 -- the stopwatch after a command that arrives at this time: all milliseconds until then were
 -- reported or dropped

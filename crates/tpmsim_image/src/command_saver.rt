@@ -17,10 +17,10 @@ pub struct CommandSaver<'a> {
 
 impl Witness for CommandSaver<'_> {
     ghost use Rattle.std.specs.Prelude.{if◌then◌else◌};
-    ghost use Rattle.tpmsim_image.specs.Saving.{changed};
+    ghost use Rattle.tpmsim_image.specs.Saving.{saver_after_change};
 
     ghost notes = { λ old one new. new ≡ (if old.saves_each
-        then record old { image = changed old.image one.seen.after } else old) };
+        then record old { image = saver_after_change old.image one.seen.after } else old) };
 
     ghost note_failed = { λ saver. is_some saver.image.fault };
 

@@ -86,12 +86,12 @@ impl<'a> ImageSaver<'a> {
 
 impl Saver for ImageSaver<'_> {
     ghost use Rattle.std.specs.Prelude.{Some};
-    ghost use Rattle.tpmsim_image.specs.Saving.{changed};
+    ghost use Rattle.tpmsim_image.specs.Saving.{saver_after_change};
 
     ghost saves = { λ old r new. new
         ≡ record old { kept = kept_text r; clock = Some r.fixed.clock } };
 
-    ghost saves_change = { λ old r new. new ≡ changed old r };
+    ghost saves_change = { λ old r new. new ≡ saver_after_change old r };
 
     ghost has_failed = { λ saver. is_some saver.fault };
 

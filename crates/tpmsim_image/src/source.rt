@@ -3,7 +3,7 @@
 
 ghost use Rattle.std.specs.Prelude.{◌≡◌, IfOk, ℕ};
 ghost use Rattle.std.specs.Io.KnownBytes.{Consumes};
-ghost use Rattle.tpmsim_image.specs.Stopwatch.{after_command, told};
+ghost use Rattle.tpmsim_image.specs.Stopwatch.{after_command, reported_time};
 
 use crate::entropy::RandomReader;
 use crate::stopwatch::Stopwatch;
@@ -45,7 +45,7 @@ impl<R: Read> Source<R> {
     pub fn host(&mut self, clock: &impl Clock) -> io::Result<Host>
         ensures locality { IfOk result (λ host. host.locality ≡ self.old.locality) }
         ensures elapsed { IfOk result (λ host. (now : ℕ)
-            × (host.elapsed_ms ≡ told now self.old.stopwatch)
+            × (host.elapsed_ms ≡ reported_time now self.old.stopwatch)
             × (self.new.stopwatch ≡ after_command now self.old.stopwatch)) }
         ensures random { IfOk result (λ host. Consumes (R.remaining self.old.entropy.reader)
             (R.remaining self.new.entropy.reader) host.random) }

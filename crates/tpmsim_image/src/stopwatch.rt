@@ -2,7 +2,7 @@
 
 ghost use Rattle.std.specs.Prelude.{◌≡◌, None};
 ghost use Rattle.std.specs.Time.{instant_nanos};
-ghost use Rattle.tpmsim_image.specs.Stopwatch.{after_command, told};
+ghost use Rattle.tpmsim_image.specs.Stopwatch.{after_command, reported_time};
 
 use std::marker::Model;
 use std::time::Instant;
@@ -42,7 +42,7 @@ impl Stopwatch {
     /// have not yet been reported for any command, at most 2^32 - 1. All milliseconds above this
     /// limit are dropped.
     pub fn tell(&mut self, now: Instant) -> u32
-        ensures value { result ≡ told (instant_nanos now) self.old }
+        ensures value { result ≡ reported_time (instant_nanos now) self.old }
         ensures after { self.new ≡ after_command (instant_nanos now) self.old }
     {
         let first = self.first.unwrap_or(now);

@@ -11,7 +11,8 @@ use Rattle.tpm_wire.specs.Schedule.{Event, Executed, IsOf, PowerCycled, events_i
 use Rattle.tpm_wire.proofs.Living.{schedules_lead}
 use Rattle.tpmsim_image_laws.specs.Answers.{AnswersAreOutcomes, IsExecuted}
 
-event_executed : (can : Bool) (event : Event) (old : Record) (one : Execution) → IsOf event one → Executes can old one.event one.seen → IsExecuted can event
+event_executed : (can : Bool) (event : Event) (old : Record) (one : Execution) → IsOf event one
+    → Executes can old one.event one.seen → IsExecuted can event
 event_executed can (Executed event outcome) old one is executes = record {
   before = old;
   after = one.seen.after;
@@ -21,11 +22,15 @@ event_executed can (Executed event outcome) old one is executes = record {
 }
 event_executed can PowerCycled old one is executes = tt
 
-all_executed : (can : Bool) (events : List Event) (executions : List Execution) (old new : Record) → AllZip IsOf events executions → Leads can old executions new → AllByRecursion (IsExecuted can) events
+all_executed : (can : Bool) (events : List Event) (executions : List Execution) (old new : Record)
+    → AllZip IsOf events executions → Leads can old executions new
+    → AllByRecursion (IsExecuted can) events
 all_executed can [] executions old new are leads = tt
 all_executed can (event ∷ events) [] old new are leads = absurd are
-all_executed can (event ∷ events) (one ∷ executions) old new are leads =
-    (event_executed can event old one are.0 leads.1, all_executed can events executions one.seen.after new are.1 leads.2)
+all_executed can (event ∷ events) (one ∷ executions) old new are leads = (
+  event_executed can event old one are.0 leads.1,
+  all_executed can events executions one.seen.after new are.1 leads.2,
+)
 
 pub answers_are_outcomes : AnswersAreOutcomes
 answers_are_outcomes can r calls new is schedules =

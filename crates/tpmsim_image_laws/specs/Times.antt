@@ -1,12 +1,12 @@
 -- The sum of the elapsed times of commands, as a stopwatch measures them.
 use Rattle.std.specs.Prelude.{ℕ, ◌+◌, ◌-◌, ◌/◌, ◌≤◌, List, [], ◌∷◌, None}
 use Rattle.std.specs.List.{AllByRecursion}
-use Rattle.tpmsim_image.specs.Stopwatch.{StopwatchState, after_command, told}
+use Rattle.tpmsim_image.specs.Stopwatch.{StopwatchState, after_command, reported_time}
 
 -- the sum of the elapsed milliseconds of commands that arrive at these times, one after another
 abbrev pub told_together : StopwatchState → (times : List ℕ) → ℕ
 told_together s [] = 0
-told_together s (now ∷ times) = told now s + told_together (after_command now s) times
+told_together s (now ∷ times) = reported_time now s + told_together (after_command now s) times
 
 -- a stopwatch before the first command
 abbrev pub new_stopwatch : StopwatchState

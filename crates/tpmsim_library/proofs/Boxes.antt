@@ -22,8 +22,14 @@ abbrev pub Content : RattleType
 Content = arg (bare (layout device.the_row)) no device.the_row
 
 pub content_laws : Laws Content
-content_laws = arg_laws (bare (layout device.the_row)) no device.the_row device_laws.the_row_laws refl
+content_laws = arg_laws (bare (layout device.the_row)) no device.the_row device_laws.the_row_laws
+    refl
 
 -- the box of a device, in the form that std's proof steps for boxes expect
 abbrev pub boxes : Bx
-boxes = record { row = Content; laws = content_laws; al = record { row = Heap; laws = heap_laws; g = ghosts; d = dict; drops = plain_drop Heap } }
+boxes = record {
+  row = Content;
+  laws = content_laws;
+  al =
+      record { row = Heap; laws = heap_laws; g = ghosts; d = dict; drops = plain_drop Heap };
+}

@@ -10,6 +10,6 @@ use Rattle.std.specs.declared.option.Option.TheVariants.{None, Some}
 
 -- the memory that a holder owns: the box at the holder's pointer, with the right to free it. If the
 -- holder is empty, its pointer is null, and it owns nothing
-abbrev pub held : (R : RattleType) → Global → Ptr → Option R.Denot → Fml
-held R alloc at None = feq Ptr at null_ptr
-held R alloc at (Some device) = box_owns (ghosts.dealloc_token alloc) R at device
+abbrev pub held_memory : (R : RattleType) → Global → Ptr → Option R.Denot → Fml
+held_memory R alloc at None = feq Ptr at null_ptr
+held_memory R alloc at (Some device) = box_owns (ghosts.dealloc_token alloc) R at device

@@ -1,6 +1,6 @@
 -- What C sees of a keeper: what the keeper asks of its host, and what the host reports to it.
 use Rattle.std.specs.Prelude.{◌≡◌, ◌==◌, ℕ, ◌⊎◌, Bool, true, false, if◌then◌else◌, List, [], length, take, Option, Some, None}
-use Rattle.tpm_keeping.specs.Cutting.{Caller, called, caller_of, next_call}
+use Rattle.tpm_keeping.specs.Cutting.{Caller, caller_after_ask, caller_of, next_call}
 use Rattle.tpm_keeping.specs.Holder.{Holder, Told, Done, Stands, Gone, Bytes, Failed, Starved}
 use Rattle.tpm_keeping.specs.Sentence.{sentence}
 use Rattle.tpm_keeping.specs.View.{ask_of}
@@ -33,7 +33,7 @@ view_of keeper = (call_of keeper).holder
 -- A call for this job began. An unfinished call was abandoned.
 abbrev pub Begins : (cuts : Bool) → Job → (text : List ℕ) → (before after : DeviceKeeper) → Type 0
 Begins cuts job text before after =
-    (call_of after ≡ called cuts job text (view_of before)) × (after.cuts ≡ before.cuts)
+    (call_of after ≡ caller_after_ask cuts job text (view_of before)) × (after.cuts ≡ before.cuts)
 
 -- the `Force` with this number, or None if no `Force` has it
 abbrev pub force_of : ℕ → Option Force

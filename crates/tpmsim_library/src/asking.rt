@@ -10,7 +10,7 @@ ghost use Rattle.tpm_keeping.specs.declared.holder.Job.TheVariants.{Begin, Execu
 ghost use Rattle.tpm_kept_device.specs.Answer.{PlainAnswer, answer_of};
 ghost use Rattle.tpm_kept_device.specs.Texts.{cycle_text, seed_text, text_at};
 ghost use Rattle.tpmsim_library.specs.Keeping.{Begins, IsAnswer, content_at, executed_by, shown_by};
-ghost use Rattle.tpmsim_library.specs.Told.{done, no_answer, no_device, no_locality, no_memory};
+ghost use Rattle.tpmsim_library.specs.Told.{done_code, no_answer, no_device, no_locality, no_memory};
 ghost use Rattle.tpmsim_library.specs.declared.keeper.DeviceKeeper.{DeviceKeeper};
 
 use crate::device::Answered;
@@ -33,15 +33,15 @@ pub extern "C" fn tpmsim_keeper_execute(
     completes: u8,
     random: &[u8; 256],
 ) -> u8
-    ensures begins { result ≡ done → (before : DeviceKeeper) × (after : DeviceKeeper)
+    ensures begins { result ≡ done_code → (before : DeviceKeeper) × (after : DeviceKeeper)
         × (holder.old.keeper ≡ Some before) × (holder.new.keeper ≡ Some after)
         × Begins before.cuts Execute
         (text_at now_ms locality (not (completes == 0)) random.now buffer.now) before after }
-    ensures refused { result ≢ done → holder.new.keeper ≡ holder.old.keeper }
+    ensures refused { result ≢ done_code → holder.new.keeper ≡ holder.old.keeper }
     ensures locality { result ≡ no_locality → 4 < locality }
     ensures memory { result ≡ no_memory → (before : DeviceKeeper)
         × (holder.old.keeper ≡ Some before) }
-    ensures told { result ≢ done → result ≢ no_locality → result ≢ no_memory
+    ensures told { result ≢ done_code → result ≢ no_locality → result ≢ no_memory
         → (result ≡ no_device) × (holder.old.keeper ≡ None) }
 {
     let Some(locality) = Locality::new(locality) else {
@@ -67,13 +67,13 @@ pub extern "C" fn tpmsim_keeper_power(
     now_ms: u64,
     start: u64,
 ) -> u8
-    ensures begins { result ≡ done → (before : DeviceKeeper) × (after : DeviceKeeper)
+    ensures begins { result ≡ done_code → (before : DeviceKeeper) × (after : DeviceKeeper)
         × (holder.old.keeper ≡ Some before) × (holder.new.keeper ≡ Some after)
         × Begins before.cuts Execute (cycle_text now_ms start) before after }
-    ensures refused { result ≢ done → holder.new.keeper ≡ holder.old.keeper }
+    ensures refused { result ≢ done_code → holder.new.keeper ≡ holder.old.keeper }
     ensures memory { result ≡ no_memory → (before : DeviceKeeper)
         × (holder.old.keeper ≡ Some before) }
-    ensures told { result ≢ done → result ≢ no_memory
+    ensures told { result ≢ done_code → result ≢ no_memory
         → (result ≡ no_device) × (holder.old.keeper ≡ None) }
 {
     let Some(mut kept) = holder.take(alloc) else {
@@ -98,13 +98,13 @@ pub extern "C" fn tpmsim_keeper_seed(
     start: u64,
     content: &[u8],
 ) -> u8
-    ensures begins { result ≡ done → (before : DeviceKeeper) × (after : DeviceKeeper)
+    ensures begins { result ≡ done_code → (before : DeviceKeeper) × (after : DeviceKeeper)
         × (holder.old.keeper ≡ Some before) × (holder.new.keeper ≡ Some after)
         × Begins before.cuts Begin (seed_text kind now_ms start content.now) before after }
-    ensures refused { result ≢ done → holder.new.keeper ≡ holder.old.keeper }
+    ensures refused { result ≢ done_code → holder.new.keeper ≡ holder.old.keeper }
     ensures memory { result ≡ no_memory → (before : DeviceKeeper)
         × (holder.old.keeper ≡ Some before) }
-    ensures told { result ≢ done → result ≢ no_memory
+    ensures told { result ≢ done_code → result ≢ no_memory
         → (result ≡ no_device) × (holder.old.keeper ≡ None) }
 {
     let Some(mut kept) = holder.take(alloc) else {
@@ -128,13 +128,13 @@ pub extern "C" fn tpmsim_keeper_restore(
     start: u64,
     state: &[u8],
 ) -> u8
-    ensures begins { result ≡ done → (before : DeviceKeeper) × (after : DeviceKeeper)
+    ensures begins { result ≡ done_code → (before : DeviceKeeper) × (after : DeviceKeeper)
         × (holder.old.keeper ≡ Some before) × (holder.new.keeper ≡ Some after)
         × Begins true Execute (2 ∷ seed_text 2 now_ms start state.now) before after }
-    ensures refused { result ≢ done → holder.new.keeper ≡ holder.old.keeper }
+    ensures refused { result ≢ done_code → holder.new.keeper ≡ holder.old.keeper }
     ensures memory { result ≡ no_memory → (before : DeviceKeeper)
         × (holder.old.keeper ≡ Some before) }
-    ensures told { result ≢ done → result ≢ no_memory
+    ensures told { result ≢ done_code → result ≢ no_memory
         → (result ≡ no_device) × (holder.old.keeper ≡ None) }
 {
     let Some(mut kept) = holder.take(alloc) else {
@@ -157,16 +157,16 @@ pub extern "C" fn tpmsim_keeper_answer(
     response: &mut [u8; 4096],
     answered: &mut Answered,
 ) -> u8
-    ensures answers { result ≡ done → (kept : DeviceKeeper) × (a : PlainAnswer)
+    ensures answers { result ≡ done_code → (kept : DeviceKeeper) × (a : PlainAnswer)
         × (holder.old.keeper ≡ Some kept) × (answer_of (executed_by kept) ≡ Ok a)
         × IsAnswer a response.new answered.new }
-    ensures rest { result ≡ done
+    ensures rest { result ≡ done_code
         → drop answered.new.size response.new ≡ drop answered.new.size response.old }
-    ensures refused { result ≢ done
+    ensures refused { result ≢ done_code
         → (response.new ≡ response.old) × (answered.new ≡ answered.old) }
     ensures none { result ≡ no_answer → (kept : DeviceKeeper) × (why : Malformed)
         × (holder.old.keeper ≡ Some kept) × (answer_of (executed_by kept) ≡ Err why) }
-    ensures told { result ≢ done → result ≢ no_answer
+    ensures told { result ≢ done_code → result ≢ no_answer
         → (result ≡ no_device) × (holder.old.keeper ≡ None) }
     ensures kept { holder.new.keeper ≡ holder.old.keeper }
 {

@@ -24,7 +24,7 @@ ghost use Rattle.tpm_step.specs.step.Execution.{Executes};
 ghost use Rattle.tpm_completion.specs.Completion.{forgotten};
 ghost use Rattle.tpmsim_library.specs.Journal.{journal_with};
 ghost use Rattle.tpmsim_library.specs.State.{command_seen, cycle_seen, record_of};
-ghost use Rattle.tpmsim_library.specs.Told.{Tells, done, no_device, no_locality, no_memory};
+ghost use Rattle.tpmsim_library.specs.Told.{Tells, done_code, no_device, no_locality, no_memory};
 ghost use Rattle.tpmsim_library.specs.Version.{version_number};
 ghost use Rattle.tpmsim_library.specs.declared.device.Device.{Device};
 
@@ -47,10 +47,10 @@ pub extern "C" fn tpmsim_version() -> u32
 /// the holder had. Returns NO_MEMORY, and leaves the holder unchanged, if an allocation fails.
 #[unsafe(no_mangle)]
 pub extern "C" fn tpmsim_manufacture(alloc: Global, holder: &mut Holder, random: &[u8; 256]) -> u8
-    ensures made { result ≡ done → (device : Device) × (holder.new.device ≡ Some device)
+    ensures made { result ≡ done_code → (device : Device) × (holder.new.device ≡ Some device)
         × (record_of device ≡ manufactured random.now) × Follows (record_of device) []
         × (device.journal ≡ journal_of 0 0) }
-    ensures refused { result ≢ done
+    ensures refused { result ≢ done_code
         → (result ≡ no_memory) × (holder.new.device ≡ holder.old.device) }
 {
     let Some(device) = Device::manufacture(alloc, random) else {
@@ -73,7 +73,7 @@ pub extern "C" fn tpmsim_execute(
     response: &mut [u8; 4096],
     answered: &mut Answered,
 ) -> u8
-    ensures executes { result ≡ done → (before : Device) × (after : Device)
+    ensures executes { result ≡ done_code → (before : Device) × (after : Device)
         × (holder.old.device ≡ Some before) × (holder.new.device ≡ Some after)
         × Executes false (record_of before) (Given buffer.now locality elapsed_ms random.now)
         (command_seen response.new answered.new after)
@@ -82,11 +82,11 @@ pub extern "C" fn tpmsim_execute(
         × (answered.new.drawn ≡ drawn_by (record_of before)
         (Given buffer.now locality elapsed_ms random.now) answered.new.check)
         × (after.journal ≡ before.journal) }
-    ensures rest { result ≡ done
+    ensures rest { result ≡ done_code
         → drop answered.new.size response.new ≡ drop answered.new.size response.old }
-    ensures refused { result ≢ done → (holder.new.device ≡ holder.old.device)
+    ensures refused { result ≢ done_code → (holder.new.device ≡ holder.old.device)
         × (response.new ≡ response.old) × (answered.new ≡ answered.old) }
-    ensures told { result ≢ done → result ≢ no_locality
+    ensures told { result ≢ done_code → result ≢ no_locality
         → (result ≡ no_device) × (holder.old.device ≡ None) }
     ensures locality { result ≡ no_locality → 4 < locality }
 {
@@ -111,7 +111,8 @@ pub extern "C" fn tpmsim_power_cycle(alloc: Global, holder: &mut Holder) -> u8
         × After Follows (record_of before) Cycled (cycle_seen after)
         × (after.journal ≡ journal_with before.journal
         (forgotten (record_of after) before.journal.layer))) }
-    ensures told { MatchOption holder.old.device (result ≡ no_device) (λ before. result ≡ done) }
+    ensures told { MatchOption holder.old.device (result ≡ no_device)
+        (λ before. result ≡ done_code) }
 {
     let Some(mut device) = holder.take(alloc) else {
         return NO_DEVICE;
@@ -162,11 +163,11 @@ pub extern "C" fn tpmsim_kept(alloc: Global, holder: &mut Holder, room: &mut [u8
 pub extern "C" fn tpmsim_open(alloc: Global, holder: &mut Holder, image: &[u8]) -> u8
     ensures opens { (opened : Result Device Fault) × Opens record_of true image.now opened
         × Tells opened holder.old.device holder.new.device result }
-    ensures history { result ≡ done → (version : Version) (r : Record) (history : History)
+    ensures history { result ≡ done_code → (version : Version) (r : Record) (history : History)
         → IsRecord r → Follows r history → IsImage version (kept_of r) image.now
         → (device : Device) × (holder.new.device ≡ Some device)
         × Follows (record_of device) (PowerCycled ∷ history) }
-    ensures journal { result ≡ done → (device : Device) × (holder.new.device ≡ Some device)
+    ensures journal { result ≡ done_code → (device : Device) × (holder.new.device ≡ Some device)
         × (device.journal ≡ journal_of 0 0) }
 {
     match Device::open(alloc, image) {

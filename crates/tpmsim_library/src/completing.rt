@@ -6,7 +6,7 @@ ghost use Rattle.tpm_completion.specs.Execution.{CompletesIf};
 ghost use Rattle.tpm_step.specs.step.Events.{Given};
 ghost use Rattle.tpmsim_library.specs.Journal.{journal_with, seen_in};
 ghost use Rattle.tpmsim_library.specs.State.{record_of};
-ghost use Rattle.tpmsim_library.specs.Told.{done, no_device, no_locality};
+ghost use Rattle.tpmsim_library.specs.Told.{done_code, no_device, no_locality};
 ghost use Rattle.tpmsim_library.specs.declared.device.Device.{Device};
 
 use crate::device::{Answered, Device};
@@ -28,16 +28,16 @@ pub extern "C" fn tpmsim_complete(
     response: &mut [u8; 4096],
     answered: &mut Answered,
 ) -> u8
-    ensures completes { result ≡ done → (before : Device) × (after : Device)
+    ensures completes { result ≡ done_code → (before : Device) × (after : Device)
         × (holder.old.device ≡ Some before) × (holder.new.device ≡ Some after)
         × CompletesIf false true before.journal.layer (record_of before)
         (Given buffer.now locality elapsed_ms random.now) (seen_in response.new answered.new after)
         × (after.journal ≡ journal_with before.journal after.journal.layer) }
-    ensures rest { result ≡ done
+    ensures rest { result ≡ done_code
         → drop answered.new.size response.new ≡ drop answered.new.size response.old }
-    ensures refused { result ≢ done → (holder.new.device ≡ holder.old.device)
+    ensures refused { result ≢ done_code → (holder.new.device ≡ holder.old.device)
         × (response.new ≡ response.old) × (answered.new ≡ answered.old) }
-    ensures told { result ≢ done → result ≢ no_locality
+    ensures told { result ≢ done_code → result ≢ no_locality
         → (result ≡ no_device) × (holder.old.device ≡ None) }
     ensures locality { result ≡ no_locality → 4 < locality }
 {

@@ -4,7 +4,7 @@ ghost use Rattle.std.specs.Prelude.{◌≡◌};
 ghost use Rattle.std.specs.Option.{MatchOption};
 ghost use Rattle.std.specs.declared.option.Option.{Option};
 ghost use Rattle.std.specs.declared.option.Option.TheVariants.{None, Some};
-ghost use Rattle.tpmsim_library.specs.Held.{held};
+ghost use Rattle.tpmsim_library.specs.Held.{held_memory};
 ghost use Rattle.tpmsim_library.specs.contracts.device.Device.{the_row as device_row};
 ghost use Rattle.tpmsim_library.specs.declared.device.Device.{Device};
 
@@ -26,7 +26,7 @@ pub struct Holder {
 }
 
 impl Model for Holder {
-    ghost also_owns = { λ h. held device_row h.alloc h.at h.device };
+    ghost also_owns = { λ h. held_memory device_row h.alloc h.at h.device };
 }
 
 impl Holder {

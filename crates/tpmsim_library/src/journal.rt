@@ -13,7 +13,7 @@ ghost use Rattle.tpm_journal_text.specs.declared.head.HeadKind.TheVariants.{Imag
 ghost use Rattle.tpmsim_library.specs.Journal.{BeginsIfRoom, HasFault, IsOfJournal, Records};
 ghost use Rattle.tpmsim_library.specs.Journal.{CheckpointsIfFits, checkpoint_head, command_by, image_at_power};
 ghost use Rattle.tpmsim_library.specs.State.{record_of};
-ghost use Rattle.tpmsim_library.specs.Told.{done, follow_number, no_device, no_locality};
+ghost use Rattle.tpmsim_library.specs.Told.{done_code, follow_number, no_device, no_locality};
 ghost use Rattle.tpmsim_library.specs.Told.{no_memory, open_number};
 ghost use Rattle.tpmsim_library.specs.declared.device.Device.{Device};
 
@@ -82,11 +82,11 @@ pub extern "C" fn tpmsim_journal_open(
     text: &[u8],
     taken: &mut usize,
 ) -> u8
-    ensures opens { result ≡ done → (device : Device) × (holder.new.device ≡ Some device)
+    ensures opens { result ≡ done_code → (device : Device) × (holder.new.device ≡ Some device)
         × IsOfJournal text.now taken.new device }
-    ensures refused { result ≢ done
+    ensures refused { result ≢ done_code
         → (holder.new.device ≡ holder.old.device) × (taken.new ≡ taken.old) }
-    ensures told { result ≢ done → result ≢ no_memory
+    ensures told { result ≢ done_code → result ≢ no_memory
         → (fault : Fault) × (result ≡ open_number fault) × HasFault text.now fault }
 {
     match Device::open_journal(alloc, text, taken) {
@@ -142,18 +142,18 @@ pub extern "C" fn tpmsim_journal_execute(
     entry: &mut [u8; 9216],
     size: &mut usize,
 ) -> u8
-    ensures records { result ≡ done → (before : Device) × (after : Device)
+    ensures records { result ≡ done_code → (before : Device) × (after : Device)
         × (holder.old.device ≡ Some before) × (holder.new.device ≡ Some after)
         × Records before
         (command_by before buffer.now locality now_ms (not (completes == 0)) random.now)
         response.new answered.new size.new entry.new after }
-    ensures rest { result ≡ done
+    ensures rest { result ≡ done_code
         → drop answered.new.size response.new ≡ drop answered.new.size response.old }
-    ensures refused { result ≢ done → (holder.new.device ≡ holder.old.device)
+    ensures refused { result ≢ done_code → (holder.new.device ≡ holder.old.device)
         × (response.new ≡ response.old) × (answered.new ≡ answered.old)
         × (entry.new ≡ entry.old) × (size.new ≡ size.old) }
     ensures locality { result ≡ no_locality → 4 < locality }
-    ensures told { result ≢ done → result ≢ no_locality
+    ensures told { result ≢ done_code → result ≢ no_locality
         → (result ≡ no_device) × (holder.old.device ≡ None) }
 {
     let Some(locality) = Locality::new(locality) else {

@@ -4,7 +4,7 @@ ghost use Rattle.std.specs.Prelude.{◌≡◌};
 ghost use Rattle.std.specs.Option.{MatchOption};
 ghost use Rattle.std.specs.declared.option.Option.{Option};
 ghost use Rattle.std.specs.declared.option.Option.TheVariants.{None, Some};
-ghost use Rattle.tpmsim_library.specs.Held.{held};
+ghost use Rattle.tpmsim_library.specs.Held.{held_memory};
 ghost use Rattle.tpmsim_library.specs.contracts.keeper.DeviceKeeper.{the_row as keeper_row};
 ghost use Rattle.tpmsim_library.specs.declared.keeper.DeviceKeeper.{DeviceKeeper};
 
@@ -26,7 +26,7 @@ pub struct KeeperHolder {
 }
 
 impl Model for KeeperHolder {
-    ghost also_owns = { λ h. held keeper_row h.alloc h.at h.keeper };
+    ghost also_owns = { λ h. held_memory keeper_row h.alloc h.at h.keeper };
 }
 
 impl KeeperHolder {

@@ -13,7 +13,7 @@ ghost use Rattle.tpmsim_library.specs.Keeping.{Begins, GoesOn, call_of, force_of
 ghost use Rattle.tpmsim_library.specs.Keeping.{fault_text, no_request, request_of, response_of};
 ghost use Rattle.tpmsim_library.specs.Keeping.{text_of};
 ghost use Rattle.tpmsim_library.specs.Keeping.{told_by, view_of};
-ghost use Rattle.tpmsim_library.specs.Told.{done, no_device, no_memory, no_word};
+ghost use Rattle.tpmsim_library.specs.Told.{done_code, no_device, no_memory, no_word};
 ghost use Rattle.tpmsim_library.specs.declared.keeper.DeviceKeeper.{DeviceKeeper};
 
 use crate::keeper::DeviceKeeper;
@@ -31,12 +31,12 @@ pub extern "C" fn tpmsim_keeper_new(
     force: u8,
     limit: u64,
 ) -> u8
-    ensures made { result ≡ done → (word : Force) × (new : DeviceKeeper)
+    ensures made { result ≡ done_code → (word : Force) × (new : DeviceKeeper)
         × (force_of force ≡ Some word) × (holder.new.keeper ≡ Some new)
         × (call_of new ≡ idle (newborn word limit)) }
-    ensures refused { result ≢ done → holder.new.keeper ≡ holder.old.keeper }
+    ensures refused { result ≢ done_code → holder.new.keeper ≡ holder.old.keeper }
     ensures word { result ≡ no_word → force_of force ≡ None }
-    ensures told { result ≢ done → result ≢ no_word → result ≡ no_memory }
+    ensures told { result ≢ done_code → result ≢ no_word → result ≡ no_memory }
     ensures memory { result ≡ no_memory → (word : Force) × (force_of force ≡ Some word) }
 {
     let Some(force) = force_of(force) else {
@@ -59,12 +59,13 @@ pub extern "C" fn tpmsim_keeper_begin(
     job: u8,
     text: &[u8],
 ) -> u8
-    ensures begins { result ≡ done → (word : Job) × (before : DeviceKeeper) × (after : DeviceKeeper)
+    ensures begins { result ≡ done_code → (word : Job) × (before : DeviceKeeper)
+        × (after : DeviceKeeper)
         × (job_of job ≡ Some word) × (holder.old.keeper ≡ Some before)
         × (holder.new.keeper ≡ Some after) × Begins before.cuts word text.now before after }
-    ensures refused { result ≢ done → holder.new.keeper ≡ holder.old.keeper }
+    ensures refused { result ≢ done_code → holder.new.keeper ≡ holder.old.keeper }
     ensures word { result ≡ no_word → job_of job ≡ None }
-    ensures told { result ≢ done → result ≢ no_memory → result ≢ no_word
+    ensures told { result ≢ done_code → result ≢ no_memory → result ≢ no_word
         → (result ≡ no_device) × (holder.old.keeper ≡ None) }
     ensures memory { result ≡ no_memory → (word : Job) × (before : DeviceKeeper)
         × (job_of job ≡ Some word) × (holder.old.keeper ≡ Some before) }
@@ -89,7 +90,8 @@ pub extern "C" fn tpmsim_keeper_begin(
 pub extern "C" fn tpmsim_keeper_cuts(alloc: Global, holder: &mut KeeperHolder, cuts: u8) -> u8
     ensures set { MatchOption holder.old.keeper (holder.new.keeper ≡ None) (λ before.
         holder.new.keeper ≡ Some (record before { cuts = not (cuts == 0) })) }
-    ensures told { MatchOption holder.old.keeper (result ≡ no_device) (λ before. result ≡ done) }
+    ensures told { MatchOption holder.old.keeper (result ≡ no_device)
+        (λ before. result ≡ done_code) }
 {
     let Some(mut kept) = holder.take(alloc) else {
         return NO_DEVICE;

@@ -4,7 +4,7 @@ ghost use Rattle.std.specs.Prelude.{◌≡◌};
 ghost use Rattle.std.specs.Option.{MatchOption};
 ghost use Rattle.std.specs.declared.option.Option.{Option};
 ghost use Rattle.std.specs.declared.option.Option.TheVariants.{None, Some};
-ghost use Rattle.tpmsim_library.specs.Held.{held};
+ghost use Rattle.tpmsim_library.specs.Held.{held_memory};
 
 use std::alloc::Global;
 use std::marker::Model;
@@ -19,7 +19,7 @@ pub struct Owner<T> {
 }
 
 impl<T> Model for Owner<T> {
-    ghost also_owns = { λ h. held T.row h.alloc h.at h.value };
+    ghost also_owns = { λ h. held_memory T.row h.alloc h.at h.value };
 }
 
 impl<T: Drop> Owner<T> {

@@ -12,7 +12,7 @@ ghost use Rattle.tpm_state_text.specs.State.{state_of_text, state_text};
 ghost use Rattle.tpm_state_text.specs.declared.fault.StateFault.{StateFault};
 ghost use Rattle.tpmsim_library.specs.Restoring.{IsOfState};
 ghost use Rattle.tpmsim_library.specs.State.{record_of, whole_state};
-ghost use Rattle.tpmsim_library.specs.Told.{done, no_memory};
+ghost use Rattle.tpmsim_library.specs.Told.{done_code, no_memory};
 ghost use Rattle.tpmsim_library.specs.Told.{state_number};
 ghost use Rattle.tpmsim_library.specs.declared.device.Device.{Device};
 
@@ -44,22 +44,22 @@ pub extern "C" fn tpmsim_snapshot(alloc: Global, holder: &mut Holder, buffer: &m
 /// the first error, or NO_MEMORY, and leaves the holder unchanged.
 #[unsafe(no_mangle)]
 pub extern "C" fn tpmsim_restore(alloc: Global, holder: &mut Holder, text: &[u8]) -> u8
-    ensures restores { result ≡ done → (device : Device) × (holder.new.device ≡ Some device)
+    ensures restores { result ≡ done_code → (device : Device) × (holder.new.device ≡ Some device)
         × IsOfState text.now device }
-    ensures refused { result ≢ done → holder.new.device ≡ holder.old.device }
-    ensures told { result ≢ done → result ≢ no_memory → (fault : StateFault)
+    ensures refused { result ≢ done_code → holder.new.device ≡ holder.old.device }
+    ensures told { result ≢ done_code → result ≢ no_memory → (fault : StateFault)
         × (result ≡ state_number fault) × (state_of_text text.now ≡ Err fault) }
 
     // Unless an allocation fails, restoring the state text of a device yields exactly that device,
     // including its layer and its history.
     ensures taken { (state : WholeState) → IsWholeState state → text.now ≡ state_text state
-        → result ≢ done → result ≡ no_memory }
+        → result ≢ done_code → result ≡ no_memory }
     ensures again { (before : Device) → IsWholeState (whole_state before)
-        → text.now ≡ state_text (whole_state before) → result ≡ done
+        → text.now ≡ state_text (whole_state before) → result ≡ done_code
         → (after : Device) × (holder.new.device ≡ Some after)
         × (record_of after ≡ record_of before) × (after.journal.layer ≡ before.journal.layer) }
     ensures history { (state : WholeState) (history : History) → IsWholeState state
-        → Follows state.device history → text.now ≡ state_text state → result ≡ done
+        → Follows state.device history → text.now ≡ state_text state → result ≡ done_code
         → (after : Device) × (holder.new.device ≡ Some after)
         × Follows (record_of after) history }
 {

@@ -13,9 +13,11 @@ unfolding numeral
 no_decimal [] e = refl
 no_decimal (digit ∷ digits) e = absurd cc
 
-pub decimal_if : (text : List ℕ) → (length text ≡ 0 → ⊥) → is_some (numeral 10 text) ≡ list_all (is_digit 10) text
+pub decimal_if : (text : List ℕ) → (length text ≡ 0 → ⊥)
+    → is_some (numeral 10 text) ≡ list_all (is_digit 10) text
 unfolding numeral
 decimal_if [] some = absurd (some refl)
-decimal_if (digit ∷ digits) some = some_if (list_all (is_digit 10) (digit ∷ digits)) (digits_value 10 (digit ∷ digits))
+decimal_if (digit ∷ digits) some =
+    some_if (list_all (is_digit 10) (digit ∷ digits)) (digits_value 10 (digit ∷ digits))
 
 pub ruleset decimals = (no_decimal, decimal_if)

@@ -12,12 +12,17 @@ none_begun : IsUnbroken []
 none_begun = λ k d l. absurd (omega (arith, l))
 
 pub line_found : (text : List ℕ) (end : ℕ) → position (λ byte. byte == 10) text ≡ Some end
-    → lines_of text ≡ take end text ∷ lines_of (take (length text - (end + 1)) (drop (end + 1) text))
+    → lines_of text ≡ take end text ∷ lines_of
+    (take (length text - (end + 1)) (drop (end + 1) text))
 line_found text end e =
     let found = position-Some (λ byte. byte == 10) text end 0 e in
-    let whole : take (length text - (end + 1)) (drop (end + 1) text) ≡ drop (end + 1) text = grind (arith, common_steps) in
+    let whole : take (length text - (end + 1)) (drop (end + 1) text) ≡ drop (end + 1) text =
+    grind (arith, common_steps) in
     ap lines_of (sym (append-nil text)) ∙ found_line [] text [] end none_begun e
-    ∙ ap (λ (rest : List ℕ). take end text ∷ lines_of rest) (append-nil (drop (end + 1) text) ∙ sym whole)
+    ∙ ap (λ (rest : List ℕ). take end text ∷ lines_of rest)
+    (append-nil (drop (end + 1) text) ∙ sym whole)
 
-pub line_is_last : (text : List ℕ) → position (λ byte. byte == 10) text ≡ None → 0 < length text → lines_of text ≡ text ∷ lines_of []
-line_is_last text e some = ap lines_of (sym (append-nil text)) ∙ found_last [] text [] none_begun e refl some
+pub line_is_last : (text : List ℕ) → position (λ byte. byte == 10) text ≡ None → 0 < length text
+    → lines_of text ≡ text ∷ lines_of []
+line_is_last text e some = ap lines_of (sym (append-nil text))
+    ∙ found_last [] text [] none_begun e refl some

@@ -2,7 +2,7 @@
 use Rattle.std.specs.Prelude.{◌≡◌, ℕ, ◌+◌, ◌^◌, ◌&&◌, nat_le, nat_lt, not, if◌then◌else◌}
 use Rattle.std.specs.Prelude.{List, [], ◌∷◌, ◌++◌, length, Option, Some, None, Result, Ok, Err, ok_or}
 use Rattle.tpm_bytes.specs.Reading.{◌>>=◌, refused_if}
-use Rattle.tpm_text.specs.Line.{assembled}
+use Rattle.tpm_text.specs.Line.{assembled_bytes}
 use Rattle.tpm_text.specs.declared.fault.AsmFault.{AsmFault}
 use Rattle.tpmsim_script.specs.BadLine.{long_line, misplaced, too_large}
 use Rattle.tpmsim_script.specs.Line.{Meaning, Executes, ExecutesWords, SetsLocality, Waits}
@@ -37,7 +37,7 @@ abbrev pub check : (waited : ℕ) → Meaning → Result ℕ BadLine
 check waited (Executes digits) = do
   buffer ← ok_or (bytes_of digits) (misplaced wanted.Hex)
   Ok 0
-check waited (ExecutesWords words) = assembly_check (assembled words)
+check waited (ExecutesWords words) = assembly_check (assembled_bytes words)
 check waited (SetsLocality number) = Ok waited
 check waited (Waits milliseconds) = wait_check waited milliseconds
 check waited (SetsEntropy digits) = do

@@ -40,8 +40,9 @@ fault_text number fault wanted =
     codes "line " ++ decimal number ++ codes ": " ++ fault_name fault ++ codes ": " ++ wanted
 
 -- the line of text that reports a bad line
-abbrev pub told : Fault → List ℕ
-told f = fault_text f.number f.bad.fault (wanted_text f.bad.wanted f.line f.bad.fault) ++ 10 ∷ []
+abbrev pub report_line : Fault → List ℕ
+report_line f = fault_text f.number f.bad.fault (wanted_text f.bad.wanted f.line f.bad.fault)
+    ++ 10 ∷ []
 
 -- the faults in the lines of a script, up to the limit of 1,048,576 lines. A script may not have
 -- more lines, and any further lines are not checked
@@ -57,7 +58,7 @@ end_of None false = Ok tt
 
 -- the report of a script: the reports of its bad lines, in order
 abbrev pub report_text : List ℕ → List ℕ
-report_text text = flat_map told (script_faults text)
+report_text text = flat_map report_line (script_faults text)
 
 abbrev pub report_end : List ℕ → Result (Unit {0}) ScriptFault
 report_end text =

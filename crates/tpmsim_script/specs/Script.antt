@@ -11,7 +11,7 @@ use Rattle.tpm_types.specs.Locality.{locality_number}
 use Rattle.tpm_record.specs.Record.{Record, manufactured}
 use Rattle.tpm_step.specs.step.Events.{PlainEvent, Given, Cycled}
 use Rattle.tpm_step.specs.step.Step.{Stepped, step}
-use Rattle.tpm_text.specs.Line.{assembled}
+use Rattle.tpm_text.specs.Line.{assembled_bytes}
 use Rattle.tpm_text.specs.Trace.{trace_text}
 use Rattle.tpmsim_script.specs.Line.{Meaning, Executes, ExecutesWords, SetsLocality, Waits}
 use Rattle.tpmsim_script.specs.Line.{SetsEntropy, CyclesPower, DoesNothing}
@@ -120,7 +120,7 @@ set_entropy p entropy =
 -- the effect of a line with this meaning; None if the line cannot be performed
 abbrev pub perform : Playing → Meaning → Option Effect
 perform p (Executes digits) = option_map (execute p) (bytes_of digits)
-perform p (ExecutesWords words) = option_map (execute p) (result_ok (assembled words))
+perform p (ExecutesWords words) = option_map (execute p) (result_ok (assembled_bytes words))
 perform p (SetsLocality number) = Some (silence (record p { locality = number }))
 perform p (Waits milliseconds) = wait p milliseconds
 perform p (SetsEntropy digits) = option_and_then (set_entropy p) (bytes_of digits)

@@ -6,7 +6,7 @@ ghost use Rattle.std.specs.Option.{option_or};
 ghost use Rattle.tpmsim_script.specs.Checker.{waited_of};
 ghost use Rattle.tpmsim_script.specs.Checking.{fault_at, first_number, line_check, waited_behind};
 ghost use Rattle.tpmsim_script.specs.Line.{lines_of};
-ghost use Rattle.tpmsim_script.specs.Report.{fault_text, report_text, script_faults, told};
+ghost use Rattle.tpmsim_script.specs.Report.{fault_text, report_line, report_text, script_faults};
 
 use crate::checker::Checker;
 use crate::run::SCRIPT_LINES;
@@ -69,7 +69,7 @@ impl Findings {
         line: &[u8],
     ) -> Result<(), AllocError>
         ensures text { OnOk result (self.new.text.bytes.items ≡ self.old.text.bytes.items
-            ++ flat_map told
+            ++ flat_map report_line
             (fault_at (line_check (waited_of checker.old) line.now) number line.now)) }
         ensures first { OnOk result (self.new.first ≡ option_or self.old.first
             (first_number

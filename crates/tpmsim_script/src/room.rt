@@ -4,7 +4,7 @@
 ghost use Rattle.std.specs.Prelude.{◌≡◌, ◌≤◌, length, vec_len};
 ghost use Rattle.std.specs.Result.{result_ok};
 ghost use Rattle.tpm_bytes.specs.Reading.{Gives};
-ghost use Rattle.tpm_text.specs.Line.{assembled};
+ghost use Rattle.tpm_text.specs.Line.{assembled_bytes};
 ghost use Rattle.tpmsim_script.specs.Line.{Tells, bytes_of};
 ghost use Rattle.tpmsim_script.specs.declared.room.TheConstants.{DECODED_LIMIT};
 
@@ -44,8 +44,8 @@ impl Room {
 
     /// Returns the command that the words encode, or their first fault from the left.
     pub fn assemble(&mut self, words: &[u8]) -> Result<&[u8], AsmFault>
-        ensures value { Gives (λ bytes. bytes.now) (assembled words.now) result }
-        ensures told { Tells (λ bytes. bytes.now) result (result_ok (assembled words.now)) }
+        ensures value { Gives (λ bytes. bytes.now) (assembled_bytes words.now) result }
+        ensures told { Tells (λ bytes. bytes.now) result (result_ok (assembled_bytes words.now)) }
     {
         assemble_in(words, &mut self.draft)
     }

@@ -11,4 +11,9 @@ pub mod Held
 
 -- the box of a device, in the form that std's proof steps for boxes expect
 abbrev pub boxes : Bx
-boxes = record { row = Content; laws = content_laws; al = record { row = Source; laws = source_laws; g = ghosts; d = dict; drops = plain_drop Source } }
+boxes = record {
+  row = Content;
+  laws = content_laws;
+  al =
+      record { row = Source; laws = source_laws; g = ghosts; d = dict; drops = plain_drop Source };
+}

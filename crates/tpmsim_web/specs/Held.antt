@@ -11,9 +11,9 @@ use Rattle.tpmsim_web.specs.declared.lent.Lent.{Lent}
 
 -- the memory that a holder owns: the box of its device, at the holder's pointer. An empty holder
 -- owns nothing, and its pointer is null
-abbrev pub held : (R : RattleType) → Lent → Ptr → Option R.Denot → Fml
-held R alloc at None = feq Ptr at null_ptr
-held R alloc at (Some device) = box_owns (ghosts.dealloc_token alloc) R at device
+abbrev pub held_memory : (R : RattleType) → Lent → Ptr → Option R.Denot → Fml
+held_memory R alloc at None = feq Ptr at null_ptr
+held_memory R alloc at (Some device) = box_owns (ghosts.dealloc_token alloc) R at device
 
 -- the uninitialized memory that a page provides for a device; its address may be compared with null
 abbrev pub place_held : RattleType → Ptr → Fml

@@ -5,7 +5,7 @@ use Rattle.tpm_machine.specs.Follows.{After, Follows}
 use Rattle.tpm_image_text.specs.Image.{image_text}
 use Rattle.tpm_image_text.specs.NonVolatile.{kept_of}
 use Rattle.tpm_image_text.specs.declared.version.Version.TheVariants.{Two}
-use Rattle.tpm_journal.specs.Checkpoint.{checkpointed, state_beside}
+use Rattle.tpm_journal.specs.Checkpoint.{checkpointed_journal, state_beside}
 use Rattle.tpm_journal.specs.Command.{Command, Executed, command_at, elapsed_of, entry_of}
 use Rattle.tpm_journal.specs.Opening.{IsJournal, OpensJournal}
 use Rattle.tpm_journal.specs.Starting.{start_by}
@@ -16,7 +16,7 @@ use Rattle.tpm_journal.specs.declared.opening.OpenFault.{OpenFault}
 use Rattle.tpm_journal_text.specs.Entry.{entry_text}
 use Rattle.tpm_journal_text.specs.Head.{head_text}
 use Rattle.tpm_journal_text.specs.declared.head.HeadKind.TheVariants.{State}
-use Rattle.tpm_record.specs.Cycle.{cycled}
+use Rattle.tpm_record.specs.Cycle.{after_cycle}
 use Rattle.tpm_record.specs.Record.{Record}
 use Rattle.tpm_step.specs.step.Events.{Cycled}
 use Rattle.tpm_step.specs.step.Execution.{Executes}
@@ -27,7 +27,7 @@ use Rattle.tpmsim_web.specs.declared.device.Device.{Device}
 
 -- the image of a device when power comes on
 abbrev pub image_at_power : Device → List ℕ
-image_at_power device = image_text Two (kept_of (cycled (record_of device)))
+image_at_power device = image_text Two (kept_of (after_cycle (record_of device)))
 
 -- The device was power-cycled, and its new journal starts at the time `now`.
 pub record BeginsJournal (before : Device) (now : ℕ) (after : Device) : Type 0 where
@@ -62,7 +62,7 @@ checkpoint_head device now =
 pub record Checkpoints (before : Device) (now : ℕ) (after : Device) : Type 0 where
   pub device : record_of after ≡ record_of before
   pub journal : after.journal
-      ≡ checkpointed before.journal (checkpoint_clock before now) (record_of before)
+      ≡ checkpointed_journal before.journal (checkpoint_clock before now) (record_of before)
   pub starts : start_by State (checkpoint_clock before now)
       (state_text (state_beside before.journal (record_of before)))
       ≡ Ok (record { journal = after.journal; device = record_of after })

@@ -1,7 +1,7 @@
 -- What a call returns about a line of a script, or about a command in words.
 use Rattle.std.specs.Prelude.{◌≡◌, ℕ, List, take, Some, Result, Ok, Err}
 use Rattle.tpm_image_text.specs.Saving.{PutsFront}
-use Rattle.tpm_text.specs.Line.{assembled}
+use Rattle.tpm_text.specs.Line.{assembled_bytes}
 use Rattle.tpm_text.specs.declared.fault.AsmFault.{AsmFault}
 use Rattle.tpm_text.specs.declared.fault.AsmFault.TheVariants as fault
 use Rattle.tpmsim_script.specs.Checking.{check, line_check}
@@ -35,7 +35,7 @@ abbrev pub Says : Meaning → (waited : ℕ) → ReadLine → (bytes : List ℕ)
 Says (Executes digits) waited read bytes =
     (read.kind ≡ 1) × (read.number ≡ waited) × (bytes_of digits ≡ Some bytes)
 Says (ExecutesWords words) waited read bytes =
-    (read.kind ≡ 2) × (read.number ≡ waited) × (assembled words ≡ Ok bytes)
+    (read.kind ≡ 2) × (read.number ≡ waited) × (assembled_bytes words ≡ Ok bytes)
 Says (SetsLocality number) waited read bytes = (read.kind ≡ 3) × (read.number ≡ number)
 Says (Waits milliseconds) waited read bytes = (read.kind ≡ 4) × (read.number ≡ milliseconds)
 Says (SetsEntropy digits) waited read bytes =

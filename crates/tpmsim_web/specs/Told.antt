@@ -12,8 +12,8 @@ use Rattle.tpm_state_text.specs.declared.fault.StateFault.{StateFault}
 use Rattle.tpm_state_text.specs.declared.fault.StateFault.TheVariants as state
 use Rattle.tpmsim_web.specs.declared.device.Device.{Device}
 
-abbrev pub done : ℕ
-done = 0
+abbrev pub done_code : ℕ
+done_code = 0
 
 abbrev pub no_device : ℕ
 no_device = 1
@@ -49,9 +49,9 @@ abbrev pub restore_number : RestoreFault → ℕ
 restore_number (restore.Text fault) = state_number fault
 restore_number restore.NoMemory = no_memory
 
--- `done` if all entries were executed, and otherwise the number of the error
+-- `done_code` if all entries were executed, and otherwise the number of the error
 abbrev pub follow_number : Option FollowFault → ℕ
-follow_number None = done
+follow_number None = done_code
 follow_number (Some follow.Damaged) = 11
 follow_number (Some follow.Otherwise) = 12
 
@@ -65,5 +65,5 @@ open_number (opening.Follow fault) = follow_number (Some fault)
 -- The number reports the result of opening an image. On success, the holder has the opened device.
 -- Otherwise, it has the device that it had before.
 abbrev pub Tells : Result Device ImageFault → (old new : Option Device) → (told : ℕ) → Type 0
-Tells (Ok device) old new told = (told ≡ done) × (new ≡ Some device)
+Tells (Ok device) old new told = (told ≡ done_code) × (new ≡ Some device)
 Tells (Err fault) old new told = (told ≡ fault_number fault) × (new ≡ old)

@@ -25,7 +25,7 @@ ghost use Rattle.tpm_text.specs.Trace.{trace_text};
 ghost use Rattle.tpm_completion.specs.Completion.{forgotten};
 ghost use Rattle.tpmsim_web.specs.Journal.{journal_with};
 ghost use Rattle.tpmsim_web.specs.State.{command_seen, cycle_seen, record_of};
-ghost use Rattle.tpmsim_web.specs.Told.{Tells, done, no_device, no_locality};
+ghost use Rattle.tpmsim_web.specs.Told.{Tells, done_code, no_device, no_locality};
 ghost use Rattle.tpmsim_web.specs.Version.{version_number};
 ghost use Rattle.tpmsim_web.specs.declared.device.Device.{Device};
 
@@ -81,7 +81,7 @@ pub extern "C" fn device_execute(
     answered: &mut Answered,
     trace: &mut [u8; 64],
 ) -> u8
-    ensures executes { result ≡ done → (before : Device) × (after : Device)
+    ensures executes { result ≡ done_code → (before : Device) × (after : Device)
         × (holder.old.device ≡ Some before) × (holder.new.device ≡ Some after)
         × Executes false (record_of before) (Given buffer.now locality elapsed_ms random.now)
         (command_seen response.new answered.new after)
@@ -90,16 +90,16 @@ pub extern "C" fn device_execute(
         × (answered.new.drawn ≡ drawn_by (record_of before)
         (Given buffer.now locality elapsed_ms random.now) answered.new.check)
         × (after.journal ≡ before.journal) }
-    ensures rest { result ≡ done
+    ensures rest { result ≡ done_code
         → drop answered.new.size response.new ≡ drop answered.new.size response.old }
-    ensures traced { result ≡ done → take answered.new.traced trace.new
+    ensures traced { result ≡ done_code → take answered.new.traced trace.new
         ≡ trace_text (Given buffer.now locality elapsed_ms random.now)
         (record { code = answered.new.code; check = answered.new.check })
         (take answered.new.size response.new) }
-    ensures refused { result ≢ done → (holder.new.device ≡ holder.old.device)
+    ensures refused { result ≢ done_code → (holder.new.device ≡ holder.old.device)
         × (response.new ≡ response.old) × (answered.new ≡ answered.old)
         × (trace.new ≡ trace.old) }
-    ensures told { result ≢ done → result ≢ no_locality
+    ensures told { result ≢ done_code → result ≢ no_locality
         → (result ≡ no_device) × (holder.old.device ≡ None) }
     ensures locality { result ≡ no_locality → 4 < locality }
 {
@@ -124,7 +124,8 @@ pub extern "C" fn device_cycle_power(holder: &mut Holder) -> u8
         × After Follows (record_of before) Cycled (cycle_seen after)
         × (after.journal ≡ journal_with before.journal
         (forgotten (record_of after) before.journal.layer))) }
-    ensures told { MatchOption holder.old.device (result ≡ no_device) (λ before. result ≡ done) }
+    ensures told { MatchOption holder.old.device (result ≡ no_device)
+        (λ before. result ≡ done_code) }
 {
     let Some(mut device) = holder.take() else {
         return NO_DEVICE;
@@ -177,11 +178,11 @@ pub extern "C" fn device_open(alloc: Global, holder: &mut Holder, image: &[u8]) 
         ((result ≡ no_device) × (holder.new.device ≡ None))
         (λ before. (opened : Result Device Fault) × Opens record_of false image.now opened
         × Tells opened holder.old.device holder.new.device result) }
-    ensures history { result ≡ done → (version : Version) (r : Record) (history : History)
+    ensures history { result ≡ done_code → (version : Version) (r : Record) (history : History)
         → IsRecord r → Follows r history → IsImage version (kept_of r) image.now
         → (device : Device) × (holder.new.device ≡ Some device)
         × Follows (record_of device) (PowerCycled ∷ history) }
-    ensures journal { result ≡ done → (device : Device) × (holder.new.device ≡ Some device)
+    ensures journal { result ≡ done_code → (device : Device) × (holder.new.device ≡ Some device)
         × (device.journal ≡ journal_of 0 0) }
 {
     let Some(mut device) = holder.take() else {

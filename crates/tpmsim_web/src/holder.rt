@@ -4,7 +4,7 @@ ghost use Rattle.std.specs.Prelude.{◌≡◌};
 ghost use Rattle.std.specs.Option.{MatchOption};
 ghost use Rattle.std.specs.declared.option.Option.{Option};
 ghost use Rattle.std.specs.declared.option.Option.TheVariants.{None, Some};
-ghost use Rattle.tpmsim_web.specs.Held.{held, place_held};
+ghost use Rattle.tpmsim_web.specs.Held.{held_memory, place_held};
 ghost use Rattle.tpmsim_web.specs.contracts.device.Device.{the_row as device_row};
 ghost use Rattle.tpmsim_web.specs.declared.device.Device.{Device};
 
@@ -25,7 +25,7 @@ pub struct Holder {
 }
 
 impl Model for Holder {
-    ghost also_owns = { λ h. held device_row h.alloc h.at h.device };
+    ghost also_owns = { λ h. held_memory device_row h.alloc h.at h.device };
 }
 
 /// The memory for one device, provided by the page. It is unused, and its address may be compared

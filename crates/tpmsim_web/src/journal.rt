@@ -13,7 +13,7 @@ ghost use Rattle.tpm_journal_text.specs.declared.head.HeadKind.TheVariants.{Imag
 ghost use Rattle.tpmsim_web.specs.Journal.{BeginsIfRoom, CheckpointsIfFits, HasFault, IsOfJournal};
 ghost use Rattle.tpmsim_web.specs.Journal.{Records, checkpoint_head, command_by, image_at_power};
 ghost use Rattle.tpmsim_web.specs.State.{record_of};
-ghost use Rattle.tpmsim_web.specs.Told.{done, follow_number, no_device, no_locality, open_number};
+ghost use Rattle.tpmsim_web.specs.Told.{done_code, follow_number, no_device, no_locality, open_number};
 ghost use Rattle.tpmsim_web.specs.declared.device.Device.{Device};
 
 use crate::device::{Answered, Device};
@@ -72,11 +72,11 @@ pub extern "C" fn journal_open(
     text: &[u8],
     taken: &mut usize,
 ) -> u8
-    ensures opens { result ≡ done → (device : Device) × (holder.new.device ≡ Some device)
+    ensures opens { result ≡ done_code → (device : Device) × (holder.new.device ≡ Some device)
         × IsOfJournal text.now taken.new device }
-    ensures refused { result ≢ done
+    ensures refused { result ≢ done_code
         → (holder.new.device ≡ holder.old.device) × (taken.new ≡ taken.old) }
-    ensures told { MatchOption holder.old.device (result ≡ no_device) (λ before. result ≢ done
+    ensures told { MatchOption holder.old.device (result ≡ no_device) (λ before. result ≢ done_code
         → (fault : Fault) × (result ≡ open_number fault) × HasFault text.now fault) }
 {
     let Some(mut device) = holder.take() else {
@@ -130,19 +130,19 @@ pub extern "C" fn journal_execute(
     entry: &mut [u8; 9216],
     size: &mut usize,
 ) -> u8
-    ensures records { result ≡ done → (before : Device) × (after : Device)
+    ensures records { result ≡ done_code → (before : Device) × (after : Device)
         × (holder.old.device ≡ Some before) × (holder.new.device ≡ Some after)
         × Records before
         (command_by before buffer.now locality now_ms (not (completes == 0)) random.now)
         response.new answered.new size.new entry.new after }
-    ensures rest { result ≡ done
+    ensures rest { result ≡ done_code
         → drop answered.new.size response.new ≡ drop answered.new.size response.old }
-    ensures untraced { result ≡ done → answered.new.traced ≡ 0 }
-    ensures refused { result ≢ done → (holder.new.device ≡ holder.old.device)
+    ensures untraced { result ≡ done_code → answered.new.traced ≡ 0 }
+    ensures refused { result ≢ done_code → (holder.new.device ≡ holder.old.device)
         × (response.new ≡ response.old) × (answered.new ≡ answered.old)
         × (entry.new ≡ entry.old) × (size.new ≡ size.old) }
     ensures locality { result ≡ no_locality → 4 < locality }
-    ensures told { result ≢ done → result ≢ no_locality
+    ensures told { result ≢ done_code → result ≢ no_locality
         → (result ≡ no_device) × (holder.old.device ≡ None) }
 {
     let Some(locality) = Locality::new(locality) else {

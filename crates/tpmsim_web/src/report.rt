@@ -3,7 +3,7 @@
 ghost use Rattle.std.specs.Prelude.{◌≡◌, ◌≤◌, ◌++◌, ◌∷◌, [], OnOk, take};
 ghost use Rattle.std.specs.List.{flat_map};
 ghost use Rattle.tpmsim_script.specs.Checking.{fault_at, line_check, waited_behind};
-ghost use Rattle.tpmsim_script.specs.Report.{fault_text, told};
+ghost use Rattle.tpmsim_script.specs.Report.{fault_text, report_line};
 
 use crate::front::put_front;
 use crate::script::read_line;
@@ -33,7 +33,7 @@ pub extern "C" fn script_report(
     report: &mut [u8; 256],
 ) -> usize
     ensures text { result ≤ 256 → take result report.new
-        ≡ flat_map told (fault_at (line_check waited.old line.now) number line.now) }
+        ≡ flat_map report_line (fault_at (line_check waited.old line.now) number line.now) }
     ensures waited { waited.new ≡ waited_behind (line_check waited.old line.now) waited.old }
 {
     match read_line(line, waited, written) {
@@ -45,7 +45,7 @@ pub extern "C" fn script_report(
 /// Writes the report on the bad line with this number to the start of a buffer.
 fn put_fault(number: u32, line: &[u8], bad: BadLine, report: &mut [u8; 256]) -> usize
     ensures { result ≤ 256 → take result report.new
-        ≡ told (record { number = number; line = line.now; bad = bad }) }
+        ≡ report_line (record { number = number; line = line.now; bad = bad }) }
 {
     let fault = FaultLine {
         number,

@@ -2,7 +2,7 @@
 
 ghost use Rattle.std.specs.Prelude.{◌≡◌, ◌≢◌, ◌≤◌, ◌&&◌, Err, IfErr, IfOk, None, Ok, OnOk, Some};
 ghost use Rattle.std.specs.Prelude.{false, length, nat_le, nat_lt, take, true};
-ghost use Rattle.tpm_text.specs.Line.{assembled};
+ghost use Rattle.tpm_text.specs.Line.{assembled_bytes};
 ghost use Rattle.tpmsim_script.specs.BadLine.{misplaced};
 ghost use Rattle.tpmsim_script.specs.Checking.{line_check, wait_check};
 ghost use Rattle.tpmsim_script.specs.Line.{bytes_of, hex_of, meaning_of};
@@ -113,8 +113,8 @@ fn decode(digits: &[u8], wanted: Wanted, written: &mut [u8; 32768]) -> Result<us
 /// Assembles a command in words, and writes the result to the start of a buffer. Returns the size
 /// of the result.
 fn assemble(words: &[u8], written: &mut [u8; 32768]) -> Result<usize, BadLine>
-    ensures good { IfOk result (λ size. assembled words.now ≡ Ok (take size written.new)) }
-    ensures bad { IfErr result (λ bad. (assembled words.now ≡ Err bad.fault)
+    ensures good { IfOk result (λ size. assembled_bytes words.now ≡ Ok (take size written.new)) }
+    ensures bad { IfErr result (λ bad. (assembled_bytes words.now ≡ Err bad.fault)
         × (bad.wanted ≡ Wanted.Command)) }
 {
     let mut draft = Draft::new();

@@ -12,7 +12,7 @@ ghost use Rattle.tpm_state_text.specs.State.{state_of_text, state_text};
 ghost use Rattle.tpm_state_text.specs.declared.fault.StateFault.{StateFault};
 ghost use Rattle.tpmsim_web.specs.Restoring.{IsOfState};
 ghost use Rattle.tpmsim_web.specs.State.{record_of, whole_state};
-ghost use Rattle.tpmsim_web.specs.Told.{done, no_device, state_number};
+ghost use Rattle.tpmsim_web.specs.Told.{done_code, no_device, state_number};
 ghost use Rattle.tpmsim_web.specs.declared.device.Device.{Device};
 
 use crate::device::Device;
@@ -43,23 +43,23 @@ pub extern "C" fn device_snapshot(holder: &mut Holder, buffer: &mut [u8]) -> usi
 /// the first error, or NO_DEVICE, and leaves the holder unchanged.
 #[unsafe(no_mangle)]
 pub extern "C" fn device_restore(alloc: Global, holder: &mut Holder, text: &[u8]) -> u8
-    ensures restores { result ≡ done → (device : Device) × (holder.new.device ≡ Some device)
+    ensures restores { result ≡ done_code → (device : Device) × (holder.new.device ≡ Some device)
         × IsOfState text.now device }
-    ensures refused { result ≢ done → holder.new.device ≡ holder.old.device }
-    ensures told { MatchOption holder.old.device (result ≡ no_device) (λ before. result ≢ done
+    ensures refused { result ≢ done_code → holder.new.device ≡ holder.old.device }
+    ensures told { MatchOption holder.old.device (result ≡ no_device) (λ before. result ≢ done_code
         → (fault : StateFault) × (result ≡ state_number fault)
         × (state_of_text text.now ≡ Err fault)) }
 
     // Restoring the state text of a device yields exactly that device, including its layer and its
     // history.
     ensures taken { (state : WholeState) → IsWholeState state → text.now ≡ state_text state
-        → IfSome holder.old.device (λ before. result ≡ done) }
+        → IfSome holder.old.device (λ before. result ≡ done_code) }
     ensures again { (before : Device) → IsWholeState (whole_state before)
-        → text.now ≡ state_text (whole_state before) → result ≡ done
+        → text.now ≡ state_text (whole_state before) → result ≡ done_code
         → (after : Device) × (holder.new.device ≡ Some after)
         × (record_of after ≡ record_of before) × (after.journal.layer ≡ before.journal.layer) }
     ensures history { (state : WholeState) (history : History) → IsWholeState state
-        → Follows state.device history → text.now ≡ state_text state → result ≡ done
+        → Follows state.device history → text.now ≡ state_text state → result ≡ done_code
         → (after : Device) × (holder.new.device ≡ Some after)
         × Follows (record_of after) history }
 {

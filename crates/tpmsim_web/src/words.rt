@@ -9,7 +9,7 @@ ghost use Rattle.tpm_help.specs.Form.{form_of};
 ghost use Rattle.tpm_help.specs.ResponseCode.{told_of};
 ghost use Rattle.tpm_help.specs.Wanted.{word_at};
 ghost use Rattle.tpm_image_text.specs.Saving.{PutsFront};
-ghost use Rattle.tpm_text.specs.Line.{assembled};
+ghost use Rattle.tpm_text.specs.Line.{assembled_bytes};
 ghost use Rattle.tpm_text.specs.declared.fault.AsmFault.{AsmFault as Fault};
 ghost use Rattle.tpmsim_web.specs.Place.{place_number};
 ghost use Rattle.tpmsim_web.specs.Reading.{TellsFault};
@@ -34,8 +34,8 @@ pub extern "C" fn line_assemble(
 ) -> u8
     ensures told { result ≡ read.new.fault }
     ensures good { result ≡ 0 → (read.new.kind ≡ 2)
-        × (assembled words.now ≡ Ok (take read.new.size command.new)) }
-    ensures bad { result ≢ 0 → (fault : Fault) × (assembled words.now ≡ Err fault)
+        × (assembled_bytes words.now ≡ Ok (take read.new.size command.new)) }
+    ensures bad { result ≢ 0 → (fault : Fault) × (assembled_bytes words.now ≡ Err fault)
         × TellsFault fault (word_at words.now fault) read.new wanted.old wanted.new
         × (command.new ≡ command.old) }
 {
@@ -56,7 +56,7 @@ pub extern "C" fn line_assemble(
 /// contract does not specify when no line is found.
 #[unsafe(no_mangle)]
 pub extern "C" fn line_spell(command: &[u8], buffer: &mut [u8]) -> usize
-    ensures spells { result ≢ 0 → (line : List ℕ) × (assembled line ≡ Ok command.now)
+    ensures spells { result ≢ 0 → (line : List ℕ) × (assembled_bytes line ≡ Ok command.now)
         × PutsFront line buffer.old result buffer.new }
     ensures none { result ≡ 0 → buffer.new ≡ buffer.old }
 {

@@ -23,9 +23,11 @@ module _ {X : Type 0} (n : ℕ) (xs ys : List X) (same : take n ys ≡ take n xs
   shorter d le = sym (take_twice d n ys le) ∙ ap (λ l. take d l) same ∙ take_twice d n xs le
 
   -- if two lists have the same prefix, they agree on each part of this prefix
-  pub part : (skipped count : ℕ) → skipped + count ≤ n → take count (drop skipped ys) ≡ take count (drop skipped xs)
+  pub part : (skipped count : ℕ) → skipped + count ≤ n
+      → take count (drop skipped ys) ≡ take count (drop skipped xs)
   part skipped count le =
-      sym (drop-take skipped count ys) ∙ ap (λ l. drop skipped l) (shorter (skipped + count) le) ∙ drop-take skipped count xs
+      sym (drop-take skipped count ys) ∙ ap (λ l. drop skipped l) (shorter (skipped + count) le)
+      ∙ drop-take skipped count xs
 
   -- two lists of the same length are equal if they have the same prefix, and this prefix is as long
   -- as one of them
@@ -33,9 +35,11 @@ module _ {X : Type 0} (n : ℕ) (xs ys : List X) (same : take n ys ≡ take n xs
   whole as_long le = sym (take_whole n ys (omega (arith, as_long, le))) ∙ same ∙ take_whole n xs le
 
 -- the prefix of a list stays the same if other elements follow it
-pub front_kept : {X : Type 0} (n : ℕ) (xs others : List X) → n ≤ length xs → take n (take n xs ++ others) ≡ take n xs
+pub front_kept : {X : Type 0} (n : ℕ) (xs others : List X) → n ≤ length xs
+    → take n (take n xs ++ others) ≡ take n xs
 front_kept n xs others le =
-    take-append-le n (take n xs) others (omega (arith, length-take-le n xs le)) ∙ take_twice n n xs (omega arith)
+    take-append-le n (take n xs) others (omega (arith, length-take-le n xs le))
+    ∙ take_twice n n xs (omega arith)
 
 -- Two lists agree on their first `d` elements, and on the elements from `d` to `n`. After the first
 -- `d`, both have the same number of elements, at most `n - d + k`.
@@ -45,12 +49,14 @@ pub record Behind (n d k : ℕ) (xs ys : List ℕ) : Type 0 where
   pub enough : length (drop d xs) ≤ (n - d) + k
   pub as_long : length (drop d ys) ≡ length (drop d xs)
 
-pub behind : (n d k : ℕ) (xs ys : List ℕ) → length ys ≡ length xs → length xs ≤ n + k → k ≤ length (drop d xs)
+pub behind : (n d k : ℕ) (xs ys : List ℕ) → length ys ≡ length xs → length xs ≤ n + k
+    → k ≤ length (drop d xs)
     → take n ys ≡ take n xs → Behind n d k xs ys
 behind n d k xs ys as_long enough left same =
     elim (cases_lt n d) [
       | inl lt ↦
-          let is : ys ≡ xs = whole n xs ys same as_long (omega (arith, length-drop d xs, enough, left, lt)) in
+          let is : ys ≡ xs =
+          whole n xs ys same as_long (omega (arith, length-drop d xs, enough, left, lt)) in
           record {
             first = ap (λ l. take d l) is;
             later = ap (λ l. take (n - d) (drop d l)) is;

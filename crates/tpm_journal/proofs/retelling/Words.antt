@@ -10,8 +10,10 @@ use Rattle.tpm_step.specs.step.Events.{PlainEvent}
 use Rattle.tpm_text.proofs.Traceable.{executed}
 use Rattle.tpm_journal.specs.Retelling.{CanBeTold}
 
-pub can_be_told : (can completes : Bool) (layer : Completion) (old : Record) (event : PlainEvent) (seen : Seen)
-    → CompletesIf can completes layer old event seen → CanBeTold completes event seen.step.row seen.step.response
+pub can_be_told : (can completes : Bool) (layer : Completion) (old : Record) (event : PlainEvent)
+    (seen : Seen)
+    → CompletesIf can completes layer old event seen
+    → CanBeTold completes event seen.step.row seen.step.response
 can_be_told can true layer old event seen done = tt
 can_be_told can false layer old event seen done = executed can old event seen.step done.executes
 

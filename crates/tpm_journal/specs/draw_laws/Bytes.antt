@@ -34,9 +34,9 @@ zeros_behind drawn random = take drawn random ++ replicate (256 - drawn) 0
 
 -- the event with only the random bytes that it drew, followed by zeros; the reported check
 -- determines how many it drew. A power cycle and a placed object have no random bytes.
-abbrev pub replayed : Record → PlainEvent → (check : ℕ) → PlainEvent
-replayed r (Given buffer locality elapsed random) check =
+abbrev pub replayed_event : Record → PlainEvent → (check : ℕ) → PlainEvent
+replayed_event r (Given buffer locality elapsed random) check =
     let drawn = drawn_by r (Given buffer locality elapsed random) check in
     Given buffer locality elapsed (zeros_behind drawn random)
-replayed r Cycled check = Cycled
-replayed r (Placed object) check = Placed object
+replayed_event r Cycled check = Cycled
+replayed_event r (Placed object) check = Placed object

@@ -25,25 +25,32 @@ is_head-Decides h =
     (λ p. record { in_time = p.0; small = p.1.0; are_bytes = p.1.1 })
     (λ has. (has.in_time, (has.small, has.are_bytes)))
     (Decides-and _ _ (Decides-ltb h.clock (2 ^ 64))
-    (Decides-and _ _ (Decides-leb (length h.content) (content_limit h.kind)) (are_bytes-Decides h.content)))
+    (Decides-and _ _ (Decides-leb (length h.content) (content_limit h.kind))
+    (are_bytes-Decides h.content)))
 
 -- ---- the parts of a head
 
-kind_is : (kind : HeadKind) (clock : ℕ) (content rest text : List ℕ) → text ≡ head_text kind clock content ++ rest → kind_in text ≡ kind
+kind_is : (kind : HeadKind) (clock : ℕ) (content rest text : List ℕ)
+    → text ≡ head_text kind clock content ++ rest → kind_in text ≡ kind
 unfolding kind_in
 kind_is kind clock content rest text t = by (begins_with text (head_word State)) refl
   where
-    by : (b : Bool) → begins_with text (head_word State) ≡ b → cond (begins_with text (head_word State)) State Image ≡ kind
+    by : (b : Bool) → begins_with text (head_word State) ≡ b
+        → cond (begins_with text (head_word State)) State Image ≡ kind
     by true so =
         let front = (begins_with-Decides text (head_word State)).0 so in
         cond-true (begins_with text (head_word State)) State Image so
         ∙ is_state (head_word State) text rest kind clock content refl
-        (ap (take (length (head_word State))) front ∙ take_at (head_word State) (drop (length (head_word State)) text) (length (head_word State)) refl) t
+        (ap (take (length (head_word State))) front
+        ∙ take_at (head_word State) (drop (length (head_word State)) text)
+        (length (head_word State)) refl) t
     by false not =
         cond-false (begins_with text (head_word State)) State Image not
-        ∙ is_image (head_word State) text rest (begins_with text (head_word State)) kind clock content refl (λ more m. begins text (head_word State) more m) not t
+        ∙ is_image (head_word State) text rest (begins_with text (head_word State)) kind clock
+        content refl (λ more m. begins text (head_word State) more m) not t
 
-mark_is : (kind : HeadKind) (clock : ℕ) (content rest text : List ℕ) → text ≡ head_text kind clock content ++ rest
+mark_is : (kind : HeadKind) (clock : ℕ) (content rest text : List ℕ)
+    → text ≡ head_text kind clock content ++ rest
     → head_mark_in text ≡ head_mark clock content
 unfolding head_mark_in
 mark_is kind clock content rest text t =
@@ -52,24 +59,28 @@ mark_is kind clock content rest text t =
     hex_is_at 19 20 text mark (head_mark_bytes clock content) (sym many)
     (ap (λ (n : ℕ). take (2 * n) (drop 19 text)) many
     ∙ ap (λ (n : ℕ). take 40 (drop n text)) (sym (word_many kind))
-    ∙ line_digits (head_word kind) mark text (head_sum clock content) 77 20 many (head_line_stands kind clock content text rest t))
+    ∙ line_digits (head_word kind) mark text (head_sum clock content) 77 20 many
+    (head_line_stands kind clock content text rest t))
 
 head_made : HeadKind → (clock : ℕ) → (content : List ℕ) → PlainHead
 head_made kind clock content = record { kind = kind; clock = clock; content = content }
 
 -- `head_by` returns a head if its numbers are in the mark, and its content is at its offset in the
 -- bytes.
-stands_told : (kind : HeadKind) (clock : ℕ) (content mark text : List ℕ) → HeadStands kind clock content mark text
+stands_told : (kind : HeadKind) (clock : ℕ) (content mark text : List ℕ)
+    → HeadStands kind clock content mark text
     → head_by kind mark text ≡ record { kind = kind; clock = clock; content = content }
 unfolding head_by head_made
 stands_told kind clock content mark text at =
     let count = from_be_bytes w32 (take 4 (drop 8 mark)) in
     ap (λ (n : ℕ). head_made kind n (hex_at 79 count text)) at.clock_told
-    ∙ ap (head_made kind clock) (hex_is_at 79 count text content at.has.are_bytes at.count_told at.content_told)
+    ∙ ap (head_made kind clock)
+    (hex_is_at 79 count text content at.has.are_bytes at.count_told at.content_told)
 
 -- ---- the head at the start of the bytes
 
-head_is : (h : PlainHead) (rest text : List ℕ) → HasHead h.kind h.clock h.content → text ≡ text_of_head h ++ rest
+head_is : (h : PlainHead) (rest text : List ℕ) → HasHead h.kind h.clock h.content
+    → text ≡ text_of_head h ++ rest
     → head_by (kind_in text) (head_mark_in text) text ≡ h
 head_is h rest text has t =
     let kind = kind_is h.kind h.clock h.content rest text t in
@@ -78,34 +89,47 @@ head_is h rest text has t =
     ∙ ap (λ (m : List ℕ). head_by h.kind m text) mark
     ∙ stands_told h.kind h.clock h.content (head_mark h.clock h.content) text
     (head_stands h.kind h.clock h.content (head_mark h.clock h.content) text rest has
-    (head_mark_many h.clock h.content) (head_mark_bytes h.clock h.content) (head_line_stands h.kind h.clock h.content text rest t) t)
+    (head_mark_many h.clock h.content) (head_mark_bytes h.clock h.content)
+    (head_line_stands h.kind h.clock h.content text rest t) t)
 
 begins_with_its_head : (text : List ℕ) (h : PlainHead) → Decides (begins_with_head text h)
-    (HasHead h.kind h.clock h.content × (text ≡ text_of_head h ++ drop (length (text_of_head h)) text))
+    (HasHead h.kind h.clock h.content
+    × (text ≡ text_of_head h ++ drop (length (text_of_head h)) text))
 begins_with_its_head text h =
-    Decides-and (is_head h) (begins_with text (text_of_head h)) (is_head-Decides h) (begins_with-Decides text (text_of_head h))
+    Decides-and (is_head h) (begins_with text (text_of_head h)) (is_head-Decides h)
+    (begins_with-Decides text (text_of_head h))
 
-pub head_at_front : (h : PlainHead) (rest text : List ℕ) → HasHead h.kind h.clock h.content → text ≡ text_of_head h ++ rest → head_at text ≡ Some h
+pub head_at_front : (h : PlainHead) (rest text : List ℕ) → HasHead h.kind h.clock h.content
+    → text ≡ text_of_head h ++ rest → head_at text ≡ Some h
 unfolding head_at
 head_at_front h rest text has t =
     ap (λ (g : PlainHead). where_so (begins_with_head text g) g) (head_is h rest text has t)
     ∙ so_told (begins_with_head text h) h
-    ((begins_with_its_head text h).1
-    (has, t ∙ ap (λ (l : List ℕ). text_of_head h ++ l) (sym (ap (drop (length (text_of_head h))) t ∙ drop_at (text_of_head h) rest (length (text_of_head h)) refl))))
+    ((begins_with_its_head text h).1 (
+      has,
+      t ∙ ap (λ (l : List ℕ). text_of_head h ++ l)
+          (sym (ap (drop (length (text_of_head h))) t
+          ∙ drop_at (text_of_head h) rest (length (text_of_head h)) refl)),
+    ))
 
-pub head_again : (h : PlainHead) (rest : List ℕ) → HasHead h.kind h.clock h.content → head_at (text_of_head h ++ rest) ≡ Some h
+pub head_again : (h : PlainHead) (rest : List ℕ) → HasHead h.kind h.clock h.content
+    → head_at (text_of_head h ++ rest) ≡ Some h
 head_again h rest has = head_at_front h rest (text_of_head h ++ rest) has refl
 
 pub head_found : (text : List ℕ) (h : PlainHead) → head_at text ≡ Some h
-    → HasHead h.kind h.clock h.content × (text ≡ text_of_head h ++ drop (length (text_of_head h)) text)
+    → HasHead h.kind h.clock h.content
+    × (text ≡ text_of_head h ++ drop (length (text_of_head h)) text)
 unfolding head_at
 head_found text h found =
     let mine = head_by (kind_in text) (head_mark_in text) text in
     let so = so_found (begins_with_head text mine) mine h found in
-    subst (λ (g : PlainHead). HasHead g.kind g.clock g.content × (text ≡ text_of_head g ++ drop (length (text_of_head g)) text)) so.1
+    subst (λ (g : PlainHead). HasHead g.kind g.clock g.content
+    × (text ≡ text_of_head g ++ drop (length (text_of_head g)) text)) so.1
     ((begins_with_its_head text mine).0 so.0)
 
-pub no_head : (text : List ℕ) → ((h : PlainHead) (rest : List ℕ) → HasHead h.kind h.clock h.content → text ≡ text_of_head h ++ rest → ⊥) → head_at text ≡ None
+pub no_head : (text : List ℕ)
+    → ((h : PlainHead) (rest : List ℕ) → HasHead h.kind h.clock h.content
+    → text ≡ text_of_head h ++ rest → ⊥) → head_at text ≡ None
 unfolding head_at
 no_head text none =
     let mine = head_by (kind_in text) (head_mark_in text) text in

@@ -14,12 +14,12 @@ read_or_none (Ok bytes) = bytes
 read_or_none (Err fault) = []
 
 -- the bytes that hex digits encode; the empty list if they are not hex
-abbrev pub spelled : (digits : List ℕ) → List ℕ
-spelled digits = read_or_none (decode_of digits)
+abbrev pub decoded_bytes : (digits : List ℕ) → List ℕ
+decoded_bytes digits = read_or_none (decode_of digits)
 
 -- the `count` bytes that are written in hex at an offset
 abbrev pub hex_at : (place count : ℕ) → (text : List ℕ) → List ℕ
-hex_at place count text = spelled (take (2 * count) (drop place text))
+hex_at place count text = decoded_bytes (take (2 * count) (drop place text))
 
 -- whether the first list begins with the second
 abbrev pub begins_with : (text front : List ℕ) → Bool

@@ -40,8 +40,8 @@ pub record Success : Type 0 where
   pub after : Record
 
 -- the success with this answer and an unchanged record
-abbrev pub unchanged : Record → AnswerParts → Success
-unchanged r answer = record { answer = answer; after = r }
+abbrev pub unchanged_success : Record → AnswerParts → Success
+unchanged_success r answer = record { answer = answer; after = r }
 
 -- A command that may allocate did what its row says: it changed the record and returned the answer,
 -- or it was refused. If an allocation can fail, a command that would succeed may have been refused

@@ -8,7 +8,7 @@ use Rattle.tpm_record.specs.Hierarchy.{IsHierarchies, manufactured_hierarchies}
 use Rattle.tpm_nv.specs.IsContents.{IsIndex}
 use Rattle.tpm_record.specs.IsRecord.{IsRecord}
 use Rattle.tpm_record.specs.Record.{Record}
-use Rattle.tpm_record.specs.Tick.{ticked}
+use Rattle.tpm_record.specs.Tick.{after_tick}
 use Rattle.tpm_types.specs.AuthValue.{IsAuthValue, trimmed}
 use Rattle.tpm_types.specs.Check.{check_number}
 use Rattle.tpm_types.specs.Limits.{object_limit, session_limit}
@@ -31,7 +31,7 @@ use Rattle.tpm_step.specs.step.General.{body_of, general, present_handle_at, ses
 use Rattle.tpm_step.specs.step.Answer.{refusal_text}
 use Rattle.tpm_step.specs.step.Safe.{IsHarmless}
 use Rattle.tpm_step.specs.step.Execution.{Executes}
-use Rattle.tpm_step.specs.step.Step.{Stepped, acceptance, accepted, counted_in, step}
+use Rattle.tpm_step.specs.step.Step.{Stepped, acceptance, acceptance_in, counted_in, step}
 use Rattle.tpm_step.specs.history.Executions.{Leads}
 use Rattle.tpm_step.proofs.step.PowerCycles.{none_taken, starting_banks}
 use Rattle.tpm_step.specs.history.FailedRun.{IsFailedRun, failed_run, protected_index, tried_device, wrong_after, zeros}
@@ -59,13 +59,21 @@ hierarchies = record {
 index : IsIndex 0x01000001 protected_index
 index = record {
   named = refl;
-  public = record { nv_index = record { fits = omega arith; named = refl }; attributes = record { fits = omega arith; named = refl }; auth_policy = omega arith; data_size = omega arith };
+  public = record {
+    nv_index = record { fits = omega arith; named = refl };
+    attributes =
+        record { fits = omega arith; named = refl };
+    auth_policy = omega arith;
+    data_size =
+        omega arith;
+  };
   sized = refl;
   auth_value = a_value;
   data_size = refl;
 }
 
-is_tried : (failed forgiving time : ℕ) → failed < 2 ^ 32 → forgiving < 1000000 → time < 2 ^ 64 → IsRecord (tried_device failed forgiving time)
+is_tried : (failed forgiving time : ℕ) → failed < 2 ^ 32 → forgiving < 1000000 → time < 2 ^ 64
+    → IsRecord (tried_device failed forgiving time)
 is_tried failed forgiving time few short soon = record {
   saved = tt;
   hierarchies = hierarchies;
@@ -83,7 +91,14 @@ is_tried failed forgiving time few short soon = record {
   objects = refl;
   each_object = none_taken _ object_limit;
   persistent = record { ascends = tt; few = omega arith; each = tt };
-  nv = record { ascends = (tt, tt); few = omega arith; small = omega arith; indices = (index, tt); max_count = omega arith };
+  nv = record {
+    ascends = (tt, tt);
+    few = omega arith;
+    small = omega arith;
+    indices =
+        (index, tt);
+    max_count = omega arith;
+  };
   time = soon;
   clock = soon;
   reset_count = omega arith;
@@ -94,7 +109,13 @@ is_tried failed forgiving time few short soon = record {
 
 -- the step of a TPM2_NV_Read with a wrong password, given its refusal and the record after it
 abbrev refused_with : Refused → Record → Stepped
-refused_with e after = record { response = refusal_text e; row = record { code = code_number_of command.NvRead; check = 9 }; after = after }
+refused_with e after =
+    record {
+      response = refusal_text e;
+      row =
+          record { code = code_number_of command.NvRead; check = 9 };
+      after = after;
+    }
 
 abbrev failed : Refused
 failed = failure check.Authorization 1 protection.Tries
@@ -103,31 +124,54 @@ abbrev locked : Refused
 locked = refusal check.Authorization (plain code.Lockout)
 
 first_step : step (tried_device 0 0 0) (wrong_after 0) ≡ refused_with failed (tried_device 1 0 0)
-unfolding code_number general body_of sessions_pass present_handle_at accepted acceptance entry_passes authorize grant password_grant trimmed area_at entry_at allowed_handle_at header_at code_named shape_of opened_after after_failure forgiven_after auth_value_of entity_at is_available is_present protection_of
+unfolding code_number general body_of sessions_pass present_handle_at acceptance_in acceptance
+    entry_passes authorize grant password_grant trimmed area_at entry_at allowed_handle_at header_at
+    code_named shape_of opened_after after_failure forgiven_after auth_value_of entity_at
+    is_available is_present protection_of
 first_step = refl
 
 second_step : step (tried_device 1 0 0) (wrong_after 0) ≡ refused_with failed (tried_device 2 0 0)
-unfolding code_number general body_of sessions_pass present_handle_at accepted acceptance entry_passes authorize grant password_grant trimmed area_at entry_at allowed_handle_at header_at code_named shape_of opened_after after_failure forgiven_after auth_value_of entity_at is_available is_present protection_of
+unfolding code_number general body_of sessions_pass present_handle_at acceptance_in acceptance
+    entry_passes authorize grant password_grant trimmed area_at entry_at allowed_handle_at header_at
+    code_named shape_of opened_after after_failure forgiven_after auth_value_of entity_at
+    is_available is_present protection_of
 second_step = refl
 
 third_step : step (tried_device 2 0 0) (wrong_after 0) ≡ refused_with failed (tried_device 3 0 0)
-unfolding code_number general body_of sessions_pass present_handle_at accepted acceptance entry_passes authorize grant password_grant trimmed area_at entry_at allowed_handle_at header_at code_named shape_of opened_after after_failure forgiven_after auth_value_of entity_at is_available is_present protection_of
+unfolding code_number general body_of sessions_pass present_handle_at acceptance_in acceptance
+    entry_passes authorize grant password_grant trimmed area_at entry_at allowed_handle_at header_at
+    code_named shape_of opened_after after_failure forgiven_after auth_value_of entity_at
+    is_available is_present protection_of
 third_step = refl
 
-fourth_step : step (tried_device 3 0 0) (wrong_after 999999) ≡ refused_with locked (tried_device 3 999999 999999)
-unfolding code_number general body_of sessions_pass present_handle_at accepted acceptance entry_passes authorize grant password_grant trimmed area_at entry_at allowed_handle_at header_at code_named shape_of opened_after after_failure forgiven_after auth_value_of entity_at is_available is_present protection_of
+fourth_step : step (tried_device 3 0 0) (wrong_after 999999)
+    ≡ refused_with locked (tried_device 3 999999 999999)
+unfolding code_number general body_of sessions_pass present_handle_at acceptance_in acceptance
+    entry_passes authorize grant password_grant trimmed area_at entry_at allowed_handle_at header_at
+    code_named shape_of opened_after after_failure forgiven_after auth_value_of entity_at
+    is_available is_present protection_of
 fourth_step = refl
 
-fifth_step : step (tried_device 3 999999 999999) (wrong_after 1) ≡ refused_with failed (tried_device 3 0 1000000)
-unfolding code_number general body_of sessions_pass present_handle_at accepted acceptance entry_passes authorize grant password_grant trimmed area_at entry_at allowed_handle_at header_at code_named shape_of opened_after after_failure forgiven_after auth_value_of entity_at is_available is_present protection_of
+fifth_step : step (tried_device 3 999999 999999) (wrong_after 1)
+    ≡ refused_with failed (tried_device 3 0 1000000)
+unfolding code_number general body_of sessions_pass present_handle_at acceptance_in acceptance
+    entry_passes authorize grant password_grant trimmed area_at entry_at allowed_handle_at header_at
+    code_named shape_of opened_after after_failure forgiven_after auth_value_of entity_at
+    is_available is_present protection_of
 fifth_step = refl
 
 -- ---- each step of the run is an execution
 
-harmless_so : (r : Record) (elapsed : ℕ) (e : Refused) (after : Record) → after ≡ counted_in e.counted (ticked r elapsed) → check_number e.check ≡ 9 → length (refusal_text e) ≡ 10 → IsHarmless r (wrong_after elapsed) (refused_with e after)
+harmless_so : (r : Record) (elapsed : ℕ) (e : Refused) (after : Record)
+    → after ≡ counted_in e.counted (after_tick r elapsed) → check_number e.check ≡ 9
+    → length (refusal_text e) ≡ 10 → IsHarmless r (wrong_after elapsed) (refused_with e after)
 harmless_so r elapsed e after is nine ten = λ refused. (ten, e, refl, sym nine, is)
 
-executes_so : (r : Record) (elapsed : ℕ) (e : Refused) (after : Record) → elapsed < 2 ^ 32 → IsRecord after → step r (wrong_after elapsed) ≡ refused_with e after → after ≡ counted_in e.counted (ticked r elapsed) → check_number e.check ≡ 9 → length (refusal_text e) ≡ 10 → Executes false r (wrong_after elapsed) (step r (wrong_after elapsed))
+executes_so : (r : Record) (elapsed : ℕ) (e : Refused) (after : Record) → elapsed < 2 ^ 32
+    → IsRecord after → step r (wrong_after elapsed) ≡ refused_with e after
+    → after ≡ counted_in e.counted (after_tick r elapsed) → check_number e.check ≡ 9
+    → length (refusal_text e) ≡ 10
+    → Executes false r (wrong_after elapsed) (step r (wrong_after elapsed))
 executes_so r elapsed e after below sound is counts nine ten =
     subst (Executes false r (wrong_after elapsed)) (sym is) (record {
       happens = (omega arith, below, refl);
@@ -142,39 +186,74 @@ executes_so r elapsed e after below sound is counts nine ten =
     nine_not : (let nine : ℕ = 9 in nine ≡ 0) → ⊥
     nine_not none = omega (arith, none)
 
-first_executes : Executes false (tried_device 0 0 0) (wrong_after 0) (step (tried_device 0 0 0) (wrong_after 0))
-unfolding code_number general body_of sessions_pass present_handle_at accepted acceptance entry_passes authorize grant password_grant trimmed area_at entry_at allowed_handle_at header_at code_named shape_of opened_after after_failure forgiven_after auth_value_of entity_at is_available is_present protection_of
-first_executes = executes_so (tried_device 0 0 0) 0 failed (tried_device 1 0 0) (omega arith) (is_tried 1 0 0 (omega arith) (omega arith) (omega arith)) first_step refl refl refl
+first_executes : Executes false (tried_device 0 0 0) (wrong_after 0)
+    (step (tried_device 0 0 0) (wrong_after 0))
+unfolding code_number general body_of sessions_pass present_handle_at acceptance_in acceptance
+    entry_passes authorize grant password_grant trimmed area_at entry_at allowed_handle_at header_at
+    code_named shape_of opened_after after_failure forgiven_after auth_value_of entity_at
+    is_available is_present protection_of
+first_executes = executes_so (tried_device 0 0 0) 0 failed (tried_device 1 0 0) (omega arith)
+    (is_tried 1 0 0 (omega arith) (omega arith) (omega arith)) first_step refl refl refl
 
-second_executes : Executes false (tried_device 1 0 0) (wrong_after 0) (step (tried_device 1 0 0) (wrong_after 0))
-unfolding code_number general body_of sessions_pass present_handle_at accepted acceptance entry_passes authorize grant password_grant trimmed area_at entry_at allowed_handle_at header_at code_named shape_of opened_after after_failure forgiven_after auth_value_of entity_at is_available is_present protection_of
-second_executes = executes_so (tried_device 1 0 0) 0 failed (tried_device 2 0 0) (omega arith) (is_tried 2 0 0 (omega arith) (omega arith) (omega arith)) second_step refl refl refl
+second_executes : Executes false (tried_device 1 0 0) (wrong_after 0)
+    (step (tried_device 1 0 0) (wrong_after 0))
+unfolding code_number general body_of sessions_pass present_handle_at acceptance_in acceptance
+    entry_passes authorize grant password_grant trimmed area_at entry_at allowed_handle_at header_at
+    code_named shape_of opened_after after_failure forgiven_after auth_value_of entity_at
+    is_available is_present protection_of
+second_executes = executes_so (tried_device 1 0 0) 0 failed (tried_device 2 0 0) (omega arith)
+    (is_tried 2 0 0 (omega arith) (omega arith) (omega arith)) second_step refl refl refl
 
-third_executes : Executes false (tried_device 2 0 0) (wrong_after 0) (step (tried_device 2 0 0) (wrong_after 0))
-unfolding code_number general body_of sessions_pass present_handle_at accepted acceptance entry_passes authorize grant password_grant trimmed area_at entry_at allowed_handle_at header_at code_named shape_of opened_after after_failure forgiven_after auth_value_of entity_at is_available is_present protection_of
-third_executes = executes_so (tried_device 2 0 0) 0 failed (tried_device 3 0 0) (omega arith) (is_tried 3 0 0 (omega arith) (omega arith) (omega arith)) third_step refl refl refl
+third_executes : Executes false (tried_device 2 0 0) (wrong_after 0)
+    (step (tried_device 2 0 0) (wrong_after 0))
+unfolding code_number general body_of sessions_pass present_handle_at acceptance_in acceptance
+    entry_passes authorize grant password_grant trimmed area_at entry_at allowed_handle_at header_at
+    code_named shape_of opened_after after_failure forgiven_after auth_value_of entity_at
+    is_available is_present protection_of
+third_executes = executes_so (tried_device 2 0 0) 0 failed (tried_device 3 0 0) (omega arith)
+    (is_tried 3 0 0 (omega arith) (omega arith) (omega arith)) third_step refl refl refl
 
-fourth_executes : Executes false (tried_device 3 0 0) (wrong_after 999999) (step (tried_device 3 0 0) (wrong_after 999999))
-unfolding code_number general body_of sessions_pass present_handle_at accepted acceptance entry_passes authorize grant password_grant trimmed area_at entry_at allowed_handle_at header_at code_named shape_of opened_after after_failure forgiven_after auth_value_of entity_at is_available is_present protection_of
-fourth_executes = executes_so (tried_device 3 0 0) 999999 locked (tried_device 3 999999 999999) (omega arith) (is_tried 3 999999 999999 (omega arith) (omega arith) (omega arith)) fourth_step refl refl refl
+fourth_executes : Executes false (tried_device 3 0 0) (wrong_after 999999)
+    (step (tried_device 3 0 0) (wrong_after 999999))
+unfolding code_number general body_of sessions_pass present_handle_at acceptance_in acceptance
+    entry_passes authorize grant password_grant trimmed area_at entry_at allowed_handle_at header_at
+    code_named shape_of opened_after after_failure forgiven_after auth_value_of entity_at
+    is_available is_present protection_of
+fourth_executes = executes_so (tried_device 3 0 0) 999999 locked (tried_device 3 999999 999999)
+    (omega arith) (is_tried 3 999999 999999 (omega arith) (omega arith) (omega arith)) fourth_step
+    refl refl refl
 
-fifth_executes : Executes false (tried_device 3 999999 999999) (wrong_after 1) (step (tried_device 3 999999 999999) (wrong_after 1))
-unfolding code_number general body_of sessions_pass present_handle_at accepted acceptance entry_passes authorize grant password_grant trimmed area_at entry_at allowed_handle_at header_at code_named shape_of opened_after after_failure forgiven_after auth_value_of entity_at is_available is_present protection_of
-fifth_executes = executes_so (tried_device 3 999999 999999) 1 failed (tried_device 3 0 1000000) (omega arith) (is_tried 3 0 1000000 (omega arith) (omega arith) (omega arith)) fifth_step refl refl refl
+fifth_executes : Executes false (tried_device 3 999999 999999) (wrong_after 1)
+    (step (tried_device 3 999999 999999) (wrong_after 1))
+unfolding code_number general body_of sessions_pass present_handle_at acceptance_in acceptance
+    entry_passes authorize grant password_grant trimmed area_at entry_at allowed_handle_at header_at
+    code_named shape_of opened_after after_failure forgiven_after auth_value_of entity_at
+    is_available is_present protection_of
+fifth_executes = executes_so (tried_device 3 999999 999999) 1 failed (tried_device 3 0 1000000)
+    (omega arith) (is_tried 3 0 1000000 (omega arith) (omega arith) (omega arith)) fifth_step
+    refl refl refl
 
-left : (r after : Record) (elapsed : ℕ) (e : Refused) → step r (wrong_after elapsed) ≡ refused_with e after → after ≡ (step r (wrong_after elapsed)).after
+left : (r after : Record) (elapsed : ℕ) (e : Refused)
+    → step r (wrong_after elapsed) ≡ refused_with e after
+    → after ≡ (step r (wrong_after elapsed)).after
 left r after elapsed e is = sym (ap (λ (x : Stepped). x.after) is)
 
-abbrev then_executes : (r s : Record) (elapsed : ℕ) → r ≡ s → Executes false r (wrong_after elapsed) (step r (wrong_after elapsed)) → Executes false s (wrong_after elapsed) (step r (wrong_after elapsed))
-then_executes r s elapsed same executes = subst (λ (old : Record). Executes false old (wrong_after elapsed) (step r (wrong_after elapsed))) same executes
+abbrev then_executes : (r s : Record) (elapsed : ℕ) → r ≡ s
+    → Executes false r (wrong_after elapsed) (step r (wrong_after elapsed))
+    → Executes false s (wrong_after elapsed) (step r (wrong_after elapsed))
+then_executes r s elapsed same executes =
+    subst (λ (old : Record). Executes false old (wrong_after elapsed)
+    (step r (wrong_after elapsed))) same executes
 
 leads_so : Leads false (tried_device 0 0 0) failed_run (tried_device 3 0 1000000)
 leads_so =
     let first = left (tried_device 0 0 0) (tried_device 1 0 0) 0 failed first_step in
     let second = left (tried_device 1 0 0) (tried_device 2 0 0) 0 failed second_step in
     let third = left (tried_device 2 0 0) (tried_device 3 0 0) 0 failed third_step in
-    let fourth = left (tried_device 3 0 0) (tried_device 3 999999 999999) 999999 locked fourth_step in
-    let fifth = left (tried_device 3 999999 999999) (tried_device 3 0 1000000) 1 failed fifth_step in (
+    let fourth = left (tried_device 3 0 0) (tried_device 3 999999 999999) 999999 locked
+    fourth_step in
+    let fifth = left (tried_device 3 999999 999999) (tried_device 3 0 1000000) 1 failed
+    fifth_step in (
       refl,
       first_executes,
       (
@@ -183,11 +262,29 @@ leads_so =
         (
           second,
           then_executes (tried_device 2 0 0) _ 0 second third_executes,
-          (third, then_executes (tried_device 3 0 0) _ 999999 third fourth_executes, (fourth, then_executes (tried_device 3 999999 999999) _ 1 fourth fifth_executes, fifth)),
+          (
+            third,
+            then_executes (tried_device 3 0 0) _ 999999 third fourth_executes,
+            (
+              fourth,
+              then_executes (tried_device 3 999999 999999) _ 1 fourth fifth_executes,
+              fifth,
+            ),
+          ),
         ),
       ),
     )
 
 pub failed_run_is : IsFailedRun
-unfolding code_number general body_of sessions_pass present_handle_at accepted acceptance entry_passes authorize grant password_grant trimmed area_at entry_at allowed_handle_at header_at code_named shape_of opened_after after_failure forgiven_after auth_value_of entity_at is_available is_present protection_of
-failed_run_is = record { leads = leads_so; quiet = tt; counts = λ none. omega (arith, none); failures = refl; within = refl }
+unfolding code_number general body_of sessions_pass present_handle_at acceptance_in acceptance
+    entry_passes authorize grant password_grant trimmed area_at entry_at allowed_handle_at header_at
+    code_named shape_of opened_after after_failure forgiven_after auth_value_of entity_at
+    is_available is_present protection_of
+failed_run_is = record {
+  leads = leads_so;
+  quiet = tt;
+  counts =
+      λ none. omega (arith, none);
+  failures = refl;
+  within = refl;
+}

@@ -5,9 +5,9 @@ use Rattle.tpm_lockout.specs.Lockout.{LockoutState}
 use Rattle.tpm_types.specs.declared.refused.Counted.{Counted}
 use Rattle.tpm_commands.specs.declared.command_code.CommandCode.{CommandCode}
 use Rattle.tpm_commands.specs.declared.command_code.CommandCode.TheVariants as command
-use Rattle.tpm_record.specs.Cycle.{cycled}
+use Rattle.tpm_record.specs.Cycle.{after_cycle}
 use Rattle.tpm_record.specs.Record.{Record, manufactured}
-use Rattle.tpm_record.specs.Tick.{ticked}
+use Rattle.tpm_record.specs.Tick.{after_tick}
 use Rattle.tpm_record.specs.rows.Request.{Request}
 use Rattle.tpm_record.specs.rows.Rows.{all_read}
 use Rattle.tpm_actions_device.specs.DictionaryAttackLockReset.{dictionary_attack_lock_reset_row}
@@ -32,15 +32,19 @@ leaves_tries Lockout = false
 leaves_tries Cleared = false
 leaves_tries _ = true
 
-same_part : (p : Part) (old new : Record) → leaves_tries p ≡ true → Touches p old new → SameTries old.fixed.lockout new.fixed.lockout
+same_part : (p : Part) (old new : Record) → leaves_tries p ≡ true → Touches p old new
+    → SameTries old.fixed.lockout new.fixed.lockout
 same_part Lockout old new leaves touches = absurd (false≢true leaves)
 same_part Cleared old new leaves touches = absurd (false≢true leaves)
 same_part AuthValues old new leaves touches =
-    closed_same old.fixed.lockout new.fixed.lockout old.fixed.lockout.fields.closed (ap (λ (r : Record). r.fixed.lockout) touches.0)
+    closed_same old.fixed.lockout new.fixed.lockout old.fixed.lockout.fields.closed
+    (ap (λ (r : Record). r.fixed.lockout) touches.0)
 same_part Beginning old new leaves touches =
-    closed_same old.fixed.lockout new.fixed.lockout new.fixed.lockout.fields.closed (ap (λ (r : Record). r.fixed.lockout) touches.0)
+    closed_same old.fixed.lockout new.fixed.lockout new.fixed.lockout.fields.closed
+    (ap (λ (r : Record). r.fixed.lockout) touches.0)
 same_part _ old new leaves touches =
-    closed_same old.fixed.lockout new.fixed.lockout old.fixed.lockout.fields.closed (ap (λ (r : Record). r.fixed.lockout) touches)
+    closed_same old.fixed.lockout new.fixed.lockout old.fixed.lockout.fields.closed
+    (ap (λ (r : Record). r.fixed.lockout) touches)
 
 leaves_if : (code : CommandCode) → resets_tries code ≡ false → leaves_tries (part_of code) ≡ true
 leaves_if command.DictionaryAttackLockReset is = absurd (false≢true (sym is))
@@ -48,37 +52,53 @@ leaves_if command.DictionaryAttackParameters is = absurd (false≢true (sym is))
 leaves_if command.Clear is = absurd (false≢true (sym is))
 leaves_if _ is = refl
 
-leaving_row : (r : Record) (code : CommandCode) (q : Request) → resets_tries code ≡ false → IfOk (row_of r code q) (λ s. SameTries r.fixed.lockout s.after.fixed.lockout)
+leaving_row : (r : Record) (code : CommandCode) (q : Request) → resets_tries code ≡ false
+    → IfOk (row_of r code q) (λ s. SameTries r.fixed.lockout s.after.fixed.lockout)
 leaving_row r code q quiet =
-    ok_weaker (λ s. Touches (part_of code) r s.after) (λ s. SameTries r.fixed.lockout s.after.fixed.lockout) (row_of r code q) (row_touches r code q)
+    ok_weaker (λ s. Touches (part_of code) r s.after)
+    (λ s. SameTries r.fixed.lockout s.after.fixed.lockout) (row_of r code q)
+    (row_touches r code q)
     (λ s touches. same_part (part_of code) r s.after (leaves_if code quiet) touches)
 
 -- an accepted command that is not a reset leaves failedTries unchanged
-pub same_done : (r : Record) (a : Accepted) (locality : ℕ) (random : List ℕ) → IsAcceptance r locality random a → resets_tries a.command.code ≡ false → SameTries r.fixed.lockout (success_step a random).after.fixed.lockout
+pub same_done : (r : Record) (a : Accepted) (locality : ℕ) (random : List ℕ)
+    → IsAcceptance r locality random a → resets_tries a.command.code ≡ false
+    → SameTries r.fixed.lockout (success_step a random).after.fixed.lockout
 same_done r a locality random is quiet =
-    subst (λ (s : LockoutState). SameTries r.fixed.lockout s) (sym (ap (λ (x : Record). x.fixed.lockout) (success_leaves a random)))
-    (ok_at (λ s. SameTries r.fixed.lockout s.after.fixed.lockout) (row_of r a.command.code a.request) a.success (leaving_row r a.command.code a.request quiet) is.row)
+    subst (λ (s : LockoutState). SameTries r.fixed.lockout s)
+    (sym (ap (λ (x : Record). x.fixed.lockout) (success_leaves a random)))
+    (ok_at (λ s. SameTries r.fixed.lockout s.after.fixed.lockout)
+    (row_of r a.command.code a.request) a.success
+    (leaving_row r a.command.code a.request quiet) is.row)
 
 -- ---- rows that reset the failed tries
 
-clear_forgives : (r : Record) (q : Request) → IsForgiving r.fixed.lockout → IfOk (row_of r command.Clear q) (λ s. IsForgiving s.after.fixed.lockout)
+clear_forgives : (r : Record) (q : Request) → IsForgiving r.fixed.lockout
+    → IfOk (row_of r command.Clear q) (λ s. IsForgiving s.after.fixed.lockout)
 clear_forgives r q is =
-    ok_weaker (λ s. Touches Cleared r s.after) (λ s. IsForgiving s.after.fixed.lockout) (row_of r command.Clear q) (row_touches r command.Clear q)
+    ok_weaker (λ s. Touches Cleared r s.after) (λ s. IsForgiving s.after.fixed.lockout)
+    (row_of r command.Clear q) (row_touches r command.Clear q)
     (λ s touches. subst IsForgiving (sym (ap (λ (x : Record). x.fixed.lockout) touches)) is)
 
-reset_forgives : (r : Record) (q : Request) → IsForgiving r.fixed.lockout → IfOk (row_of r command.DictionaryAttackLockReset q) (λ s. IsForgiving s.after.fixed.lockout)
+reset_forgives : (r : Record) (q : Request) → IsForgiving r.fixed.lockout
+    → IfOk (row_of r command.DictionaryAttackLockReset q) (λ s. IsForgiving s.after.fixed.lockout)
 unfolding row_of dictionary_attack_lock_reset_row
 reset_forgives r q is = ok_bind _ (all_read q.parameters) _ (λ ended. is)
 
-parameters_forgive : (r : Record) (q : Request) → IfOk (row_of r command.DictionaryAttackParameters q) (λ s. IsForgiving s.after.fixed.lockout)
+parameters_forgive : (r : Record) (q : Request)
+    → IfOk (row_of r command.DictionaryAttackParameters q) (λ s. IsForgiving s.after.fixed.lockout)
 unfolding row_of dictionary_attack_parameters_row
-parameters_forgive r q = ok_bind _ (lockout_parameters q.parameters) _ (λ p. λ counts. omega (arith, counts))
+parameters_forgive r q = ok_bind _ (lockout_parameters q.parameters) _
+    (λ p. λ counts. omega (arith, counts))
 
-other_forgives : (r : Record) (code : CommandCode) (q : Request) → resets_tries code ≡ false → IsForgiving r.fixed.lockout → IfOk (row_of r code q) (λ s. IsForgiving s.after.fixed.lockout)
+other_forgives : (r : Record) (code : CommandCode) (q : Request) → resets_tries code ≡ false
+    → IsForgiving r.fixed.lockout → IfOk (row_of r code q) (λ s. IsForgiving s.after.fixed.lockout)
 other_forgives r code q quiet is =
-    ok_weaker _ _ (row_of r code q) (leaving_row r code q quiet) (λ s same. same_forgives r.fixed.lockout s.after.fixed.lockout same is)
+    ok_weaker _ _ (row_of r code q) (leaving_row r code q quiet)
+    (λ s same. same_forgives r.fixed.lockout s.after.fixed.lockout same is)
 
-row_forgives : (r : Record) (code : CommandCode) (q : Request) → IsForgiving r.fixed.lockout → IfOk (row_of r code q) (λ s. IsForgiving s.after.fixed.lockout)
+row_forgives : (r : Record) (code : CommandCode) (q : Request) → IsForgiving r.fixed.lockout
+    → IfOk (row_of r code q) (λ s. IsForgiving s.after.fixed.lockout)
 row_forgives r command.Clear q is = clear_forgives r q is
 row_forgives r command.DictionaryAttackLockReset q is = reset_forgives r q is
 row_forgives r command.DictionaryAttackParameters q is = parameters_forgive r q
@@ -86,18 +106,24 @@ row_forgives r _ q is = other_forgives r _ q refl is
 
 -- ---- all events
 
-pub forgives_done : (r : Record) (a : Accepted) (locality : ℕ) (random : List ℕ) → IsAcceptance r locality random a → IsForgiving r.fixed.lockout → IsForgiving (success_step a random).after.fixed.lockout
+pub forgives_done : (r : Record) (a : Accepted) (locality : ℕ) (random : List ℕ)
+    → IsAcceptance r locality random a → IsForgiving r.fixed.lockout
+    → IsForgiving (success_step a random).after.fixed.lockout
 forgives_done r a locality random is forgives =
     subst IsForgiving (sym (ap (λ (x : Record). x.fixed.lockout) (success_leaves a random)))
-    (ok_at (λ s. IsForgiving s.after.fixed.lockout) (row_of r a.command.code a.request) a.success (row_forgives r a.command.code a.request forgives) is.row)
+    (ok_at (λ s. IsForgiving s.after.fixed.lockout) (row_of r a.command.code a.request) a.success
+    (row_forgives r a.command.code a.request forgives) is.row)
 
-pub forgives_ticked : (r : Record) (elapsed : ℕ) → IsForgiving r.fixed.lockout → IsForgiving (ticked r elapsed).fixed.lockout
+pub forgives_ticked : (r : Record) (elapsed : ℕ) → IsForgiving r.fixed.lockout
+    → IsForgiving (after_tick r elapsed).fixed.lockout
 forgives_ticked r elapsed forgives = tick_forgives r.fixed.lockout elapsed
 
-pub forgives_counted : (r : Record) (counted : Counted) → IsForgiving r.fixed.lockout → IsForgiving (counted_in counted r).fixed.lockout
+pub forgives_counted : (r : Record) (counted : Counted) → IsForgiving r.fixed.lockout
+    → IsForgiving (counted_in counted r).fixed.lockout
 forgives_counted r counted forgives = refusal_forgives r.fixed.lockout counted forgives
 
-pub forgives_cycled : (r : Record) → IsForgiving r.fixed.lockout → IsForgiving (cycled r).fixed.lockout
+pub forgives_cycled : (r : Record) → IsForgiving r.fixed.lockout
+    → IsForgiving (after_cycle r).fixed.lockout
 forgives_cycled r forgives counts = omega (arith, counts)
 
 pub manufactured_forgives : (random : List ℕ) → IsForgiving (manufactured random).fixed.lockout

@@ -6,11 +6,11 @@ use Rattle.tpm_types.specs.declared.nv_use.NvUse.{NvUse}
 use Rattle.tpm_types.specs.declared.nv_use.NvUse.TheVariants as does
 use Rattle.tpm_record.specs.Entity.{AnIndex, AnObject, Entity, entity_at, entity_is_available, entity_name, entity_policy, entity_protection, is_available, name_of, object_of, policy_of, protection_of, entity_written, written_of}
 use Rattle.tpm_record.specs.Record.{Record}
-use Rattle.tpm_record.specs.Tick.{ticked}
+use Rattle.tpm_record.specs.Tick.{after_tick}
 use Rattle.tpm_record.specs.declared.entity.Means.{Means}
 use Rattle.tpm_record.specs.declared.entity.Means.TheVariants as means
 use Rattle.tpm_step.specs.step.Events.{PlainEvent}
-use Rattle.tpm_step.specs.history.History.{AcceptedCommand, Done, History, recorded}
+use Rattle.tpm_step.specs.history.History.{AcceptedCommand, Done, History, extended_history}
 use Rattle.tpm_step.specs.history.View.{entity_view, view_name, view_of}
 use Rattle.tpm_step.specs.history.Views.{TellsOf, view_policy, view_protection, view_takes, view_written}
 use Rattle.tpm_step.proofs.history.Recorded.{recorded_is}
@@ -19,19 +19,23 @@ name_told : (h : Handle) (entity : Entity) → view_name (entity_view h entity) 
 name_told h (AnObject object) = refl
 name_told h _ = refl
 
-policy_told : (h : Handle) (entity : Entity) → view_policy (entity_view h entity) ≡ entity_policy entity
+policy_told : (h : Handle) (entity : Entity)
+    → view_policy (entity_view h entity) ≡ entity_policy entity
 policy_told h (AnObject object) = refl
 policy_told h _ = refl
 
-protection_told : (h : Handle) (entity : Entity) → view_protection (entity_view h entity) ≡ entity_protection h entity
+protection_told : (h : Handle) (entity : Entity)
+    → view_protection (entity_view h entity) ≡ entity_protection h entity
 protection_told h (AnObject object) = refl
 protection_told h _ = refl
 
-written_told : (h : Handle) (entity : Entity) → view_written (entity_view h entity) ≡ entity_written entity
+written_told : (h : Handle) (entity : Entity)
+    → view_written (entity_view h entity) ≡ entity_written entity
 written_told h (AnObject object) = refl
 written_told h _ = refl
 
-available_told : (h : Handle) (entity : Entity) (m : Means) (nv_use : NvUse) → view_takes m nv_use (entity_view h entity) ≡ entity_is_available m nv_use entity
+available_told : (h : Handle) (entity : Entity) (m : Means) (nv_use : NvUse)
+    → view_takes m nv_use (entity_view h entity) ≡ entity_is_available m nv_use entity
 available_told h (AnObject object) means.AuthValue nv_use = refl
 available_told h (AnIndex index) means.AuthValue does.Read = refl
 available_told h (AnIndex index) means.Policy does.Read = refl
@@ -51,10 +55,14 @@ pub view_named : (r : Record) (handle : Handle) → view_name (view_of r handle)
 view_named r handle = (views_tell r handle).name
 
 -- the passing of time changes no view
-later_views : (r : Record) (elapsed : ℕ) (handles : List Handle) → map (view_of (ticked r elapsed)) handles ≡ map (view_of r) handles
+later_views : (r : Record) (elapsed : ℕ) (handles : List Handle)
+    → map (view_of (after_tick r elapsed)) handles ≡ map (view_of r) handles
 unfolding view_of entity_at object_of
 later_views r elapsed handles = refl
 
-pub recorded_views : (r : Record) (event : PlainEvent) (check : ℕ) (history : History) (c : AcceptedCommand) → recorded r event check history ≡ Done c ∷ history → c.views ≡ map (view_of r) c.command.handles
+pub recorded_views : (r : Record) (event : PlainEvent) (check : ℕ) (history : History)
+    (c : AcceptedCommand) → extended_history r event check history ≡ Done c ∷ history
+    → c.views ≡ map (view_of r) c.command.handles
 recorded_views r event check history c =
-    recorded_is (λ (c : AcceptedCommand). c.views ≡ map (view_of r) c.command.handles) r event check history c (λ elapsed locality random a accepts. later_views r elapsed a.command.handles)
+    recorded_is (λ (c : AcceptedCommand). c.views ≡ map (view_of r) c.command.handles) r event check
+    history c (λ elapsed locality random a accepts. later_views r elapsed a.command.handles)

@@ -25,7 +25,9 @@ late_handles Fit r kind = grind arith
 
 late_told : (Fit : Type 0) (r : Record) (asked : CapabilityParameters) (c : Capability)
     → Late Fit (told_of r asked c)
-late_told Fit r asked capability.Handles = err_bind _ (handle_elements r (asked.property / 2 ^ 24)) _ (late_handles Fit r (asked.property / 2 ^ 24)) (λ elements. tt)
+late_told Fit r asked capability.Handles =
+    err_bind _ (handle_elements r (asked.property / 2 ^ 24)) _
+    (late_handles Fit r (asked.property / 2 ^ 24)) (λ elements. tt)
 late_told Fit r asked capability.Commands = tt
 late_told Fit r asked capability.Pcrs = tt
 late_told Fit r asked capability.Properties = tt
@@ -38,7 +40,9 @@ plain_handles r kind = grind arith
 
 plain_told : (r : Record) (asked : CapabilityParameters) (c : Capability)
     → Plain (told_of r asked c)
-plain_told r asked capability.Handles = err_bind _ (handle_elements r (asked.property / 2 ^ 24)) _ (plain_handles r (asked.property / 2 ^ 24)) (λ elements. tt)
+plain_told r asked capability.Handles =
+    err_bind _ (handle_elements r (asked.property / 2 ^ 24)) _
+    (plain_handles r (asked.property / 2 ^ 24)) (λ elements. tt)
 plain_told r asked capability.Commands = tt
 plain_told r asked capability.Pcrs = tt
 plain_told r asked capability.Properties = tt

@@ -21,7 +21,7 @@ use Rattle.tpm_commands.specs.declared.command_code.CommandCode.TheVariants as c
 use Rattle.tpm_containers.proofs.NumberedLaws.{put_taken, removed_taken}
 use Rattle.tpm_object.specs.Object.{transient_byte}
 use Rattle.tpm_session.specs.Key.{is_nonce_size}
-use Rattle.tpm_session.specs.Sessions.{flushed, session_byte}
+use Rattle.tpm_session.specs.Sessions.{session_byte, slots_without_session}
 use Rattle.tpm_session.specs.declared.session.Binding.{Binding}
 use Rattle.tpm_session.specs.declared.session.Session.{Session}
 use Rattle.tpm_record.specs.Entity.{with_hierarchy_auth}
@@ -77,7 +77,7 @@ use Rattle.tpm_types.specs.declared.refused.Refused.{Refused}
 use Rattle.tpm_pcr.specs.Changes.{change_check, clear_counted}
 use Rattle.tpm_pcr.specs.Values.{BankValues}
 use Rattle.tpm_pcr.specs.declared.changes.ChangeFault.{ChangeFault}
-use Rattle.tpm_nv.specs.Clear.{cleared}
+use Rattle.tpm_nv.specs.Clear.{contents_after_clear}
 use Rattle.tpm_record.specs.Clear.{cleared_objects, cleared_persistent}
 use Rattle.tpm_record.specs.Hierarchy.{cleared_hierarchies}
 use Rattle.tpm_record.specs.rows.Refusals.{action_refusal, or_refusal}
@@ -113,7 +113,8 @@ startup_laws = record {
   success = λ r q.
       ok_bind _ (only (startup_type_at q.parameters)) _ (λ type.
       ok_bind _ (start_of type (kind_of r.fixed.saved)) _ (λ start.
-      in_place command.Startup r q _ refl refl (λ old new grows. grows) (start_touches r start q.random) (start_touches r start q.random).1 (refl, refl)
+      in_place command.Startup r q _ refl refl (λ old new grows. grows)
+      (start_touches r start q.random) (start_touches r start q.random).1 (refl, refl)
       (secrets_few start, λ apart. absurd cc)));
   order = λ r q. search (ordered_steps, late_start) depth 16;
   plain = λ r q. search (plain_steps, plain_start) depth 16;
@@ -157,8 +158,11 @@ unfolding get_random_row shape_of
 get_random_laws = record {
   success = λ r q.
       ok_bind_is _ (bytes_requested q.parameters) _ (λ requested is.
-      in_place command.GetRandom r q _ refl refl (λ old new grows. grows) refl refl (refl, refl)
-      (random_few requested, λ apart. drawn_as_read (λ n. min n 32) (bytes_requested q.parameters) requested is));
+      in_place command.GetRandom r q _ refl refl (λ old new grows. grows) refl refl (refl, refl) (
+        random_few requested,
+        λ apart. drawn_as_read (λ n. min n 32) (bytes_requested q.parameters)
+            requested is,
+      ));
   order = λ r q. search ordered_steps depth 16;
   plain = λ r q. search plain_steps depth 16;
   tells = λ s covers r q free. device_secrets.get_random_tells s r q;
@@ -234,7 +238,8 @@ hierarchy_change_auth_laws = record {
   tells = λ s covers r q free. device_secrets.hierarchy_change_auth_tells s r q;
 }
 
-pub dictionary_attack_lock_reset_laws : RowLaws command.DictionaryAttackLockReset dictionary_attack_lock_reset_row
+pub dictionary_attack_lock_reset_laws : RowLaws command.DictionaryAttackLockReset
+    dictionary_attack_lock_reset_row
 unfolding dictionary_attack_lock_reset_row shape_of
 dictionary_attack_lock_reset_laws = record {
   success = λ r q. search in_place_steps depth 12;
@@ -243,7 +248,8 @@ dictionary_attack_lock_reset_laws = record {
   tells = λ s covers r q free. device_secrets.dictionary_attack_lock_reset_tells s r q;
 }
 
-pub dictionary_attack_parameters_laws : RowLaws command.DictionaryAttackParameters dictionary_attack_parameters_row
+pub dictionary_attack_parameters_laws : RowLaws command.DictionaryAttackParameters
+    dictionary_attack_parameters_row
 unfolding dictionary_attack_parameters_row shape_of lockout_parameters
 dictionary_attack_parameters_laws = record {
   success = λ r q. search in_place_steps depth 12;
@@ -256,13 +262,16 @@ dictionary_attack_parameters_laws = record {
 
 more_sessions : (r : Record) (place : ℕ) (s : Session) → session_place r.sessions ≡ Ok place
     → taken_in (record r { sessions = slice_set r.sessions place (Some s) }) ≡ taken_in r + 1
-more_sessions r place s is = let more = put_taken session_byte r.sessions place s (some_is _ _ place is) in omega (arith, more)
+more_sessions r place s is = let more =
+    put_taken session_byte r.sessions place s (some_is _ _ place is) in omega (arith, more)
 
 caller_sized : (p : Parameters) (x : Unit {0}) → parameters_pass p ≡ Ok x
     → is_nonce_size p.hash (length p.nonce_caller) ≡ true
 unfolding parameters_pass
 caller_sized p x is =
-    let a1 = bind_ok (refused_if (not (is_nonce_size p.hash (length p.nonce_caller))) (parameter_refusal action.First 1 code.Size)) _ x is in
+    let a1 =
+    bind_ok (refused_if (not (is_nonce_size p.hash (length p.nonce_caller)))
+    (parameter_refusal action.First 1 code.Size)) _ x is in
     asked (is_nonce_size p.hash (length p.nonce_caller)) _ a1.0 a1.1
 
 started_sized : (p : Parameters) (binding : Option Binding) (random : List ℕ) → 32 ≤ length random
@@ -293,7 +302,8 @@ start_auth_session_laws = record {
         );
         stays = λ may h there. stays_put r.sessions place _ h (some_is _ _ place free) there;
         sized = λ enough sized.
-            all_set IsSized r.sessions place (Some _) (started_sized p _ q.random enough (caller_sized p passed is)) sized;
+            all_set IsSized r.sessions place (Some _)
+            (started_sized p _ q.random enough (caller_sized p passed is)) sized;
       }))));
   order = λ r q. search ordered_steps depth 16;
   plain = λ r q. search plain_steps depth 16;
@@ -314,7 +324,7 @@ flushed_indices r handle false = refl
 
 flushed_grows : (r : Record) (handle : Handle) (is_session : Bool)
     → Grows false r (flushed_from r handle is_session)
-unfolding flushed without_object
+unfolding slots_without_session without_object
 flushed_grows r handle true = omega (arith, removed_taken session_byte r.sessions handle.number)
 flushed_grows r handle false = omega (arith, removed_taken transient_byte r.objects handle.number)
 
@@ -324,7 +334,8 @@ flushed_sized r handle true sized = flushed_all r.sessions handle sized
 flushed_sized r handle false sized = sized
 
 flushed_success : (r : Record) (q : Request) (handle : Handle) (is_session : Bool)
-    → SuccessLaws command.FlushContext r q (record { answer = nothing; after = flushed_from r handle is_session })
+    → SuccessLaws command.FlushContext r q
+    (record { answer = nothing; after = flushed_from r handle is_session })
 unfolding shape_of
 flushed_success r q handle is_session = record {
   touches = flushed_touches r handle is_session;
@@ -363,7 +374,9 @@ unfolding clear_counted
 clear_counts refusal banks = by (change_check true 1 banks)
   where
     by : (check : Result (Unit {0}) ChangeFault)
-        → IfOk (or_refusal refusal (check >>= λ passed. let counted : BankValues = record banks { update_count = banks.update_count + 1 } in Ok counted)) (λ new. new ≡ record banks { update_count = banks.update_count + 1 })
+        → IfOk (or_refusal refusal (check >>= λ passed. let counted : BankValues =
+        record banks { update_count = banks.update_count + 1 } in Ok counted))
+        (λ new. new ≡ record banks { update_count = banks.update_count + 1 })
     by (Ok passed) = refl
     by (Err fault) = tt
 
@@ -375,15 +388,18 @@ unfolding clear_row shape_of cleared_hierarchies
 clear_laws = record {
   success = λ r q.
       ok_bind _ (all_read q.parameters) _ (λ ended.
-      ok_bind _ (refused_if r.fixed.disable_clear (action_refusal action.First (plain code.Disabled))) _ (λ a1.
-      ok_then _ _ (or_refusal (λ fault. action_refusal action.Second (plain code.Failure)) (clear_counted r.fixed.banks)) _ (clear_counts _ r.fixed.banks) (λ banks is.
+      ok_bind _ (refused_if r.fixed.disable_clear
+      (action_refusal action.First (plain code.Disabled))) _ (λ a1.
+      ok_then _ _ (or_refusal (λ fault. action_refusal action.Second (plain code.Failure))
+      (clear_counted r.fixed.banks)) _ (clear_counts _ r.fixed.banks) (λ banks is.
       let after : BankValues → Record = λ b. record r {
         fixed = cleared_fixed b q.random r.fixed;
         objects = cleared_objects r.objects;
         persistent = cleared_persistent r.persistent;
-        nv = cleared r.nv;
+        nv = contents_after_clear r.nv;
       } in
-      in_place command.Clear r q _ refl refl (λ old new grows. grows) (ap after is) refl (refl, refl)
+      in_place command.Clear r q _ refl refl (λ old new grows. grows) (ap after is)
+      refl (refl, refl)
       (all_drawn, λ apart. refl))));
   order = λ r q. search (ordered_steps, late_counted) depth 16;
   plain = λ r q. search (plain_steps, plain_update) depth 16;

@@ -5,7 +5,7 @@ use Rattle.std.proofs.Common.{◌∷◌, ◌≡◌, ◌≤◌, IfOk, List, [], a
 use Rattle.std.proofs.Common.{ℕ}
 use Rattle.tpm_bytes.specs.Reading.{bytes_at, number_at, or_fault, refused_if}
 use Rattle.tpm_types.specs.Rc.{plain}
-use Rattle.tpm_types.specs.Refused.{checked}
+use Rattle.tpm_types.specs.Refused.{checked_result}
 use Rattle.tpm_types.specs.declared.check.Check.TheVariants as check
 use Rattle.tpm_types.specs.declared.rc.ResponseCode.TheVariants as code
 use Rattle.tpm_types_command.specs.AuthArea.{area_at, entries_in}
@@ -30,7 +30,8 @@ entries_few most [] = omega arith
 entries_few zero (byte ∷ bytes) = tt
 entries_few (suc most) (byte ∷ bytes) =
     ok_bind _ (entry_at (byte ∷ bytes)) _ (λ first.
-    ok_then _ _ (entries_in most first.1) _ (entries_few most first.1) (λ others few. omega (arith, few)))
+    ok_then _ _ (entries_in most first.1) _ (entries_few most first.1)
+    (λ others few. omega (arith, few)))
 
 area_few : (text : List ℕ) → IfOk (area_at text) (λ a. length a.0 ≤ 3)
 unfolding area_at
@@ -44,23 +45,27 @@ sessions_few : (tag : Tag) (text : List ℕ) → IfOk (sessions_at tag text) (λ
 sessions_few NoSessions text = omega arith
 sessions_few Sessions text = area_few text
 
-body_few : (r : Record) (header : Header) (text : List ℕ) → IfOk (body_of r header text) (λ c. length c.entries ≤ 3)
+body_few : (r : Record) (header : Header) (text : List ℕ)
+    → IfOk (body_of r header text) (λ c. length c.entries ≤ 3)
 unfolding body_of
 body_few r header text =
     ok_bind _ (refused_if (both_or_neither r.fixed.started (is_startup header.code)) _) _ (λ g5.
-    ok_bind _ (checked check.Handles (present_handles_at r header.code text)) _ (λ handles.
+    ok_bind _ (checked_result check.Handles (present_handles_at r header.code text)) _ (λ handles.
     ok_bind _ (sessions_pass header.code header.tag) _ (λ g7.
-    ok_then _ _ (checked check.Entries (sessions_at header.tag handles.1)) _
-    (ok_checked (λ a. length a.0 ≤ 3) check.Entries (sessions_at header.tag handles.1) (sessions_few header.tag handles.1)) (λ entries few. few))))
+    ok_then _ _ (checked_result check.Entries (sessions_at header.tag handles.1)) _
+    (ok_checked (λ a. length a.0 ≤ 3) check.Entries (sessions_at header.tag handles.1)
+    (sessions_few header.tag handles.1)) (λ entries few. few))))
 
-pub general_few : (r : Record) (buffer : List ℕ) → IfOk (general r buffer) (λ c. length c.entries ≤ 3)
+pub general_few : (r : Record) (buffer : List ℕ)
+    → IfOk (general r buffer) (λ c. length c.entries ≤ 3)
 unfolding general
 general_few r buffer =
     ok_bind _ (in_header (header_at buffer)) _ (λ header.
     ok_in_command _ header.0.code (body_of r header.0 header.1) (body_few r header.0 header.1))
 
 -- TPM2_Startup forbids sessions, and `draws_of` is 0 for it
-pub startup_alone : (c : CommandCode) (q : Request) → is_startup c ≡ true → ((shape_of c).forbids_sessions ≡ true) × (draws_of c q ≡ 0)
+pub startup_alone : (c : CommandCode) (q : Request) → is_startup c ≡ true
+    → ((shape_of c).forbids_sessions ≡ true) × (draws_of c q ≡ 0)
 unfolding shape_of
 startup_alone command.Startup q is = (refl, refl)
 startup_alone _ q is = absurd cc

@@ -21,9 +21,9 @@ use Rattle.tpm_types_nv.specs.declared.nv_type.NvType.{NvType}
 use Rattle.tpm_types_nv.specs.declared.nv_type.NvType.TheVariants as type
 use Rattle.tpm_types_nv.proofs.AttributeLaws.{are_attributes}
 use Rattle.tpm_containers.proofs.SortedMapLaws.{changed_length}
-use Rattle.tpm_nv.specs.Access.{bits_set, data_or, extended, incremented, index_has, index_or_fault}
-use Rattle.tpm_nv.specs.Access.{marked, number_or, read_locked, with_auth_value, with_data}
-use Rattle.tpm_nv.specs.Access.{undefined, writable, write_locked, written}
+use Rattle.tpm_nv.specs.Access.{bits_set, contents_after_extend, contents_after_increment, data_or, index_has, index_or_fault}
+use Rattle.tpm_nv.specs.Access.{marked_index, number_or, read_locked, with_auth_value, with_data}
+use Rattle.tpm_nv.specs.Access.{contents_after_write, undefined_fault, writable, write_locked}
 use Rattle.tpm_nv.specs.Bytes.{put_over}
 use Rattle.tpm_nv.specs.Definition.{definition_passes, has_type_size, index_attribute_conflicts}
 use Rattle.tpm_nv.specs.Index.{NvContents, NvIndex, changed_index}
@@ -49,10 +49,13 @@ use Rattle.tpm_step.proofs.rows.Parts.{SameCount}
 -- an index that a command may write has the type that the command writes
 pub writable_type : (t : NvType) (index : NvIndex) → writable t index ≡ Ok tt
     → index_type index.public.attributes ≡ Some t
-writable_type type.Ordinary index may = rw (eqb-true _ 0 (type_of_writable type.Ordinary index may)) refl
-writable_type type.Counter index may = rw (eqb-true _ 1 (type_of_writable type.Counter index may)) refl
+writable_type type.Ordinary index may =
+    rw (eqb-true _ 0 (type_of_writable type.Ordinary index may)) refl
+writable_type type.Counter index may =
+    rw (eqb-true _ 1 (type_of_writable type.Counter index may)) refl
 writable_type type.Bits index may = rw (eqb-true _ 2 (type_of_writable type.Bits index may)) refl
-writable_type type.Extend index may = rw (eqb-true _ 4 (type_of_writable type.Extend index may)) refl
+writable_type type.Extend index may =
+    rw (eqb-true _ 4 (type_of_writable type.Extend index may)) refl
 
 -- writing data to an index that is not a counter satisfies `Writes`
 writes_data : (contents : NvContents) (handle : Handle) (index : NvIndex) (t : NvType)
@@ -65,7 +68,10 @@ writes_data contents handle index t bytes is may other = record {
   before = index;
   after = with_data index bytes;
   found = some_is _ _ index is;
-  count = λ counter. absurd (other (sym (writable_type t index may) ∙ sym (are_attributes.set_type index.public.attributes attribute.Written) ∙ counter));
+  count =
+      λ counter. absurd
+      (other (sym (writable_type t index may)
+      ∙ sym (are_attributes.set_type index.public.attributes attribute.Written) ∙ counter));
   auth_value = refl;
   is = refl;
 }
@@ -75,15 +81,16 @@ marks : (contents : NvContents) (handle : Handle) (index : NvIndex) (one : NvAtt
     → index_or_fault contents handle lock_fault.Undefined ≡ Ok index
     → attribute_bit attribute.Written ≢ attribute_bit one
     → attribute_bit attribute.ClearStClear ≢ attribute_bit one
-    → Writes contents (changed_index contents handle (marked index one))
+    → Writes contents (changed_index contents handle (marked_index index one))
 marks contents handle index one is written clears = record {
   handle = handle;
   before = index;
-  after = marked index one;
+  after = marked_index index one;
   found = some_is _ _ index is;
   count = λ counter. (
     sym (are_attributes.set_type a one) ∙ counter,
-    ap (λ (b : Bool). cond b (Some (from_be_bytes w64 index.bytes)) None) (are_attributes.set_others a one attribute.Written written),
+    ap (λ (b : Bool). cond b (Some (from_be_bytes w64 index.bytes)) None)
+        (are_attributes.set_others a one attribute.Written written),
     are_attributes.set_others a one attribute.ClearStClear clears,
   );
   auth_value = refl;
@@ -94,14 +101,18 @@ marks contents handle index one is written clears = record {
     a = index.public.attributes
 
 pub written_writes : (contents : NvContents) (handle : Handle) (offset : ℕ) (bytes : List ℕ)
-    → IfOk (written contents handle offset bytes) (Writes contents)
-unfolding written
+    → IfOk (contents_after_write contents handle offset bytes) (Writes contents)
+unfolding contents_after_write
 written_writes contents handle offset bytes =
     ok_bind_is _ (index_or_fault contents handle write_fault.Undefined) _ (λ index is.
     ok_bind_is _ (writable type.Ordinary index) _ (λ ordinary may.
-    ok_bind _ (refused_if (nat_lt index.public.data_size (offset + length bytes)) write_fault.PastData) _ (λ inside.
-    ok_bind _ (refused_if (index_has index attribute.WriteAll && not (length bytes == index.public.data_size)) write_fault.Partial) _ (λ whole.
-    writes_data contents handle index type.Ordinary (put_over offset bytes (data_or 0xff index)) is may (λ same. cc)))))
+    ok_bind _ (refused_if (nat_lt index.public.data_size (offset + length bytes))
+    write_fault.PastData) _ (λ inside.
+    ok_bind _
+    (refused_if (index_has index attribute.WriteAll
+    && not (length bytes == index.public.data_size)) write_fault.Partial) _ (λ whole.
+    writes_data contents handle index type.Ordinary (put_over offset bytes (data_or 0xff index)) is
+    may (λ same. cc)))))
 
 pub bits_write : (contents : NvContents) (handle : Handle) (bits : ℕ)
     → IfOk (bits_set contents handle bits) (Writes contents)
@@ -109,39 +120,49 @@ unfolding bits_set
 bits_write contents handle bits =
     ok_bind_is _ (index_or_fault contents handle write_fault.Undefined) _ (λ index is.
     ok_bind_is _ (writable type.Bits index) _ (λ field may.
-    writes_data contents handle index type.Bits (to_be_bytes w64 (bit_or (number_or 0 index) bits)) is may (λ same. cc)))
+    writes_data contents handle index type.Bits (to_be_bytes w64 (bit_or (number_or 0 index) bits))
+    is may (λ same. cc)))
 
 pub extended_writes : (contents : NvContents) (handle : Handle) (bytes : List ℕ)
-    → IfOk (extended contents handle bytes) (Writes contents)
-unfolding extended
+    → IfOk (contents_after_extend contents handle bytes) (Writes contents)
+unfolding contents_after_extend
 extended_writes contents handle bytes =
     ok_bind_is _ (index_or_fault contents handle write_fault.Undefined) _ (λ index is.
     ok_bind_is _ (writable type.Extend index) _ (λ extendable may.
-    writes_data contents handle index type.Extend (hash_of index.public.name_alg (data_or 0 index ++ bytes)) is may (λ same. cc)))
+    writes_data contents handle index type.Extend
+    (hash_of index.public.name_alg (data_or 0 index ++ bytes)) is may (λ same. cc)))
 
 pub write_locked_writes : (contents : NvContents) (handle : Handle)
     → IfOk (write_locked contents handle) (Writes contents)
 unfolding write_locked
 write_locked_writes contents handle =
     ok_bind_is _ (index_or_fault contents handle lock_fault.Undefined) _ (λ index is.
-    ok_bind _ (refused_if (not (index_has index attribute.WriteDefine || index_has index attribute.WriteStClear)) lock_fault.Attributes) _ (λ lockable.
-    marks contents handle index attribute.WriteLocked is (λ same. omega arith) (λ same. omega arith)))
+    ok_bind _
+    (refused_if
+    (not (index_has index attribute.WriteDefine || index_has index attribute.WriteStClear))
+    lock_fault.Attributes) _ (λ lockable.
+    marks contents handle index attribute.WriteLocked is (λ same. omega arith)
+    (λ same. omega arith)))
 
 pub read_locked_writes : (contents : NvContents) (handle : Handle)
     → IfOk (read_locked contents handle) (Writes contents)
 unfolding read_locked
 read_locked_writes contents handle =
     ok_bind_is _ (index_or_fault contents handle lock_fault.Undefined) _ (λ index is.
-    ok_bind _ (refused_if (not (index_has index attribute.ReadStClear)) lock_fault.Attributes) _ (λ lockable.
-    marks contents handle index attribute.ReadLocked is (λ same. omega arith) (λ same. omega arith)))
+    ok_bind _ (refused_if (not (index_has index attribute.ReadStClear)) lock_fault.Attributes) _
+    (λ lockable.
+    marks contents handle index attribute.ReadLocked is (λ same. omega arith)
+    (λ same. omega arith)))
 
 -- ---- incrementing a counter, and changing the authorization value of an index
 
 pub counts_so : (q : Request) (contents : NvContents) (handle : Handle)
-    → second_handle q.handles ≡ Ok handle → IfOk (incremented contents handle) (Increments q contents)
-counts_so q contents handle named = by (incremented contents handle) refl
+    → second_handle q.handles ≡ Ok handle
+    → IfOk (contents_after_increment contents handle) (Increments q contents)
+counts_so q contents handle named = by (contents_after_increment contents handle) refl
   where
-    by : (x : Result NvContents WriteFault) → incremented contents handle ≡ x → IfOk x (Increments q contents)
+    by : (x : Result NvContents WriteFault) → contents_after_increment contents handle ≡ x
+        → IfOk x (Increments q contents)
     by (Ok new) is = record { handle = handle; named = named; is = is }
     by (Err fault) is = tt
 
@@ -149,8 +170,15 @@ pub auth_changes : (contents : NvContents) (handle : Handle) (value : List ℕ)
     → IfOk (with_auth_value contents handle value) (ChangesAuth contents)
 unfolding with_auth_value
 auth_changes contents handle value =
-    ok_bind_is _ (index_or_fault contents handle undefined) _ (λ index is.
-    record { handle = handle; index = index; value = value; found = some_is _ _ index is; is = refl })
+    ok_bind_is _ (index_or_fault contents handle undefined_fault) _ (λ index is.
+    record {
+      handle = handle;
+      index = index;
+      value = value;
+      found = some_is _ _ index is;
+      is =
+          refl;
+    })
 
 -- ---- the number of indices
 
@@ -167,8 +195,9 @@ changed_count : (old new : NvContents) (handle : Handle) (index : NvIndex)
 changed_count old new handle index is =
     ap (λ (nv : NvContents). length nv.indices) is ∙ changed_length old.indices handle.number index
 
-incremented_count : (nv : NvContents) (h : Handle) → IfOk (incremented nv h) (SameCount nv)
-unfolding incremented
+incremented_count : (nv : NvContents) (h : Handle)
+    → IfOk (contents_after_increment nv h) (SameCount nv)
+unfolding contents_after_increment
 incremented_count nv h = search (rules, ok_bind, changed_length)
 
 pub same_count : (p : Part) (q : Request) (old new : NvContents) → keeps_count p ≡ true
@@ -176,9 +205,11 @@ pub same_count : (p : Part) (q : Request) (old new : NvContents) → keeps_count
 same_count NvData q old new keeps changes =
     changed_count old new changes.handle changes.after changes.is
 same_count NvCounter q old new keeps changes =
-    ok_at (SameCount old) (incremented old changes.handle) new (incremented_count old changes.handle) changes.is
+    ok_at (SameCount old) (contents_after_increment old changes.handle) new
+    (incremented_count old changes.handle) changes.is
 same_count NvAuthValue q old new keeps changes =
-    changed_count old new changes.handle (record changes.index { auth_value = changes.value }) changes.is
+    changed_count old new changes.handle (record changes.index { auth_value = changes.value })
+    changes.is
 same_count _ q old new keeps changes = absurd (false≢true keeps)
 
 -- ---- defining or removing an index
@@ -206,8 +237,11 @@ no_conflict : (by_platform : Bool) (p : NvPublic) (size : ℕ)
 unfolding definition_passes
 no_conflict by_platform p size =
     ok_bind _ (refused_if (nat_lt (digest_size p.name_alg) size) fault.AuthValueSize) _ (λ value.
-    ok_bind _ (refused_if (not (is_policy_size p.name_alg (length p.auth_policy))) fault.AuthPolicySize) _ (λ policy.
-    ok_bind_is _ (refused_if (list_any (λ wrong. wrong) (index_attribute_conflicts by_platform p.attributes)) fault.Attributes) _ (λ attributes is.
+    ok_bind _ (refused_if (not (is_policy_size p.name_alg (length p.auth_policy)))
+    fault.AuthPolicySize) _ (λ policy.
+    ok_bind_is _
+    (refused_if (list_any (λ wrong. wrong) (index_attribute_conflicts by_platform p.attributes))
+    fault.Attributes) _ (λ attributes is.
     whatever (refused_if (not (has_type_size p)) fault.DataSize) (passed _ _ attributes is))))
   where
     whatever : {X : Type 0} (x : Result (Unit {0}) DefinitionFault) → X → IfOk x (λ u. X)
@@ -215,6 +249,8 @@ no_conflict by_platform p size =
     whatever (Err e) holds = tt
 
 pub passes_so : (by_platform : Bool) (p : NvPublic) (size : ℕ)
-    → IfOk (or_refusal definition_refusal (definition_passes by_platform p size)) (λ u. HasNoConflict by_platform p)
+    → IfOk (or_refusal definition_refusal (definition_passes by_platform p size))
+    (λ u. HasNoConflict by_platform p)
 passes_so by_platform p size =
-    ok_or_refusal (λ u. HasNoConflict by_platform p) definition_refusal (definition_passes by_platform p size) (no_conflict by_platform p size)
+    ok_or_refusal (λ u. HasNoConflict by_platform p) definition_refusal
+    (definition_passes by_platform p size) (no_conflict by_platform p size)

@@ -18,14 +18,14 @@ use Rattle.tpm_types.specs.declared.role.Role.TheVariants as role
 use Rattle.tpm_types.specs.Filled.{filled_by}
 use Rattle.tpm_types_nv.specs.NvPublic.{nv_public_at}
 use Rattle.tpm_commands.specs.CommandCode.{part_of, shape_of}
-use Rattle.tpm_commands.specs.Shape.{admin, unauthorized}
+use Rattle.tpm_commands.specs.Shape.{admin, rule_without_role}
 use Rattle.tpm_commands.specs.declared.command_code.CommandCode.{CommandCode}
 use Rattle.tpm_commands.specs.declared.command_code.CommandCode.TheVariants as command
 use Rattle.tpm_commands.specs.declared.shape.HandleKind.TheVariants as handle_kind
 use Rattle.tpm_commands.specs.declared.shape.ParameterKind.TheVariants as kind
 use Rattle.tpm_containers.proofs.SortedMapLaws.{put_length, removed_few}
-use Rattle.tpm_nv.specs.Access.{bits_set, extended, incremented, index_or_fault, read_locked}
-use Rattle.tpm_nv.specs.Access.{with_auth_value, write_locked, written}
+use Rattle.tpm_nv.specs.Access.{bits_set, contents_after_extend, contents_after_increment, index_or_fault, read_locked}
+use Rattle.tpm_nv.specs.Access.{contents_after_write, with_auth_value, write_locked}
 use Rattle.tpm_nv.specs.Definition.{defined_index, definition_passes}
 use Rattle.tpm_nv.specs.Index.{NvContents, NvIndex, has_room, index_at, with_index, without_index}
 use Rattle.tpm_nv.specs.declared.definition.DefinitionFault.{DefinitionFault}
@@ -97,20 +97,21 @@ late_index Fit refusal nv h absence f is there more = by (index_at nv h) there
     by : (o : Option NvIndex) → (Fit → is_some o ≡ true)
         → Late Fit (or_refusal refusal (ok_or o absence >>= f))
     by (Some i) there = more i
-    by None there = subst (λ (e : Refused). IsLate Fit e.check) (sym is) (λ fit. false≢true (there fit))
+    by None there = subst (λ (e : Refused). IsLate Fit e.check) (sym is)
+        (λ fit. false≢true (there fit))
 
 ruleset changes = (rules, late_step, late_if, late_index)
 
 late_written : (Fit : Type 0) (nv : NvContents) (h : Handle) (offset : ℕ) (bytes : List ℕ)
     → (Fit → is_some (index_at nv h) ≡ true)
-    → Late Fit (or_refusal writing_refusal (written nv h offset bytes))
-unfolding written
+    → Late Fit (or_refusal writing_refusal (contents_after_write nv h offset bytes))
+unfolding contents_after_write
 late_written Fit nv h offset bytes there = search changes
 
 late_incremented : (Fit : Type 0) (nv : NvContents) (h : Handle)
     → (Fit → is_some (index_at nv h) ≡ true)
-    → Late Fit (or_refusal writing_refusal (incremented nv h))
-unfolding incremented
+    → Late Fit (or_refusal writing_refusal (contents_after_increment nv h))
+unfolding contents_after_increment
 late_incremented Fit nv h there = search changes
 
 late_bits : (Fit : Type 0) (nv : NvContents) (h : Handle) (bits : ℕ)
@@ -121,8 +122,8 @@ late_bits Fit nv h bits there = search changes
 
 late_extended : (Fit : Type 0) (nv : NvContents) (h : Handle) (bytes : List ℕ)
     → (Fit → is_some (index_at nv h) ≡ true)
-    → Late Fit (or_refusal writing_refusal (extended nv h bytes))
-unfolding extended
+    → Late Fit (or_refusal writing_refusal (contents_after_extend nv h bytes))
+unfolding contents_after_extend
 late_extended Fit nv h bytes there = search changes
 
 late_write_locked : (Fit : Type 0) (nv : NvContents) (h : Handle)
@@ -150,7 +151,15 @@ late_definition : (Fit : Type 0) (x : Result (Unit {0}) DefinitionFault)
     → Late Fit (or_refusal definition_refusal x)
 late_definition Fit x = grind arith
 
-ruleset index_orders = (ordered_steps, late_written, late_incremented, late_bits, late_extended, late_write_locked, late_read_locked)
+ruleset index_orders = (
+  ordered_steps,
+  late_written,
+  late_incremented,
+  late_bits,
+  late_extended,
+  late_write_locked,
+  late_read_locked,
+)
 
 plain_writing : {X : Type 0} (x : Result X WriteFault) → Plain (or_refusal writing_refusal x)
 plain_writing x = grind arith
@@ -180,9 +189,11 @@ define_reads : (text : List ℕ)
     → outcome (parameters_in text) ≡ parameters_check 1 (kind.Buffer 32 ∷ kind.NvPublic ∷ []) text
 unfolding parameters_in
 define_reads text =
-    let last = λ (rest : List ℕ). parameter 2 (behind (filled_by nv_public_at rest)) >>= λ rest. all_read rest in
+    let last = λ (rest : List ℕ). parameter 2 (behind (filled_by nv_public_at rest))
+    >>= λ rest. all_read rest in
     read_one 1 (auth_value_at text) _ last
-    (λ a. read_one 2 (filled_by nv_public_at a.1) _ (λ rest. all_read rest) (λ b. read_all (all_read b.1) _))
+    (λ a. read_one 2 (filled_by nv_public_at a.1) _ (λ rest. all_read rest)
+    (λ b. read_all (all_read b.1) _))
     ∙ ap (λ (b : Result (List ℕ) Rc). parameter 1 b >>= last) (trimmed_read text)
 
 pub nv_define_space_laws : RowLaws command.NvDefineSpace nv_define_space_row
@@ -193,7 +204,8 @@ nv_define_space_laws = record {
       ok_bind_is _ (parameters_in q.parameters) _ (λ p read.
       let by_platform : Bool = authority.number == platform_handle.number in
       ok_then (λ u. HasNoConflict by_platform p.public) _
-      (or_refusal definition_refusal (definition_passes by_platform p.public (length p.auth_value))) _
+      (or_refusal definition_refusal (definition_passes by_platform p.public (length p.auth_value)))
+      _
       (passes_so by_platform p.public (length p.auth_value)) (λ checked passes.
       ok_bind_is _ (refused_if (is_some (index_at r.nv p.public.nv_index)) _) _ (λ a5 free.
       ok_bind _ (refused_if (not (has_room r.nv p.public.data_size)) _) _ (λ a6.
@@ -206,7 +218,15 @@ nv_define_space_laws = record {
         passes = passes;
         is = refl;
       }) (refl, refl) (none_drawn, λ apart. refl))))));
-  order = λ r q. search (behind_first, behind_reading, define_reads, rules, err_bind, err_if, late_definition) depth 16;
+  order = λ r q. search (
+    behind_first,
+    behind_reading,
+    define_reads,
+    rules,
+    err_bind,
+    err_if,
+    late_definition,
+  ) depth 16;
   plain = λ r q. search index_plain depth 16;
   tells = λ s covers r q free. index_secrets.nv_define_space_tells s r q;
 }
@@ -218,11 +238,13 @@ pub nv_undefine_space_laws : RowLaws command.NvUndefineSpace nv_undefine_space_r
 unfolding nv_undefine_space_row shape_of
 nv_undefine_space_laws = record {
   success = λ r q.
-      ok_then (λ (t : Target). second_handle q.handles ≡ Ok t.handle) _ (target_of r q) _ (target_names r q) (λ target named.
+      ok_then (λ (t : Target). second_handle q.handles ≡ Ok t.handle) _ (target_of r q) _
+      (target_names r q) (λ target named.
       ok_bind _ (all_read q.parameters) _ (λ ended.
       ok_bind _ (refused_if (is_kept_from target) _) _ (λ a1.
       beside_sessions command.NvUndefineSpace r q _ refl refl (undefined_grows r target.handle)
-      (record { handle = target.handle; named = named; is = refl }) (refl, refl) (none_drawn, λ apart. refl))));
+      (record { handle = target.handle; named = named; is = refl }) (refl, refl)
+      (none_drawn, λ apart. refl))));
   order = λ r q. search index_orders depth 16;
   plain = λ r q. search index_plain depth 16;
   tells = λ s covers r q free. index_secrets.nv_undefine_space_tells s r q;
@@ -240,9 +262,21 @@ changed_success : {F : Type 0} (c : CommandCode) (r : Record) (q : Request)
 changed_success c r q refusal (Err fault) leaves keeps touches nothing answers draws changes = tt
 changed_success c r q refusal (Ok nv) leaves keeps touches nothing answers draws changes =
     let same : SameCount r.nv nv = same_count (part_of c) q r.nv nv keeps changes in
-    beside_sessions c r q (changed_nv r nv) leaves (touches nv) (nothing r (record r { nv = nv }) (same_indices r nv same)) changes answers draws
+    beside_sessions c r q (changed_nv r nv) leaves (touches nv)
+    (nothing r (record r { nv = nv }) (same_indices r nv same)) changes answers draws
 
-ruleset changed_steps = (rules, ok_bind, changed_success, none_drawn, written_writes, bits_write, extended_writes, write_locked_writes, read_locked_writes, auth_changes)
+ruleset changed_steps = (
+  rules,
+  ok_bind,
+  changed_success,
+  none_drawn,
+  written_writes,
+  bits_write,
+  extended_writes,
+  write_locked_writes,
+  read_locked_writes,
+  auth_changes,
+)
 
 pub nv_write_laws : RowLaws command.NvWrite nv_write_row
 unfolding nv_write_row shape_of write_parameters
@@ -293,11 +327,15 @@ pub nv_increment_laws : RowLaws command.NvIncrement nv_increment_row
 unfolding nv_increment_row shape_of
 nv_increment_laws = record {
   success = λ r q.
-      ok_then (λ (t : Target). second_handle q.handles ≡ Ok t.handle) _ (target_of r q) _ (target_names r q) (λ target named.
+      ok_then (λ (t : Target). second_handle q.handles ≡ Ok t.handle) _ (target_of r q) _
+      (target_names r q) (λ target named.
       ok_bind _ (all_read q.parameters) _ (λ ended.
       ok_bind _ (writer_passes target) _ (λ a1.
-      changed_success command.NvIncrement r q writing_refusal (incremented r.nv target.handle) refl refl (λ nv. refl)
-      (λ old new grows. grows) (refl, refl) (none_drawn, λ apart. refl) (counts_so q r.nv target.handle named))));
+      changed_success command.NvIncrement r q writing_refusal
+      (contents_after_increment r.nv target.handle)
+      refl refl (λ nv. refl)
+      (λ old new grows. grows) (refl, refl) (none_drawn, λ apart. refl)
+      (counts_so q r.nv target.handle named))));
   order = λ r q. search index_orders depth 16;
   plain = λ r q. search index_plain depth 16;
   tells = λ s covers r q free. index_secrets.nv_increment_tells s r q free;
@@ -305,16 +343,20 @@ nv_increment_laws = record {
 
 -- the row of TPM2_NV_ChangeAuth, whose only handle is nvIndex, satisfies `Orders`
 change_auth_orders : (r : Record) (q : Request)
-    → Orders r (admin handle_kind.NvIndex ∷ []) q.handles (kind.Buffer 32 ∷ []) q.parameters (nv_change_auth_row r q)
+    → Orders r (admin handle_kind.NvIndex ∷ []) q.handles (kind.Buffer 32 ∷ []) q.parameters
+    (nv_change_auth_row r q)
 unfolding nv_change_auth_row
 change_auth_orders r q =
     behind_first r (admin handle_kind.NvIndex) [] q.handles _ q.parameters _ (λ h fits.
     behind_index r _ q.handles (Some role.Admin) h _ q.parameters _ fits (λ index.
     behind_reading r _ q.handles _ q.parameters _ _
-    (only_read (kind.Buffer 32) q.parameters (auth_value_at q.parameters) (trimmed_read q.parameters)) (λ value.
+    (only_read (kind.Buffer 32) q.parameters (auth_value_at q.parameters)
+    (trimmed_read q.parameters)) (λ value.
     let long : Bool = nat_lt (digest_size index.public.name_alg) (length value) in
     let refusal : Refused = parameter_refusal action.First 1 code.Size in
-    err_bind _ (refused_if long refusal) _ (err_if (λ (e : Refused). IsLate (HandlesFit r (admin handle_kind.NvIndex ∷ []) q.handles) e.check) long refusal tt) (λ a1.
+    err_bind _ (refused_if long refusal) _
+    (err_if (λ (e : Refused). IsLate (HandlesFit r (admin handle_kind.NvIndex ∷ []) q.handles)
+    e.check) long refusal tt) (λ a1.
     err_bind _ (or_refusal (λ absence. handle_refusal) (with_auth_value r.nv h value)) _
     (late_auth_value _ r (Some role.Admin) h value fits) (λ nv. tt)))))
 
@@ -339,12 +381,14 @@ nv_read_laws = record {
 }
 
 nv_public_orders : (r : Record) (q : Request)
-    → Orders r (unauthorized handle_kind.NvIndex ∷ []) q.handles [] q.parameters (nv_read_public_row r q)
+    → Orders r (rule_without_role handle_kind.NvIndex ∷ []) q.handles [] q.parameters
+    (nv_read_public_row r q)
 unfolding nv_read_public_row
 nv_public_orders r q =
-    behind_first r (unauthorized handle_kind.NvIndex) [] q.handles _ q.parameters _ (λ h fits.
+    behind_first r (rule_without_role handle_kind.NvIndex) [] q.handles _ q.parameters _ (λ h fits.
     behind_index r _ q.handles None h _ q.parameters _ fits (λ index.
-    behind_reading r _ q.handles _ q.parameters (all_read q.parameters) _ (all_read_outcome (all_read q.parameters)) (λ ended. tt)))
+    behind_reading r _ q.handles _ q.parameters (all_read q.parameters) _
+    (all_read_outcome (all_read q.parameters)) (λ ended. tt)))
 
 pub nv_read_public_laws : RowLaws command.NvReadPublic nv_read_public_row
 unfolding nv_read_public_row shape_of

@@ -51,8 +51,8 @@ use Rattle.tpm_actions_object.specs.Checks.{template_refusal}
 use Rattle.tpm_actions_object.specs.Create.{create_row}
 use Rattle.tpm_actions_object.specs.CreatePrimary.{create_primary_row, named_hierarchy}
 use Rattle.tpm_actions_object.specs.Creation.{parameters_in as creation_parameters}
-use Rattle.tpm_actions_object.specs.EvictControl.{copied, evict_control_row, evicted}
-use Rattle.tpm_actions_object.specs.EvictControl.{eviction_passes, removed}
+use Rattle.tpm_actions_object.specs.EvictControl.{evict_control_row, objects_after_eviction, objects_with_copy}
+use Rattle.tpm_actions_object.specs.EvictControl.{eviction_passes, remaining_objects}
 use Rattle.tpm_actions_object.specs.Hmac.{hmac_row, parameters_in as hmac_parameters, scheme_of}
 use Rattle.tpm_actions_object.specs.Load.{load_row, parameters_in as load_parameters, sensitive_of}
 use Rattle.tpm_actions_object.specs.Loaded.{is_fixed, loaded_at, parent_passes, place_for}
@@ -97,7 +97,10 @@ behind_object : {X : Type 0} (r : Record) (rules : List HandleRule) (handles : L
     → Orders r rules handles kinds text (loaded_at r h >>= f)
 unfolding is_present entity_at
 behind_object r rules handles h kinds text f fits more =
-    behind_found r rules handles (object_of r h) kinds text f (λ fit. object_there (handle_type h) (is_some (session_at r.sessions h)) (option_map_or AnIndex (index_of r h) Permanent) (object_of r h) (fits fit).0 (fits fit).1) more
+    behind_found r rules handles (object_of r h) kinds text f
+    (λ fit. object_there (handle_type h) (is_some (session_at r.sessions h))
+    (option_map_or AnIndex (index_of r h) Permanent) (object_of r h) (fits fit).0
+    (fits fit).1) more
 
 behind_hierarchy : {X : Type 0} (r : Record) (rules : List HandleRule) (handles : List Handle)
     (h : Handle) (kinds : List ParameterKind) (text : List ℕ)
@@ -105,7 +108,8 @@ behind_hierarchy : {X : Type 0} (r : Record) (rules : List HandleRule) (handles 
     → (HandlesFit r rules handles → FitsRule r (user handle_kind.Hierarchy) h)
     → ((o : HierarchyHandle) → Orders r rules handles kinds text (f o))
     → Orders r rules handles kinds text (named_hierarchy h >>= f)
-behind_hierarchy r rules handles h kinds text f fits more = behind_found r rules handles (hierarchy_of h) kinds text f (λ fit. (fits fit).0) more
+behind_hierarchy r rules handles h kinds text f fits more =
+    behind_found r rules handles (hierarchy_of h) kinds text f (λ fit. (fits fit).0) more
 
 late_template : (Fit : Type 0) (before : ℕ) (x : Result (Unit {0}) TemplateFault)
     → Late Fit (or_refusal (template_refusal before) x)
@@ -121,14 +125,23 @@ late_scheme Fit p = grind arith
 -- A step of TPM2_EvictControl refuses late (`Late`): the step that removes a persistent object, or
 -- copies a transient object.
 late_evicted : (Fit : Type 0) (objects : Entries Object) (h : Handle) (o : Object) (wanted : Handle)
-    → Late Fit (evicted objects h o wanted)
+    → Late Fit (objects_after_eviction objects h o wanted)
 late_evicted Fit objects h o wanted = by (is_persistent h)
   where
-    by : (b : Bool) → Late Fit (if b then removed objects h wanted else copied objects o wanted)
+    by : (b : Bool) → Late Fit (if b then remaining_objects objects h wanted
+        else objects_with_copy objects o wanted)
     by true = search (rules, err_bind, err_if)
     by false = search (rules, err_bind, err_if)
 
-ruleset object_orders = (ordered_steps, behind_object, behind_hierarchy, late_template, late_creation, late_scheme, late_evicted)
+ruleset object_orders = (
+  ordered_steps,
+  behind_object,
+  behind_hierarchy,
+  late_template,
+  late_creation,
+  late_scheme,
+  late_evicted,
+)
 
 plain_template : (before : ℕ) (x : Result (Unit {0}) TemplateFault)
     → Plain (or_refusal (template_refusal before) x)
@@ -142,10 +155,11 @@ plain_scheme : (p : PublicParameters) → Plain (scheme_of p)
 plain_scheme p = grind arith
 
 plain_evicted : (objects : Entries Object) (h : Handle) (o : Object) (wanted : Handle)
-    → Plain (evicted objects h o wanted)
+    → Plain (objects_after_eviction objects h o wanted)
 plain_evicted objects h o wanted = by (is_persistent h)
   where
-    by : (b : Bool) → Plain (if b then removed objects h wanted else copied objects o wanted)
+    by : (b : Bool) → Plain (if b then remaining_objects objects h wanted
+        else objects_with_copy objects o wanted)
     by true = search (rules, err_bind, err_if)
     by false = search (rules, err_bind, err_if)
 
@@ -180,7 +194,8 @@ create_laws = record {
       ok_bind _ (given_passes 4 p.given p.template) _ (λ c.
       in_place command.Create r q _ refl refl (λ old new grows. grows) refl refl (refl, refl) (
         object_drawn p.template p.given,
-        λ apart. drawn_as_read (λ p. drawn_by p.template p.given + 16) (creation_parameters q.parameters) p is,
+        λ apart. drawn_as_read (λ p. drawn_by p.template p.given + 16)
+            (creation_parameters q.parameters) p is,
       )))))));
   order = λ r q. search object_orders depth 16;
   plain = λ r q. search object_plain depth 16;
@@ -192,17 +207,20 @@ create_laws = record {
 more_objects : (r : Record) (check : ActionCheck) (place : ℕ) (o : Object)
     → place_for check r ≡ Ok place
     → taken_in (record r { objects = with_object r.objects place o }) ≡ taken_in r + 1
-more_objects r n place o is = let more = put_taken transient_byte r.objects place o (some_is _ _ place is) in omega (arith, more)
+more_objects r n place o is = let more =
+    put_taken transient_byte r.objects place o (some_is _ _ place is) in omega (arith, more)
 
 loaded_success : (c : CommandCode) (r : Record) (q : Request) (check : ActionCheck) (place : ℕ)
     (o : Object) (answer : AnswerParts) → part_of c ≡ Objects → GrowsByOne c
     → place_for check r ≡ Ok place → AnswersItsShape c (record { answer = answer; after = r })
     → DrawsAsSaid c q (record { answer = answer; after = r })
-    → SuccessLaws c r q (record { answer = answer; after = record r { objects = with_object r.objects place o } })
+    → SuccessLaws c r q
+    (record { answer = answer; after = record r { objects = with_object r.objects place o } })
 loaded_success c r q check place o answer part one is answers draws =
     let after : Record = record r { objects = with_object r.objects place o } in
     beside_sessions c r q (record { answer = answer; after = after }) (ap leaves_sessions part)
-    (subst (λ (p : Part). Touches p r after) (sym part) refl) (one r after (more_objects r check place o is))
+    (subst (λ (p : Part). Touches p r after) (sym part) refl)
+    (one r after (more_objects r check place o is))
     (subst (λ (p : Part). ChangesIndices p q r.nv r.nv) (sym part) refl) answers draws
 
 pub create_primary_laws : RowLaws command.CreatePrimary create_primary_row
@@ -215,7 +233,8 @@ create_primary_laws = record {
       ok_bind _ (public_passes 0 true p.template) _ (λ t.
       ok_bind _ (given_passes 3 p.given p.template) _ (λ c.
       ok_bind_is _ (place_for action.Seventh r) _ (λ place is.
-      loaded_success command.CreatePrimary r q action.Seventh place _ _ refl (λ old new grows. grows) is (refl, refl)
+      loaded_success command.CreatePrimary r q action.Seventh place _ _
+      refl (λ old new grows. grows) is (refl, refl)
       (none_drawn, λ apart. refl)))))));
   order = λ r q. search object_orders depth 16;
   plain = λ r q. search object_plain depth 16;
@@ -233,7 +252,8 @@ load_laws = record {
       ok_bind _ (public_passes 1 (is_fixed parent) p.public) _ (λ t.
       ok_bind _ (sensitive_of parent p.public p.private) _ (λ sensitive.
       ok_bind_is _ (place_for action.Sixth r) _ (λ place is.
-      loaded_success command.Load r q action.Sixth place _ _ refl (λ old new grows. grows) is (refl, refl)
+      loaded_success command.Load r q action.Sixth place _ _ refl (λ old new grows. grows) is
+      (refl, refl)
       (none_drawn, λ apart. refl))))))));
   order = λ r q. search object_orders depth 16;
   plain = λ r q. search object_plain depth 16;
@@ -241,21 +261,26 @@ load_laws = record {
 }
 
 evicted_grows : (r : Record) (h : Handle) (o : Object) (wanted : Handle) → loaded_at r h ≡ Ok o
-    → IfOk (evicted r.persistent h o wanted)
+    → IfOk (objects_after_eviction r.persistent h o wanted)
     (λ persistent. GrowsAsShaped command.EvictControl r (record r { persistent = persistent }))
 unfolding object_of
 evicted_grows r h o wanted is = by (is_persistent h) (some_is _ _ o is)
   where
     by : (b : Bool) → (if b then persistent_at r.persistent h else object_at r.objects h) ≡ Some o
-        → IfOk (if b then removed r.persistent h wanted else copied r.persistent o wanted)
+        → IfOk (if b then remaining_objects r.persistent h wanted
+        else objects_with_copy r.persistent o wanted)
         (λ persistent. GrowsAsShaped command.EvictControl r (record r { persistent = persistent }))
     by true there =
         let less = removed_length r.persistent h.number o there in
-        let after : GrowsAsShaped command.EvictControl r (record r { persistent = without_persistent r.persistent h }) = inr (omega (arith, less)) in
+        let after : GrowsAsShaped command.EvictControl r
+        (record r { persistent = without_persistent r.persistent h }) =
+        inr (omega (arith, less)) in
         search (rules, ok_bind)
     by false there =
         let more = put_length r.persistent wanted.number o in
-        let after : GrowsAsShaped command.EvictControl r (record r { persistent = with_persistent r.persistent wanted o }) = inl (omega (arith, more)) in
+        let after : GrowsAsShaped command.EvictControl r
+        (record r { persistent = with_persistent r.persistent wanted o }) =
+        inl (omega (arith, more)) in
         search (rules, ok_bind)
 
 pub evict_control_laws : RowLaws command.EvictControl evict_control_row
@@ -266,9 +291,12 @@ evict_control_laws = record {
       ok_bind _ (second_handle q.handles) _ (λ h.
       ok_bind_is _ (loaded_at r h) _ (λ o is.
       ok_bind _ (only (persistent_handle_at q.parameters)) _ (λ wanted.
-      ok_bind _ (eviction_passes (auth.number == platform_handle.number) (is_persistent h) o wanted) _ (λ passed.
-      ok_then _ _ (evicted r.persistent h o wanted) _ (evicted_grows r h o wanted is) (λ persistent grows.
-      beside_sessions command.EvictControl r q _ refl refl grows refl (refl, refl) (none_drawn, λ apart. refl)))))));
+      ok_bind _ (eviction_passes (auth.number == platform_handle.number) (is_persistent h) o wanted)
+      _ (λ passed.
+      ok_then _ _ (objects_after_eviction r.persistent h o wanted) _ (evicted_grows r h o wanted is)
+      (λ persistent grows.
+      beside_sessions command.EvictControl r q _ refl refl grows refl (refl, refl)
+      (none_drawn, λ apart. refl)))))));
   order = λ r q. search object_orders depth 16;
   plain = λ r q. search object_plain depth 16;
   tells = λ s covers r q free. object_secrets.evict_control_tells s r q;

@@ -16,7 +16,7 @@ use Rattle.tpm_types.specs.declared.rc.Rc.{Rc}
 use Rattle.tpm_types.specs.declared.refused.Refused.{Refused}
 use Rattle.tpm_types.specs.declared.role.Role.{Role}
 use Rattle.tpm_types_nv.specs.declared.nv_attributes.NvAttributes.{NvAttributes}
-use Rattle.tpm_commands.specs.Shape.{unauthorized}
+use Rattle.tpm_commands.specs.Shape.{rule_without_role}
 use Rattle.tpm_commands.specs.declared.shape.HandleKind.TheVariants as handle_kind
 use Rattle.tpm_commands.specs.declared.shape.HandleRule.{HandleRule}
 use Rattle.tpm_commands.specs.declared.shape.ParameterKind.{ParameterKind}
@@ -46,7 +46,8 @@ use Rattle.tpm_step.proofs.rows.Readings.{read_one, trimmed_read}
 pub in_order_reads : {X : Type 0} (Fit : Type 0) (s : Result (Unit {0}) Refused)
     (row : Result X Refused) → InOrder Fit s row → ReadsParameters s row
 in_order_reads Fit (Ok u) (Ok x) order = tt
-in_order_reads Fit (Ok u) (Err e) (inl handle) = λ same. let never : check.Handles ≡ check.Parameters = sym handle.0 ∙ same in absurd cc
+in_order_reads Fit (Ok u) (Err e) (inl handle) =
+    λ same. let never : check.Handles ≡ check.Parameters = sym handle.0 ∙ same in absurd cc
 in_order_reads Fit (Ok u) (Err e) (inr (inl fault)) = absurd cc
 in_order_reads Fit (Ok u) (Err e) (inr (inr late)) = λ same. subst (IsLate Fit) same late.1
 in_order_reads Fit (Err fault) (Ok x) order = absurd cc
@@ -61,19 +62,23 @@ pub in_order_passes : {X : Type 0} (Fit : Type 0) (s : Result (Unit {0}) Refused
 in_order_passes Fit s (Ok x) faults order fit = tt
 in_order_passes Fit s (Err e) faults (inl handle) fit = absurd (handle.1 fit)
 in_order_passes Fit s (Err e) faults (inr (inl fault)) fit = λ same.
-    let kind : e.check ≡ check.Parameters = IfErr-at_err (λ (e : Refused). e.check ≡ check.Parameters) fault faults in
+    let kind : e.check ≡ check.Parameters =
+    IfErr-at_err (λ (e : Refused). e.check ≡ check.Parameters) fault faults in
     let never : check.Parameters ≡ check.Handles = sym kind ∙ same in
     absurd cc
-in_order_passes Fit s (Err e) faults (inr (inr late)) fit = λ same. subst (IsLate Fit) same late.1 fit
+in_order_passes Fit s (Err e) faults (inr (inr late)) fit =
+    λ same. subst (IsLate Fit) same late.1 fit
 
 -- a row that satisfies `InOrder` never refuses with MEMORY
 pub in_order_wants : {X : Type 0} (Fit : Type 0) (s : Result (Unit {0}) Refused)
     (row : Result X Refused) → IfErr s (λ e. e.check ≡ check.Parameters) → InOrder Fit s row
     → Passes check.Memory row
 in_order_wants Fit s (Ok x) faults order = tt
-in_order_wants Fit s (Err e) faults (inl handle) = λ same. let never : check.Handles ≡ check.Memory = sym handle.0 ∙ same in absurd cc
+in_order_wants Fit s (Err e) faults (inl handle) =
+    λ same. let never : check.Handles ≡ check.Memory = sym handle.0 ∙ same in absurd cc
 in_order_wants Fit s (Err e) faults (inr (inl fault)) = λ same.
-    let kind : e.check ≡ check.Parameters = IfErr-at_err (λ (e : Refused). e.check ≡ check.Parameters) fault faults in
+    let kind : e.check ≡ check.Parameters =
+    IfErr-at_err (λ (e : Refused). e.check ≡ check.Parameters) fault faults in
     let never : check.Parameters ≡ check.Memory = sym kind ∙ same in
     absurd cc
 in_order_wants Fit s (Err e) faults (inr (inr late)) = λ same. subst (IsLate Fit) same late.1
@@ -87,7 +92,9 @@ parameter_fault n (Err rc) = refl
 pub spelled_faults : (n : ℕ) (kinds : List ParameterKind) (text : List ℕ)
     → IfErr (parameters_check n kinds text) (λ e. e.check ≡ check.Parameters)
 spelled_faults n [] text = err_if (λ e. e.check ≡ check.Parameters) _ _ refl
-spelled_faults n (kind ∷ kinds) text = err_bind _ (parameter n (behind_kind kind text)) _ (parameter_fault n (behind_kind kind text)) (λ rest. spelled_faults (n + 1) kinds rest)
+spelled_faults n (kind ∷ kinds) text =
+    err_bind _ (parameter n (behind_kind kind text)) _ (parameter_fault n (behind_kind kind text))
+    (λ rest. spelled_faults (n + 1) kinds rest)
 
 -- ---- steps that read a handle
 
@@ -119,7 +126,8 @@ pub behind_second : {X : Type 0} (r : Record) (first rule : HandleRule) (rules :
     → Orders r (first ∷ rule ∷ rules) handles kinds text (f h))
     → Orders r (first ∷ rule ∷ rules) handles kinds text (second_handle handles >>= f)
 behind_second r first rule rules [] kinds text f more = record { order = inl (refl, λ fit. fit) }
-behind_second r first rule rules (h ∷ []) kinds text f more = record { order = inl (refl, λ fit. fit.1) }
+behind_second r first rule rules (h ∷ []) kinds text f more =
+    record { order = inl (refl, λ fit. fit.1) }
 behind_second r first rule rules (h ∷ k ∷ hs) kinds text f more = more k (λ fit. fit.1.0)
 
 -- `Orders` holds for a row that begins by reading the third handle, if it holds for the rest of the
@@ -130,10 +138,14 @@ pub behind_third : {X : Type 0} (r : Record) (first second rule : HandleRule)
     → ((h : Handle) → (HandlesFit r (first ∷ second ∷ rule ∷ rules) handles → FitsRule r rule h)
     → Orders r (first ∷ second ∷ rule ∷ rules) handles kinds text (f h))
     → Orders r (first ∷ second ∷ rule ∷ rules) handles kinds text (third_handle handles >>= f)
-behind_third r first second rule rules [] kinds text f more = record { order = inl (refl, λ fit. fit) }
-behind_third r first second rule rules (h ∷ []) kinds text f more = record { order = inl (refl, λ fit. fit.1) }
-behind_third r first second rule rules (h ∷ k ∷ []) kinds text f more = record { order = inl (refl, λ fit. fit.1.1) }
-behind_third r first second rule rules (h ∷ k ∷ l ∷ hs) kinds text f more = more l (λ fit. fit.1.1.0)
+behind_third r first second rule rules [] kinds text f more =
+    record { order = inl (refl, λ fit. fit) }
+behind_third r first second rule rules (h ∷ []) kinds text f more =
+    record { order = inl (refl, λ fit. fit.1) }
+behind_third r first second rule rules (h ∷ k ∷ []) kinds text f more =
+    record { order = inl (refl, λ fit. fit.1.1) }
+behind_third r first second rule rules (h ∷ k ∷ l ∷ hs) kinds text f more =
+    more l (λ fit. fit.1.1.0)
 
 -- `Orders` holds for a row that begins by making an assertion from the first handle, as in
 -- TPM2_PolicySecret, if it holds for the row after the handle is read
@@ -153,7 +165,8 @@ pub behind_found : {A X : Type 0} (r : Record) (rules : List HandleRule) (handle
     → ((a : A) → Orders r rules handles kinds text (f a))
     → Orders r rules handles kinds text (ok_or o handle_refusal >>= f)
 behind_found r rules handles (Some a) kinds text f there more = more a
-behind_found r rules handles None kinds text f there more = record { order = inl (refl, λ fit. false≢true (there fit)) }
+behind_found r rules handles None kinds text f there more =
+    record { order = inl (refl, λ fit. false≢true (there fit)) }
 
 pub late_found : {A : Type 0} (Fit : Type 0) (o : Option A) → (Fit → is_some o ≡ true)
     → Late Fit (ok_or o handle_refusal)
@@ -176,7 +189,8 @@ IsThere type session entity =
 -- If a handle has the type of an NV index, and its entity exists, then the handle names an index.
 index_present : (type : ℕ) (session : Bool) (o : Option NvIndex) (object : Entity)
     → (type == 0x01) ≡ true
-    → IsThere type session (if type == 0x01 then option_map_or AnIndex (option_map head_of o) Permanent else object)
+    → IsThere type session (if type == 0x01
+    then option_map_or AnIndex (option_map head_of o) Permanent else object)
     → is_some o ≡ true
 index_present type session (Some i) object kind present = refl
 index_present type session None object kind present =
@@ -187,7 +201,8 @@ pub index_there : (r : Record) (role : Option Role) (h : Handle)
     → FitsRule r (record { kind = handle_kind.NvIndex; role = role }) h
     → is_some (index_at r.nv h) ≡ true
 unfolding is_present entity_at
-index_there r role h fits = index_present (handle_type h) (is_some (session_at r.sessions h)) (index_at r.nv h) (option_map_or AnObject (object_of r h) Permanent) fits.0 fits.1
+index_there r role h fits = index_present (handle_type h) (is_some (session_at r.sessions h))
+    (index_at r.nv h) (option_map_or AnObject (object_of r h) Permanent) fits.0 fits.1
 
 pub behind_index : {X : Type 0} (r : Record) (rules : List HandleRule) (handles : List Handle)
     (role : Option Role) (h : Handle) (kinds : List ParameterKind) (text : List ℕ)
@@ -196,33 +211,39 @@ pub behind_index : {X : Type 0} (r : Record) (rules : List HandleRule) (handles 
     → FitsRule r (record { kind = handle_kind.NvIndex; role = role }) h) → ((i : NvIndex)
     → Orders r rules handles kinds text (f i))
     → Orders r rules handles kinds text (index_or_refusal r h >>= f)
-behind_index r rules handles role h kinds text f fits more = behind_found r rules handles (index_at r.nv h) kinds text f (λ fit. index_there r role h (fits fit)) more
+behind_index r rules handles role h kinds text f fits more =
+    behind_found r rules handles (index_at r.nv h) kinds text f
+    (λ fit. index_there r role h (fits fit)) more
 
 -- Suppose that a row begins by reading authHandle, nvIndex and the index's attributes. If `Orders`
 -- holds for the rest of the row, it holds for the whole row.
 pub behind_target : {X : Type 0} (r : Record) (first : HandleRule) (others : List HandleRule)
     (handles : List Handle) (kinds : List ParameterKind) (text : List ℕ)
     (f : Target → Result X Refused)
-    → ((t : Target) → (HandlesFit r (first ∷ unauthorized handle_kind.NvIndex ∷ others) handles
+    → ((t : Target) → (HandlesFit r (first ∷ rule_without_role handle_kind.NvIndex ∷ others) handles
     → is_some (index_at r.nv t.handle) ≡ true)
-    → Orders r (first ∷ unauthorized handle_kind.NvIndex ∷ others) handles kinds text (f t))
-    → Orders r (first ∷ unauthorized handle_kind.NvIndex ∷ others) handles kinds text (target_at r handles >>= f)
+    → Orders r (first ∷ rule_without_role handle_kind.NvIndex ∷ others) handles kinds text (f t))
+    → Orders r (first ∷ rule_without_role handle_kind.NvIndex ∷ others) handles kinds text
+    (target_at r handles >>= f)
 behind_target r first others [] kinds text f more = record { order = inl (refl, λ fit. fit) }
-behind_target r first others (h ∷ []) kinds text f more = record { order = inl (refl, λ fit. fit.1) }
+behind_target r first others (h ∷ []) kinds text f more =
+    record { order = inl (refl, λ fit. fit.1) }
 behind_target r first others (h ∷ k ∷ hs) kinds text f more =
     found (index_at r.nv k) (λ fit. index_there r None k fit.1.0) (λ a there. more (target a) there)
   where
     Fit : Type 0
-    Fit = HandlesFit r (first ∷ unauthorized handle_kind.NvIndex ∷ others) (h ∷ k ∷ hs)
+    Fit = HandlesFit r (first ∷ rule_without_role handle_kind.NvIndex ∷ others) (h ∷ k ∷ hs)
 
     target : NvAttributes → Target
     target a = record { auth_handle = h; handle = k; attributes = a }
 
     found : (o : Option NvIndex) → (Fit → is_some o ≡ true)
         → ((a : NvAttributes) → (Fit → is_some o ≡ true)
-        → Orders r (first ∷ unauthorized handle_kind.NvIndex ∷ others) (h ∷ k ∷ hs) kinds text (f (target a)))
-        → Orders r (first ∷ unauthorized handle_kind.NvIndex ∷ others) (h ∷ k ∷ hs) kinds text
-        (((ok_or o handle_refusal >>= λ index. Ok index.public.attributes) >>= λ a. Ok (target a)) >>= f)
+        → Orders r (first ∷ rule_without_role handle_kind.NvIndex ∷ others) (h ∷ k ∷ hs) kinds text
+        (f (target a)))
+        → Orders r (first ∷ rule_without_role handle_kind.NvIndex ∷ others) (h ∷ k ∷ hs) kinds text
+        (((ok_or o handle_refusal >>= λ index. Ok index.public.attributes) >>= λ a. Ok (target a))
+        >>= f)
     found (Some i) there next = next i.public.attributes there
     found None there next = record { order = inl (refl, λ fit. false≢true (there fit)) }
 
@@ -232,11 +253,14 @@ pub behind_target_asserted : {A X : Type 0} (r : Record) (first : HandleRule)
     (others : List HandleRule) (handles : List Handle) (kinds : List ParameterKind) (text : List ℕ)
     (g : Target → Result A Refused) (f : A → Result X Refused)
     → ((t : Target)
-    → Orders r (first ∷ unauthorized handle_kind.NvIndex ∷ others) handles kinds text (g t >>= f))
-    → Orders r (first ∷ unauthorized handle_kind.NvIndex ∷ others) handles kinds text
+    → Orders r (first ∷ rule_without_role handle_kind.NvIndex ∷ others) handles kinds text
+    (g t >>= f))
+    → Orders r (first ∷ rule_without_role handle_kind.NvIndex ∷ others) handles kinds text
     ((target_at r handles >>= g) >>= f)
 behind_target_asserted {X = X} r first others handles kinds text g f more =
-    subst (λ (row : Result X Refused). Orders r (first ∷ unauthorized handle_kind.NvIndex ∷ others) handles kinds text row) (sym (bind_assoc (target_at r handles) g f))
+    subst (λ (row : Result X Refused). Orders r
+    (first ∷ rule_without_role handle_kind.NvIndex ∷ others) handles kinds text row)
+    (sym (bind_assoc (target_at r handles) g f))
     (behind_target r first others handles kinds text (λ t. g t >>= f) (λ t there. more t))
 
 -- ---- steps that read parameters
@@ -252,7 +276,8 @@ pub behind_reading : {P X : Type 0} (r : Record) (rules : List HandleRule) (hand
     (f : P → Result X Refused) → outcome read ≡ parameters_check 1 kinds text
     → ((p : P) → Late (HandlesFit r rules handles) (f p))
     → Orders r rules handles kinds text (read >>= f)
-behind_reading r rules handles kinds text (Ok p) f is late = record { order = late_after _ _ (f p) (sym is) (late p) }
+behind_reading r rules handles kinds text (Ok p) f is late =
+    record { order = late_after _ _ (f p) (sym is) (late p) }
 behind_reading r rules handles kinds text (Err e) f is late = record { order = inr (inl (sym is)) }
 
 -- a row satisfies `Orders` if it first parses all parameters, converts them, for example to an
@@ -262,8 +287,10 @@ pub behind_handed : {P A X : Type 0} (r : Record) (rules : List HandleRule) (han
     (f : A → Result X Refused) → outcome read ≡ parameters_check 1 kinds text
     → ((a : A) → Late (HandlesFit r rules handles) (f a))
     → Orders r rules handles kinds text ((read >>= λ p. Ok (g p)) >>= f)
-behind_handed r rules handles kinds text (Ok p) g f is late = behind_reading r rules handles kinds text (Ok (g p)) f is late
-behind_handed r rules handles kinds text (Err e) g f is late = behind_reading r rules handles kinds text (Err e) f is late
+behind_handed r rules handles kinds text (Ok p) g f is late =
+    behind_reading r rules handles kinds text (Ok (g p)) f is late
+behind_handed r rules handles kinds text (Err e) g f is late =
+    behind_reading r rules handles kinds text (Err e) f is late
 
 -- ---- steps that refuse late
 
@@ -274,10 +301,19 @@ late_own_fault Fit (Ok u) = tt
 late_own_fault Fit (Err fault) = tt
 
 -- the rules for a row's steps that read handles
-pub ruleset handle_steps = (behind_first, behind_second, behind_third, behind_entity, behind_index, behind_target, behind_target_asserted)
+pub ruleset handle_steps = (
+  behind_first,
+  behind_second,
+  behind_third,
+  behind_entity,
+  behind_index,
+  behind_target,
+  behind_target_asserted,
+)
 
 -- the rules for a row's steps that read parameters
-pub ruleset reading_steps = (behind_reading, behind_handed, all_read_outcome, only_read, read_one, read_all, trimmed_read)
+pub ruleset reading_steps =
+    (behind_reading, behind_handed, all_read_outcome, only_read, read_one, read_all, trimmed_read)
 
 -- the rules for a row's steps that refuse late (`Late`)
 pub ruleset late_steps = (rules, err_bind, err_if, err_or, err_fault, late_own_fault)

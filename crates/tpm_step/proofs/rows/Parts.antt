@@ -9,9 +9,9 @@ use Rattle.tpm_containers.specs.Slots.{taken_count}
 use Rattle.tpm_containers.proofs.SortedMapLaws.{kept_few}
 use Rattle.tpm_session.specs.Sessions.{session_at}
 use Rattle.tpm_session.specs.declared.session.Session.{Session}
-use Rattle.tpm_nv.specs.Clear.{cleared, is_by_platform}
+use Rattle.tpm_nv.specs.Clear.{contents_after_clear, is_by_platform}
 use Rattle.tpm_nv.specs.Index.{NvContents, NvIndex}
-use Rattle.tpm_nv.specs.Startup.{started}
+use Rattle.tpm_nv.specs.Startup.{contents_after_startup}
 use Rattle.tpm_record.specs.Clear.{outlasts}
 use Rattle.tpm_record.specs.Record.{Record}
 use Rattle.tpm_record.proofs.ClearLaws.{cleared_few}
@@ -27,12 +27,12 @@ use Rattle.tpm_step.specs.rows.Shapes.{Grows, taken_in}
 abbrev pub SameCount : NvContents → NvContents → Type 0
 SameCount old new = length new.indices ≡ length old.indices
 
-started_count : (nv : NvContents) → SameCount nv (started nv)
-unfolding started
+started_count : (nv : NvContents) → SameCount nv (contents_after_startup nv)
+unfolding contents_after_startup
 started_count nv = length-map nv.indices _
 
-cleared_count : (nv : NvContents) → length (cleared nv).indices ≤ length nv.indices
-unfolding cleared
+cleared_count : (nv : NvContents) → length (contents_after_clear nv).indices ≤ length nv.indices
+unfolding contents_after_clear
 cleared_count nv = kept_few (λ (index : NvIndex). is_by_platform index.public) nv.indices
 
 starts_count : (old new : NvContents) → StartsNv old new → SameCount old new
@@ -66,16 +66,22 @@ same_places old new same = omega (arith, same)
 
 pub touched_grows : (p : Part) (old new : Record) → keeps_places p ≡ true → Touches p old new
     → Grows false old new
-touched_grows Nothing old new keeps touches = same_places old new (ap (λ (r : Record). taken_in r) touches)
-touched_grows AuthValues old new keeps touches = same_places old new (ap (λ (r : Record). taken_in r) touches.0)
-touched_grows Lockout old new keeps touches = same_places old new (ap (λ (r : Record). taken_in r) touches)
-touched_grows Banks old new keeps touches = same_places old new (ap (λ (r : Record). taken_in r) touches)
+touched_grows Nothing old new keeps touches =
+    same_places old new (ap (λ (r : Record). taken_in r) touches)
+touched_grows AuthValues old new keeps touches =
+    same_places old new (ap (λ (r : Record). taken_in r) touches.0)
+touched_grows Lockout old new keeps touches =
+    same_places old new (ap (λ (r : Record). taken_in r) touches)
+touched_grows Banks old new keeps touches =
+    same_places old new (ap (λ (r : Record). taken_in r) touches)
 touched_grows Beginning old new keeps touches =
     let same = ap (λ (r : Record). taken_in r) touches.0 in
     let indices = starts_count old.nv new.nv touches.1 in
     omega (arith, same, indices)
-touched_grows Saved old new keeps touches = same_places old new (ap (λ (r : Record). taken_in r) touches)
-touched_grows DisableClear old new keeps touches = same_places old new (ap (λ (r : Record). taken_in r) touches)
+touched_grows Saved old new keeps touches =
+    same_places old new (ap (λ (r : Record). taken_in r) touches)
+touched_grows DisableClear old new keeps touches =
+    same_places old new (ap (λ (r : Record). taken_in r) touches)
 touched_grows Cleared old new keeps touches =
     let same = ap (λ (r : Record). taken_in r) touches in
     let objects = cleared_few old.objects in
@@ -101,4 +107,5 @@ touched_same Beginning old new leaves touches = ap (λ (r : Record). r.sessions)
 touched_same _ old new leaves touches = ap (λ (r : Record). r.sessions) touches
 
 pub sessions_same : (old new : Record) → new.sessions ≡ old.sessions → SessionsStay old new
-sessions_same old new same h there = ap (λ (sessions : List (Option Session)). is_some (session_at sessions h)) same ∙ there
+sessions_same old new same h there =
+    ap (λ (sessions : List (Option Session)). is_some (session_at sessions h)) same ∙ there

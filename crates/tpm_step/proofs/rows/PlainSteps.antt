@@ -32,4 +32,15 @@ pub plain_own : {X : Type 0} (x : Result X ActionFault) → Plain (or_refusal fa
 plain_own (Ok x) = tt
 plain_own (Err fault) = refl
 
-pub ruleset plain_steps = (rules, err_bind, err_if, err_or, err_fault, plain_parameter, plain_first, plain_second, plain_third, plain_own)
+pub ruleset plain_steps = (
+  rules,
+  err_bind,
+  err_if,
+  err_or,
+  err_fault,
+  plain_parameter,
+  plain_first,
+  plain_second,
+  plain_third,
+  plain_own,
+)

@@ -11,12 +11,12 @@ use Rattle.tpm_types.specs.SessionType.{is_trial}
 use Rattle.tpm_types.specs.declared.action_fault.ActionFault.{ActionFault}
 use Rattle.tpm_types.specs.declared.handle.Handle.{Handle}
 use Rattle.tpm_commands.specs.CommandCode.{part_of, shape_of}
-use Rattle.tpm_commands.specs.Shape.{unauthorized}
+use Rattle.tpm_commands.specs.Shape.{rule_without_role}
 use Rattle.tpm_commands.specs.declared.command_code.CommandCode.{CommandCode}
 use Rattle.tpm_commands.specs.declared.command_code.CommandCode.TheVariants as command
 use Rattle.tpm_commands.specs.declared.shape.HandleKind.TheVariants as handle_kind
 use Rattle.tpm_containers.specs.Slots.{AreAll, taken_count}
-use Rattle.tpm_policy.specs.Assertion.{Assertion, asserted}
+use Rattle.tpm_policy.specs.Assertion.{Assertion, asserted_policy}
 use Rattle.tpm_policy.specs.State.{Policy, starting}
 use Rattle.tpm_session.specs.Sessions.{session_at, with_session_policy}
 use Rattle.tpm_session.specs.declared.session.Session.{Session}
@@ -60,19 +60,23 @@ session_there : (type : ℕ) (session other : Bool) → (type == 0x03) ≡ true
 session_there type session other kind present = grind (arith, nat_tests)
 
 late_session : (Fit : Type 0) (r : Record) (h : Handle)
-    → (Fit → FitsRule r (unauthorized handle_kind.PolicySession) h)
+    → (Fit → FitsRule r (rule_without_role handle_kind.PolicySession) h)
     → Late Fit (policy_session r.sessions h)
 unfolding is_present
-late_session Fit r h fits = late_found Fit (session_at r.sessions h) (λ fit. session_there (handle_type h) (is_some (session_at r.sessions h)) _ (fits fit).0 (fits fit).1)
+late_session Fit r h fits =
+    late_found Fit (session_at r.sessions h)
+    (λ fit. session_there (handle_type h) (is_some (session_at r.sessions h)) _ (fits fit).0
+    (fits fit).1)
 
 ruleset policy_orders = (ordered_steps, late_session)
 
 -- ---- changing the policy of a session
 
 checked_assertion : (hash : HashAlg) (trial : Bool) (assertion : Assertion) (policy : Policy)
-    → IfOk (or_refusal fault_refusal (asserted hash trial assertion policy))
+    → IfOk (or_refusal fault_refusal (asserted_policy hash trial assertion policy))
     (λ new. length new.digest ≡ digest_size hash)
-checked_assertion hash trial assertion policy = by (asserted hash trial assertion policy) (asserted_sized hash trial assertion policy)
+checked_assertion hash trial assertion policy =
+    by (asserted_policy hash trial assertion policy) (asserted_sized hash trial assertion policy)
   where
     by : (x : Result Policy ActionFault)
         → IfOk x (λ (new : Policy). length new.digest ≡ digest_size hash)
@@ -128,9 +132,11 @@ assertion_success c r q part nothing answers draws =
     ok_bind _ (assertion_in c r q) _ (λ assertion.
     ok_then (KeepsSessions r) _ (with_assertion r.sessions handle assertion) _
     (ok_bind_is _ (policy_session r.sessions handle) _ (λ s is.
-    ok_then _ _ (policy_after assertion s) _ (checked_assertion s.hash (is_trial s.kind) (assertion s) s.policy) (λ policy digest.
+    ok_then _ _ (policy_after assertion s) _
+    (checked_assertion s.hash (is_trial s.kind) (assertion s) s.policy) (λ policy digest.
     policy_keeps r handle s policy (some_is _ _ s is) digest)))
-    (λ sessions keeps. keeping_success c r q (answer_of (body_of c)) sessions part nothing answers draws keeps)))
+    (λ sessions keeps. keeping_success c r q (answer_of (body_of c)) sessions part nothing answers
+    draws keeps)))
 
 ruleset assertion_successes = (rules, assertion_success, none_drawn)
 
@@ -170,7 +176,8 @@ policy_password_laws = record {
   tells = λ s covers r q free. policy_secrets.policy_password_tells s r q;
 }
 
-pub policy_command_code_laws : RowLaws command.PolicyCommandCode (assertion_row command.PolicyCommandCode)
+pub policy_command_code_laws : RowLaws command.PolicyCommandCode
+    (assertion_row command.PolicyCommandCode)
 unfolding assertion_row shape_of
 policy_command_code_laws = record {
   success = λ r q. search assertion_successes depth 12;
@@ -242,7 +249,8 @@ policy_restart_laws = record {
       ok_bind _ (first_handle q.handles) _ (λ handle.
       ok_bind _ (all_read q.parameters) _ (λ ended.
       ok_bind_is _ (policy_session r.sessions handle) _ (λ s is.
-      keeping_success command.PolicyRestart r q nothing _ refl (λ old new grows. grows) (refl, refl) (none_drawn, λ apart. refl)
+      keeping_success command.PolicyRestart r q nothing _ refl (λ old new grows. grows) (refl, refl)
+      (none_drawn, λ apart. refl)
       (policy_keeps r handle s (starting s.hash) (some_is _ _ s is) (starting_sized s.hash)))));
   order = λ r q. search policy_orders depth 16;
   plain = λ r q. search plain_steps depth 16;

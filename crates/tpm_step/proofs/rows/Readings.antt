@@ -20,15 +20,20 @@ pub all_read_outcome : (x : Result (Unit {0}) Refused) → outcome x ≡ x
 all_read_outcome (Ok u) = refl
 all_read_outcome (Err e) = refl
 
-pub read_one : {X P : Type 0} (n : ℕ) (x : Result (X × List ℕ) Rc) (f : X × List ℕ → Result P Refused) (g : List ℕ → Result (Unit {0}) Refused) → ((a : X × List ℕ) → outcome (f a) ≡ g a.1) → outcome (parameter n x >>= f) ≡ (parameter n (behind x) >>= g)
+pub read_one : {X P : Type 0} (n : ℕ) (x : Result (X × List ℕ) Rc)
+    (f : X × List ℕ → Result P Refused) (g : List ℕ → Result (Unit {0}) Refused)
+    → ((a : X × List ℕ) → outcome (f a) ≡ g a.1)
+    → outcome (parameter n x >>= f) ≡ (parameter n (behind x) >>= g)
 read_one n (Ok a) f g h = h a
 read_one n (Err rc) f g h = refl
 
-pub read_all : {P : Type 0} (x : Result (Unit {0}) Refused) (p : P) → outcome (x >>= λ ended. Ok p) ≡ x
+pub read_all : {P : Type 0} (x : Result (Unit {0}) Refused) (p : P)
+    → outcome (x >>= λ ended. Ok p) ≡ x
 read_all (Ok u) p = refl
 read_all (Err e) p = refl
 
-pub only_read : {X : Type 0} (k : ParameterKind) (text : List ℕ) (x : Result (X × List ℕ) Rc) → behind x ≡ behind_kind k text → outcome (only x) ≡ parameters_check 1 (k ∷ []) text
+pub only_read : {X : Type 0} (k : ParameterKind) (text : List ℕ) (x : Result (X × List ℕ) Rc)
+    → behind x ≡ behind_kind k text → outcome (only x) ≡ parameters_check 1 (k ∷ []) text
 only_read k text x is =
     read_one 1 x _ (λ rest. all_read rest) (λ a. read_all (all_read a.1) a.0)
     ∙ ap (λ (b : Result (List ℕ) Rc). parameter 1 b >>= λ rest. all_read rest) is

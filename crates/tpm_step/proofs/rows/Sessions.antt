@@ -22,30 +22,39 @@ is_some_there : (o : Option Session) → is_none o ≡ false → is_some o ≡ t
 is_some_there None e = absurd cc
 is_some_there (Some s) e = refl
 
-kind_has : (k : SessionKind) (r : Record) (n : ℕ) (e : Entry) (x : Unit {0}) → kind_passes r n e k ≡ Ok x → HasSession k r e
+kind_has : (k : SessionKind) (r : Record) (n : ℕ) (e : Entry) (x : Unit {0})
+    → kind_passes r n e k ≡ Ok x → HasSession k r e
 kind_has kind.Other r n e x is = absurd cc
 kind_has kind.Session r n e x is = is_some_there (session_of r e) (passed _ _ x is)
 kind_has kind.Password r n e x is = tt
 
-entry_has : (r : Record) (c : CommandCode) (before : List Entry) (e : Entry) (x : Unit {0}) → entry_passes r c before e ≡ Ok x → HasSession (session_kind e.session) r e
+entry_has : (r : Record) (c : CommandCode) (before : List Entry) (e : Entry) (x : Unit {0})
+    → entry_passes r c before e ≡ Ok x → HasSession (session_kind e.session) r e
 unfolding entry_passes
 entry_has r c before e x is =
-    let sizes = bind_ok (refused_if (nat_lt 32 (length e.nonce) || nat_lt 32 (length e.hmac)) (entry_fault (length before + 1) code.Size)) _ x is in
-    let there = bind_ok (kind_passes r (length before + 1) e (session_kind e.session)) _ x sizes.2 in
+    let sizes =
+    bind_ok (refused_if (nat_lt 32 (length e.nonce) || nat_lt 32 (length e.hmac))
+    (entry_fault (length before + 1) code.Size)) _ x is in
+    let there = bind_ok (kind_passes r (length before + 1) e (session_kind e.session)) _ x
+    sizes.2 in
     kind_has (session_kind e.session) r (length before + 1) e there.0 there.1
 
-pub entries_have : (r : Record) (c : CommandCode) (before es : List Entry) (x : Unit {0}) → entries_pass r c before es ≡ Ok x → HaveSessions r es
+pub entries_have : (r : Record) (c : CommandCode) (before es : List Entry) (x : Unit {0})
+    → entries_pass r c before es ≡ Ok x → HaveSessions r es
 entries_have r c before [] x is = tt
 entries_have r c before (e ∷ es) x is =
-    let this = bind_ok (entry_passes r c before e) (λ u. entries_pass r c (before ++ e ∷ []) es) x is in
+    let this = bind_ok (entry_passes r c before e) (λ u. entries_pass r c (before ++ e ∷ []) es) x
+    is in
     (entry_has r c before e this.0 this.1, entries_have r c (before ++ e ∷ []) es x this.2)
 
-entry_keeps : (k : SessionKind) (old new : Record) (e : Entry) → SessionsStay old new → HasSession k old e → HasSession k new e
+entry_keeps : (k : SessionKind) (old new : Record) (e : Entry) → SessionsStay old new
+    → HasSession k old e → HasSession k new e
 entry_keeps kind.Other old new e stay has = has
 entry_keeps kind.Session old new e stay has = stay e.session has
 entry_keeps kind.Password old new e stay has = tt
 
-pub entries_keep : (old new : Record) (es : List Entry) → SessionsStay old new → HaveSessions old es → HaveSessions new es
+pub entries_keep : (old new : Record) (es : List Entry) → SessionsStay old new → HaveSessions old es
+    → HaveSessions new es
 entries_keep old new [] stay has = tt
 entries_keep old new (e ∷ es) stay has =
     (entry_keeps (session_kind e.session) old new e stay has.0, entries_keep old new es stay has.1)

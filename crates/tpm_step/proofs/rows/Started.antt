@@ -26,30 +26,38 @@ abbrev begins : Part → Bool
 begins Beginning = true
 begins _ = false
 
-same_started : (p : Part) (old new : Record) → begins p ≡ false → Touches p old new → new.fixed.started ≡ old.fixed.started
+same_started : (p : Part) (old new : Record) → begins p ≡ false → Touches p old new
+    → new.fixed.started ≡ old.fixed.started
 same_started Beginning old new other touches = absurd cc
 same_started AuthValues old new other touches = ap (λ (r : Record). r.fixed.started) touches.0
 same_started _ old new other touches = ap (λ (r : Record). r.fixed.started) touches
 
-stays_started : (r : Record) (code : CommandCode) (q : Request) → begins (part_of code) ≡ false → r.fixed.started ≡ true → IfOk (row_of r code q) (λ s. s.after.fixed.started ≡ true)
+stays_started : (r : Record) (code : CommandCode) (q : Request) → begins (part_of code) ≡ false
+    → r.fixed.started ≡ true → IfOk (row_of r code q) (λ s. s.after.fixed.started ≡ true)
 stays_started r code q other is =
-    ok_weaker (λ s. Touches (part_of code) r s.after) _ (row_of r code q) (row_touches r code q) (λ s touches. same_started (part_of code) r s.after other touches ∙ is)
+    ok_weaker (λ s. Touches (part_of code) r s.after) _ (row_of r code q) (row_touches r code q)
+    (λ s touches. same_started (part_of code) r s.after other touches ∙ is)
 
-starts : (start : Start) (r : Record) (random : List ℕ) → (started_record start r random).fixed.started ≡ true
+starts : (start : Start) (r : Record) (random : List ℕ)
+    → (started_record start r random).fixed.started ≡ true
 starts Reset r random = refl
 starts _ r random = refl
 
-startup_starts : (r : Record) (q : Request) → IfOk (row_of r command.Startup q) (λ s. s.after.fixed.started ≡ true)
+startup_starts : (r : Record) (q : Request)
+    → IfOk (row_of r command.Startup q) (λ s. s.after.fixed.started ≡ true)
 unfolding row_of startup_row
 startup_starts r q =
     ok_bind _ (only (startup_type_at q.parameters)) _ (λ type.
     ok_bind _ (start_of type (kind_of r.fixed.saved)) _ (λ start. starts start r q.random))
 
-row_starts : (r : Record) (code : CommandCode) (q : Request) → IsDue code r → IfOk (row_of r code q) (λ s. s.after.fixed.started ≡ true)
+row_starts : (r : Record) (code : CommandCode) (q : Request) → IsDue code r
+    → IfOk (row_of r code q) (λ s. s.after.fixed.started ≡ true)
 row_starts r command.Startup q due = startup_starts r q
 row_starts r _ q due = stays_started r _ q refl due
 
-pub is_started : (r : Record) (a : Accepted) (locality : ℕ) (random : List ℕ) → IsAcceptance r locality random a → (success_step a random).after.fixed.started ≡ true
+pub is_started : (r : Record) (a : Accepted) (locality : ℕ) (random : List ℕ)
+    → IsAcceptance r locality random a → (success_step a random).after.fixed.started ≡ true
 is_started r a locality random is =
     ap (λ (r : Record). r.fixed.started) (success_leaves a random)
-    ∙ ok_at (λ (s : Success). s.after.fixed.started ≡ true) (row_of r a.command.code a.request) a.success (row_starts r a.command.code a.request is.due) is.row
+    ∙ ok_at (λ (s : Success). s.after.fixed.started ≡ true) (row_of r a.command.code a.request)
+    a.success (row_starts r a.command.code a.request is.due) is.row

@@ -30,7 +30,8 @@ GrowsByOne c = (old new : Record) → Grows true old new → GrowsAsShaped c old
 -- answer, and the random bytes that it draws are as defined for its command.
 pub beside_sessions : (c : CommandCode) (r : Record) (q : Request) (s : Success)
     → leaves_sessions (part_of c) ≡ true → Touches (part_of c) r s.after → GrowsAsShaped c r s.after
-    → ChangesIndices (part_of c) q r.nv s.after.nv → AnswersItsShape c s → DrawsAsSaid c q s → SuccessLaws c r q s
+    → ChangesIndices (part_of c) q r.nv s.after.nv → AnswersItsShape c s → DrawsAsSaid c q s
+    → SuccessLaws c r q s
 beside_sessions c r q s leaves touches grows changes answers draws = record {
   touches = touches;
   changes = changes;
@@ -51,7 +52,9 @@ pub in_place : (c : CommandCode) (r : Record) (q : Request) (s : Success)
     → Touches (part_of c) r s.after → ChangesIndices (part_of c) q r.nv s.after.nv
     → AnswersItsShape c s → DrawsAsSaid c q s → SuccessLaws c r q s
 in_place c r q s leaves keeps nothing touches changes answers draws =
-    beside_sessions c r q s leaves touches (nothing r s.after (touched_grows (part_of c) r s.after keeps touches)) changes answers draws
+    beside_sessions c r q s leaves touches
+    (nothing r s.after (touched_grows (part_of c) r s.after keeps touches)) changes answers
+    draws
 
 -- a success that draws no random bytes stays within the limit of 96 bytes
 pub none_drawn : 0 ≤ 96

@@ -88,7 +88,8 @@ laws_of command.PolicyPassword = policy.policy_password_laws
 
 pub of_success : (P : Success → Type 0) (r : Record) (c : CommandCode) (q : Request)
     → ((s : Success) → SuccessLaws c r q s → P s) → IfOk (row_of r c q) P
-of_success P r c q law = ok_weaker (SuccessLaws c r q) P (row_of r c q) ((laws_of c).success r q) law
+of_success P r c q law = ok_weaker (SuccessLaws c r q) P (row_of r c q) ((laws_of c).success r q)
+    law
 
 pub row_touches : (r : Record) (c : CommandCode) (q : Request)
     → IfOk (row_of r c q) (λ s. Touches (part_of c) r s.after)
@@ -141,11 +142,13 @@ row_reads r c q = in_order_reads _ _ _ ((laws_of c).order r q).order
 pub row_passes : (r : Record) (c : CommandCode) (q : Request)
     → HandlesFit r (shape_of c).handles q.handles → Passes check.Handles (row_of r c q)
 row_passes r c q fit =
-    in_order_passes _ _ _ (spelled_faults 1 (shape_of c).parameters q.parameters) ((laws_of c).order r q).order fit
+    in_order_passes _ _ _ (spelled_faults 1 (shape_of c).parameters q.parameters)
+    ((laws_of c).order r q).order fit
 
 pub row_wants : (r : Record) (c : CommandCode) (q : Request) → Passes check.Memory (row_of r c q)
 row_wants r c q =
-    in_order_wants _ _ _ (spelled_faults 1 (shape_of c).parameters q.parameters) ((laws_of c).order r q).order
+    in_order_wants _ _ _ (spelled_faults 1 (shape_of c).parameters q.parameters)
+    ((laws_of c).order r q).order
 
 -- ---- what each row reveals
 

@@ -13,11 +13,14 @@ use Rattle.tpm_step.specs.declared.refused_command.RefusedCommand.{RefusedComman
 use Rattle.tpm_step.specs.rows.Order.{IsPlain, Plain}
 use Rattle.tpm_step.proofs.rows.Binding.{err_bind, err_checked, err_if}
 
-header_plain : (x : Result (Header × List ℕ) HeaderFault) → IfErr (in_header x) (λ e. IsPlain e.refused)
+header_plain : (x : Result (Header × List ℕ) HeaderFault)
+    → IfErr (in_header x) (λ e. IsPlain e.refused)
 header_plain (Ok header) = tt
 header_plain (Err fault) = refl
 
-pub err_in_command : {X : Type 0} (Q : RefusedCommand → Type 0) (c : CommandCode) (x : Result X Refused) → IfErr x (λ e. Q (record { code = code_number c; refused = e })) → IfErr (in_command c x) Q
+pub err_in_command : {X : Type 0} (Q : RefusedCommand → Type 0) (c : CommandCode)
+    (x : Result X Refused) → IfErr x (λ e. Q (record { code = code_number c; refused = e }))
+    → IfErr (in_command c x) Q
 err_in_command Q c (Ok x) holds = tt
 err_in_command Q c (Err e) holds = holds
 
@@ -29,8 +32,11 @@ body_plain : (r : Record) (header : Header) (text : List ℕ) → Plain (body_of
 unfolding body_of
 body_plain r header text = search (rules, err_bind, err_if, err_checked, sessions_plain)
 
-pub general_plain : (r : Record) (buffer : List ℕ) → IfErr (general r buffer) (λ e. IsPlain e.refused)
+pub general_plain : (r : Record) (buffer : List ℕ)
+    → IfErr (general r buffer) (λ e. IsPlain e.refused)
 unfolding general
 general_plain r buffer =
-    err_bind (λ (e : RefusedCommand). IsPlain e.refused) (in_header (header_at buffer)) _ (header_plain (header_at buffer)) (λ header.
-    err_in_command (λ (e : RefusedCommand). IsPlain e.refused) header.0.code (body_of r header.0 header.1) (body_plain r header.0 header.1))
+    err_bind (λ (e : RefusedCommand). IsPlain e.refused) (in_header (header_at buffer)) _
+    (header_plain (header_at buffer)) (λ header.
+    err_in_command (λ (e : RefusedCommand). IsPlain e.refused) header.0.code
+    (body_of r header.0 header.1) (body_plain r header.0 header.1))

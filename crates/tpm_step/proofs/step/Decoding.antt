@@ -5,8 +5,8 @@ use Rattle.std.specs.Int.{w32}
 use Rattle.tpm_bytes.specs.Many.{each_at}
 use Rattle.tpm_bytes.specs.Reading.{number_at, or_fault, refused_if}
 use Rattle.tpm_bytes.proofs.Fields.{ok_is}
-use Rattle.tpm_types.specs.Handle.{numbered}
-use Rattle.tpm_types.specs.Refused.{checked}
+use Rattle.tpm_types.specs.Handle.{numbered_handle}
+use Rattle.tpm_types.specs.Refused.{checked_result}
 use Rattle.tpm_types.specs.declared.check.Check.TheVariants as check
 use Rattle.tpm_types.specs.declared.handle.Handle.{Handle}
 use Rattle.tpm_types.specs.declared.rc.Rc.{Rc}
@@ -26,46 +26,59 @@ use Rattle.tpm_step.proofs.rows.Binding.{checked_ok, ok_at, ok_bind, ok_bind_is,
 
 -- The bytes encode the number of the handle `x.0`, followed by `x.1`.
 abbrev IsNumber : ℕ → List ℕ → Handle × List ℕ → Type 0
-IsNumber n text x = or_fault (number_at w32 text) (handle_fault n code.Insufficient) ≡ Ok (x.0.number, x.1)
+IsNumber n text x = or_fault (number_at w32 text) (handle_fault n code.Insufficient)
+    ≡ Ok (x.0.number, x.1)
 
-allowed_reads : (n : ℕ) (rule : HandleRule) (text : List ℕ) → IfOk (allowed_handle_at n rule text) (IsNumber n text)
+allowed_reads : (n : ℕ) (rule : HandleRule) (text : List ℕ)
+    → IfOk (allowed_handle_at n rule text) (IsNumber n text)
 unfolding allowed_handle_at
 allowed_reads n rule text =
     ok_bind_is _ (or_fault (number_at w32 text) _) _ (λ number is.
-    ok_bind _ (refused_if (not (is_of_kind rule.kind (numbered number.0))) _) _ (λ allowed. is))
+    ok_bind _ (refused_if (not (is_of_kind rule.kind (numbered_handle number.0))) _) _
+    (λ allowed. is))
 
-present_reads : (r : Record) (n : ℕ) (rule : HandleRule) (text : List ℕ) → IfOk (present_handle_at r n rule text) (IsNumber n text)
+present_reads : (r : Record) (n : ℕ) (rule : HandleRule) (text : List ℕ)
+    → IfOk (present_handle_at r n rule text) (IsNumber n text)
 unfolding present_handle_at
 present_reads r n rule text =
     ok_then _ _ (allowed_handle_at n rule text) _ (allowed_reads n rule text) (λ handle is.
     ok_bind _ (refused_if (not (is_present r handle.0)) _) _ (λ present. is))
 
 -- Each rule parses one handle, which has the number that the bytes encode.
-each_reads : (r : Record) (n : ℕ) (rules : List HandleRule) (text : List ℕ) → IfOk (each_at (present_handle_at r) n rules text) (λ x. handles_at n (length rules) text ≡ Ok x)
+each_reads : (r : Record) (n : ℕ) (rules : List HandleRule) (text : List ℕ)
+    → IfOk (each_at (present_handle_at r) n rules text)
+    (λ x. handles_at n (length rules) text ≡ Ok x)
 each_reads r n [] text = refl
 each_reads r n (rule ∷ rules) text =
     ok_then _ _ (present_handle_at r n rule text) _ (present_reads r n rule text) (λ first is.
-    ok_then _ _ (each_at (present_handle_at r) (n + 1) rules first.1) _ (each_reads r (n + 1) rules first.1) (λ others are.
+    ok_then _ _ (each_at (present_handle_at r) (n + 1) rules first.1) _
+    (each_reads r (n + 1) rules first.1) (λ others are.
     rw (is, are) refl))
 
-header_reads : (x : Result (Header × List ℕ) HeaderFault) → IfOk (in_header x) (λ header. x ≡ Ok header)
+header_reads : (x : Result (Header × List ℕ) HeaderFault)
+    → IfOk (in_header x) (λ header. x ≡ Ok header)
 header_reads (Ok header) = refl
 header_reads (Err fault) = tt
 
 -- if a command passes the general checks, the whole buffer encodes it
-pub general_reads : (r : Record) (buffer : List ℕ) → IfOk (general r buffer) (λ c. command_at buffer ≡ Ok (c, []))
+pub general_reads : (r : Record) (buffer : List ℕ)
+    → IfOk (general r buffer) (λ c. command_at buffer ≡ Ok (c, []))
 unfolding general body_of command_at
 general_reads r buffer =
     ok_then _ _ (in_header (header_at buffer)) _ (header_reads (header_at buffer)) (λ header head.
     ok_in_command _ header.0.code (body_of r header.0 header.1) (
     ok_bind _ (refused_if (both_or_neither r.fixed.started (is_startup header.0.code)) _) _ (λ g5.
-    ok_then _ _ (checked check.Handles (present_handles_at r header.0.code header.1)) _
-    (ok_checked _ check.Handles (present_handles_at r header.0.code header.1) (each_reads r 1 (shape_of header.0.code).handles header.1)) (λ handles are.
+    ok_then _ _ (checked_result check.Handles (present_handles_at r header.0.code header.1)) _
+    (ok_checked _ check.Handles (present_handles_at r header.0.code header.1)
+    (each_reads r 1 (shape_of header.0.code).handles header.1)) (λ handles are.
     ok_bind _ (sessions_pass header.0.code header.0.tag) _ (λ g7.
-    ok_bind_is _ (checked check.Entries (sessions_at header.0.tag handles.1)) _ (λ entries area.
-    rw (head, are, checked_ok check.Entries (sessions_at header.0.tag handles.1) entries area) refl))))))
+    ok_bind_is _ (checked_result check.Entries (sessions_at header.0.tag handles.1)) _
+    (λ entries area.
+    rw (head, are, checked_ok check.Entries (sessions_at header.0.tag handles.1) entries area)
+    refl))))))
 
-pub one_command : (r s : Record) (buffer : List ℕ) (c d : Whole) → general r buffer ≡ Ok c → general s buffer ≡ Ok d → c ≡ d
+pub one_command : (r s : Record) (buffer : List ℕ) (c d : Whole) → general r buffer ≡ Ok c
+    → general s buffer ≡ Ok d → c ≡ d
 one_command r s buffer c d is also =
     let first = ok_at _ (general r buffer) c (general_reads r buffer) is in
     let second = ok_at _ (general s buffer) d (general_reads s buffer) also in

@@ -11,11 +11,12 @@ use Rattle.tpm_record.specs.Record.{Record}
 use Rattle.tpm_step.specs.step.Events.{Placed}
 use Rattle.tpm_step.specs.step.Execution.{Executes}
 use Rattle.tpm_step.specs.history.Executions.{Leads, placing_execution}
-use Rattle.tpm_step.specs.step.Placing.{placed, placed_at}
+use Rattle.tpm_step.specs.step.Placing.{placed_at, record_with_object}
 use Rattle.tpm_step.specs.step.Step.{step}
 use Rattle.tpm_step.proofs.rows.AllPlaces.{all_set}
 
-placed_record : (r : Record) (object : Object) → IsObject object → IsRecord r → IsRecord (placed r object)
+placed_record : (r : Record) (object : Object) → IsObject object → IsRecord r
+    → IsRecord (record_with_object r object)
 placed_record r object one is = record {
   saved = is.saved;
   hierarchies = is.hierarchies;
@@ -41,7 +42,8 @@ placed_record r object one is = record {
     each (Some place) = all_set IsObject r.objects place (Some object) one is.each_object
     each None = is.each_object
 
-pub placed_executes : (can : Bool) (r : Record) (object : Object) → IsObject object → IsRecord r → Executes can r (Placed object) (step r (Placed object))
+pub placed_executes : (can : Bool) (r : Record) (object : Object) → IsObject object → IsRecord r
+    → Executes can r (Placed object) (step r (Placed object))
 placed_executes can r object one is = record {
   happens = one;
   steps = (false, (λ none. absurd (false≢true none)), refl);
@@ -52,5 +54,6 @@ placed_executes can r object one is = record {
   fits = omega arith;
 }
 
-pub placing_leads : (can : Bool) (r : Record) (object : Object) → IsObject object → IsRecord r → Leads can r (placing_execution r object ∷ []) (placed r object)
+pub placing_leads : (can : Bool) (r : Record) (object : Object) → IsObject object → IsRecord r
+    → Leads can r (placing_execution r object ∷ []) (record_with_object r object)
 placing_leads can r object one is = (refl, placed_executes can r object one is, refl)

@@ -12,7 +12,7 @@ use Rattle.tpm_pcr.specs.Banks.{all_pcrs, new_banks, starting_value, starting_va
 use Rattle.tpm_pcr.specs.Values.{IsBank, IsBanks}
 use Rattle.tpm_containers.specs.Slots.{AreAll, free}
 use Rattle.tpm_types.specs.Limits.{object_limit, session_limit}
-use Rattle.tpm_record.specs.Cycle.{cycled}
+use Rattle.tpm_record.specs.Cycle.{after_cycle}
 use Rattle.tpm_record.specs.IsRecord.{IsRecord}
 use Rattle.tpm_record.specs.Record.{Record}
 use Rattle.tpm_step.specs.step.Events.{PlainEvent, Cycled}
@@ -31,7 +31,12 @@ starting_bank bank = (
 )
 
 pub starting_banks : IsBanks new_banks
-starting_banks = record { sha1 = starting_bank alg.Sha1; sha256 = starting_bank alg.Sha256; count = omega arith }
+starting_banks = record {
+  sha1 = starting_bank alg.Sha1;
+  sha256 = starting_bank alg.Sha256;
+  count =
+      omega arith;
+}
 
 pub none_taken : {X : Type 0} (IsOne : X → Type 0) (n : ℕ) → AreAll IsOne (free n)
 none_taken IsOne zero place = tt
@@ -48,7 +53,7 @@ restarted_lockout s is = record {
   closed_time = omega arith;
 }
 
-cycled_record : (r : Record) → IsRecord r → IsRecord (cycled r)
+cycled_record : (r : Record) → IsRecord r → IsRecord (after_cycle r)
 cycled_record r is = record {
   saved = is.saved;
   hierarchies = is.hierarchies;
@@ -68,7 +73,8 @@ cycled_record r is = record {
 
 -- ---- executions
 
-pub power_cycle_executes : (can : Bool) (r : Record) → IsRecord r → Executes can r Cycled (step r Cycled)
+pub power_cycle_executes : (can : Bool) (r : Record) → IsRecord r
+    → Executes can r Cycled (step r Cycled)
 power_cycle_executes can r is = record {
   happens = tt;
   steps = (false, (λ none. absurd (false≢true none)), refl);
@@ -79,18 +85,26 @@ power_cycle_executes can r is = record {
   fits = omega arith;
 }
 
-pub power_cycle_leads : (can : Bool) (r : Record) → IsRecord r → Leads can r (power_cycle r ∷ []) (cycled r)
+pub power_cycle_leads : (can : Bool) (r : Record) → IsRecord r
+    → Leads can r (power_cycle r ∷ []) (after_cycle r)
 power_cycle_leads can r is = (refl, power_cycle_executes can r is, refl)
 
-pub leads_on : (can : Bool) (old : Record) (first : List Execution) (mid : Record) (then : List Execution) (new : Record) → Leads can old first mid → Leads can mid then new → Leads can old (first ++ then) new
+pub leads_on : (can : Bool) (old : Record) (first : List Execution) (mid : Record)
+    (then : List Execution) (new : Record) → Leads can old first mid → Leads can mid then new
+    → Leads can old (first ++ then) new
 leads_on can old [] mid then new leads on = subst (λ (r : Record). Leads can r then new) leads on
 leads_on can old (one ∷ first) mid then new leads on =
     (leads.0, leads.1, leads_on can one.seen.after first mid then new leads.2 on)
 
-executes_too : (can : Bool) (old : Record) (event : PlainEvent) (x : Stepped) → Executes false old event x → Executes can old event x
+executes_too : (can : Bool) (old : Record) (event : PlainEvent) (x : Stepped)
+    → Executes false old event x → Executes can old event x
 executes_too can old event x executes = record {
   happens = executes.happens;
-  steps = (executes.steps.0, (λ refused. absurd (false≢true (executes.steps.1 refused))), executes.steps.2);
+  steps = (
+    executes.steps.0,
+    (λ refused. absurd (false≢true (executes.steps.1 refused))),
+    executes.steps.2,
+  );
   exactly = λ never. executes.exactly refl;
   is_record = executes.is_record;
   harmless = executes.harmless;
@@ -98,7 +112,11 @@ executes_too can old event x executes = record {
   fits = executes.fits;
 }
 
-pub leads_too : (can : Bool) (old : Record) (executions : List Execution) (new : Record) → Leads false old executions new → Leads can old executions new
+pub leads_too : (can : Bool) (old : Record) (executions : List Execution) (new : Record)
+    → Leads false old executions new → Leads can old executions new
 leads_too can old [] new leads = leads
-leads_too can old (one ∷ executions) new leads =
-    (leads.0, executes_too can old one.event one.seen leads.1, leads_too can one.seen.after executions new leads.2)
+leads_too can old (one ∷ executions) new leads = (
+  leads.0,
+  executes_too can old one.event one.seen leads.1,
+  leads_too can one.seen.after executions new leads.2,
+)

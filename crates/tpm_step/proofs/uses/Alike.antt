@@ -53,7 +53,8 @@ all_told : (found : Option Session) → option_map told (option_map session_fact
 all_told None = refl
 all_told (Some s) = ap (λ (x : Session). Some x) (told_again s)
 
-same_sessions : (one other : Option Session) → option_map session_facts one ≡ option_map session_facts other → one ≡ other
+same_sessions : (one other : Option Session)
+    → option_map session_facts one ≡ option_map session_facts other → one ≡ other
 same_sessions one other is = sym (all_told one) ∙ ap (option_map told) is ∙ all_told other
 
 -- ---- authorization values
@@ -68,42 +69,54 @@ viewed_kept handle (AnObject object) = refl
 viewed_kept handle (AnIndex index) = refl
 viewed_kept handle Permanent = refl
 
-kept_viewed : (r : Record) (handle : Handle) → is_viewed (view_of r handle) ≡ is_kept (entity_at r handle)
+kept_viewed : (r : Record) (handle : Handle)
+    → is_viewed (view_of r handle) ≡ is_kept (entity_at r handle)
 unfolding view_of
 kept_viewed r handle = viewed_kept handle (entity_at r handle)
 
 -- An entity that is neither an object nor an index has the authorization value of its permanent
 -- handle.
-permanent_value : (r : Record) (handle : Handle) (x : Entity) → is_kept x ≡ false → entity_auth_value r handle x ≡ permanent_auth_value r handle
+permanent_value : (r : Record) (handle : Handle) (x : Entity) → is_kept x ≡ false
+    → entity_auth_value r handle x ≡ permanent_auth_value r handle
 permanent_value r handle (AnObject object) none = absurd cc
 permanent_value r handle (AnIndex index) none = absurd cc
 permanent_value r handle Permanent none = refl
 
-other_value : (r : Record) (handle : Handle) → is_kept (entity_at r handle) ≡ false → auth_value_of r handle ≡ permanent_auth_value r handle
+other_value : (r : Record) (handle : Handle) → is_kept (entity_at r handle) ≡ false
+    → auth_value_of r handle ≡ permanent_auth_value r handle
 unfolding auth_value_of
 other_value r handle none = permanent_value r handle (entity_at r handle) none
 
 -- `auth_seen` finds the authorization value of each hierarchy and of lockout.
-hierarchy_seen : (r : Record) (a : HierarchyAuth) → auth_seen r (auth_handle a) ≡ Some (permanent_auth_value r (auth_handle a))
+hierarchy_seen : (r : Record) (a : HierarchyAuth)
+    → auth_seen r (auth_handle a) ≡ Some (permanent_auth_value r (auth_handle a))
 hierarchy_seen r auth.Owner = refl
 hierarchy_seen r _ = refl
 
-module _ (one other : Record) (history : History) (ones : HasAuthValues one history) (others : HasAuthValues other history) where
+module _ (one other : Record) (history : History) (ones : HasAuthValues one history)
+    (others : HasAuthValues other history) where
   permanent_same : (h : Handle) → permanent_auth_value one h ≡ permanent_auth_value other h
   permanent_same h = by (hierarchy_auth_of h) refl
     where
-      of : (r : Record) → HasAuthValues r history → (a : HierarchyAuth) → permanent_auth_value r (auth_handle a) ≡ auth_of history (auth_handle a)
+      of : (r : Record) → HasAuthValues r history → (a : HierarchyAuth)
+          → permanent_auth_value r (auth_handle a) ≡ auth_of history (auth_handle a)
       of r has a = has (auth_handle a) (permanent_auth_value r (auth_handle a)) (hierarchy_seen r a)
 
-      by : (named : Option HierarchyAuth) → hierarchy_auth_of h ≡ named → permanent_auth_value one h ≡ permanent_auth_value other h
+      by : (named : Option HierarchyAuth) → hierarchy_auth_of h ≡ named
+          → permanent_auth_value one h ≡ permanent_auth_value other h
       by None is =
-          ap (λ (found : Option HierarchyAuth). option_map_or (hierarchy_auth_value one.fixed.hierarchies) found []) is
-          ∙ sym (ap (λ (found : Option HierarchyAuth). option_map_or (hierarchy_auth_value other.fixed.hierarchies) found []) is)
+          ap (λ (found : Option HierarchyAuth). option_map_or
+          (hierarchy_auth_value one.fixed.hierarchies) found []) is
+          ∙ sym (ap
+          (λ (found : Option HierarchyAuth). option_map_or
+          (hierarchy_auth_value other.fixed.hierarchies) found []) is)
       by (Some a) is =
-          subst (λ (x : Handle). permanent_auth_value one x ≡ permanent_auth_value other x) (sym (named_is h a is))
+          subst (λ (x : Handle). permanent_auth_value one x ≡ permanent_auth_value other x)
+          (sym (named_is h a is))
           (of one ones a ∙ sym (of other others a))
 
-  values_same : (h : Handle) → view_of one h ≡ view_of other h → auth_value_of one h ≡ auth_value_of other h
+  values_same : (h : Handle) → view_of one h ≡ view_of other h
+      → auth_value_of one h ≡ auth_value_of other h
   values_same h view = by (is_kept (entity_at one h)) refl
     where
       kept : is_kept (entity_at one h) ≡ is_kept (entity_at other h)
@@ -113,7 +126,8 @@ module _ (one other : Record) (history : History) (ones : HasAuthValues one hist
       by true is =
           ones h (auth_value_of one h) (kept_seen one h is)
           ∙ sym (others h (auth_value_of other h) (kept_seen other h (sym kept ∙ is)))
-      by false is = other_value one h is ∙ permanent_same h ∙ sym (other_value other h (sym kept ∙ is))
+      by false is = other_value one h is ∙ permanent_same h
+          ∙ sym (other_value other h (sym kept ∙ is))
 
 -- ---- two devices with one history
 
@@ -122,13 +136,22 @@ authorize_alike one other history alike c locality =
     let ones = alike.first in
     let others = alike.second in
     authorize_same one other c locality (record {
-      sessions = λ handle. same_sessions (session_at one.sessions handle) (session_at other.sessions handle) (ones.sessions.live handle ∙ sym (others.sessions.live handle));
+      sessions = λ handle. same_sessions (session_at one.sessions handle)
+          (session_at other.sessions handle)
+          (ones.sessions.live handle ∙ sym (others.sessions.live handle));
       updates = ones.pcrs.updates ∙ sym others.pcrs.updates;
       lockout = alike.lockout;
-      names = λ handle. sym (views_tell one handle).name ∙ ap view_name (alike.views handle) ∙ (views_tell other handle).name;
-      values = λ handle. values_same one other history ones.auth_values others.auth_values handle (alike.views handle);
-      protection = λ handle. sym (views_tell one handle).protection ∙ ap view_protection (alike.views handle) ∙ (views_tell other handle).protection;
-      policy = λ handle. sym (views_tell one handle).policy ∙ ap view_policy (alike.views handle) ∙ (views_tell other handle).policy;
-      written = λ handle. sym (views_tell one handle).written ∙ ap view_written (alike.views handle) ∙ (views_tell other handle).written;
-      available = λ handle means nv_use. sym ((views_tell one handle).available means nv_use) ∙ ap (view_takes means nv_use) (alike.views handle) ∙ (views_tell other handle).available means nv_use;
+      names = λ handle. sym (views_tell one handle).name ∙ ap view_name (alike.views handle)
+          ∙ (views_tell other handle).name;
+      values = λ handle. values_same one other history ones.auth_values others.auth_values handle
+          (alike.views handle);
+      protection = λ handle. sym (views_tell one handle).protection
+          ∙ ap view_protection (alike.views handle) ∙ (views_tell other handle).protection;
+      policy = λ handle. sym (views_tell one handle).policy ∙ ap view_policy (alike.views handle)
+          ∙ (views_tell other handle).policy;
+      written = λ handle. sym (views_tell one handle).written ∙ ap view_written (alike.views handle)
+          ∙ (views_tell other handle).written;
+      available = λ handle means nv_use. sym ((views_tell one handle).available means nv_use)
+          ∙ ap (view_takes means nv_use) (alike.views handle)
+          ∙ (views_tell other handle).available means nv_use;
     })

@@ -33,17 +33,20 @@ low_octets select =
 read_again : (select : ℕ) → select_of (select_text select) ≡ select % 2 ^ 24
 read_again select = ap select_of (low_octets select) ∙ select_again (select % 2 ^ 24) (omega arith)
 
-low_bit : (select pcr : ℕ) → pcr < 24 → bit_at select pcr ≡ bit_at (select_of (select_text select)) pcr
+low_bit : (select pcr : ℕ) → pcr < 24 → bit_at select pcr
+    ≡ bit_at (select_of (select_text select)) pcr
 low_bit select pcr below =
     let parts : select ≡ select / 16777216 * 2 ^ 24 + select % 2 ^ 24 = omega arith in
     ap (λ n. bit_at n pcr) parts
     ∙ bit_at_cat_low (select / 16777216) 24 (select % 2 ^ 24) pcr below
     ∙ ap (λ n. bit_at n pcr) (sym (read_again select))
 
-one_more : (n : ℕ) (chosen other : Bool) (a b : List ℕ) → a ≡ b → chosen ≡ other → a ++ cond chosen (n ∷ []) [] ≡ b ++ cond other (n ∷ []) []
+one_more : (n : ℕ) (chosen other : Bool) (a b : List ℕ) → a ≡ b → chosen ≡ other
+    → a ++ cond chosen (n ∷ []) [] ≡ b ++ cond other (n ∷ []) []
 one_more n chosen other a b before here = rw (before, here) refl
 
-filter_below : (f g : ℕ → Bool) (n : ℕ) → n ≤ 24 → ((pcr : ℕ) → pcr < 24 → f pcr ≡ g pcr) → filter f (numbers_below n) ≡ filter g (numbers_below n)
+filter_below : (f g : ℕ → Bool) (n : ℕ) → n ≤ 24 → ((pcr : ℕ) → pcr < 24 → f pcr ≡ g pcr)
+    → filter f (numbers_below n) ≡ filter g (numbers_below n)
 filter_below f g zero few same = refl
 filter_below f g (suc n) few same =
     rw (filter-append f (numbers_below n) (n ∷ []), filter-append g (numbers_below n) (n ∷ []))
@@ -56,40 +59,61 @@ pcrs_in octets = filter (is_selected (select_of octets)) (numbers_below 24)
 selected_by_text : (bank : BankSelection) → selected_pcrs bank ≡ pcrs_in (select_text bank.select)
 unfolding selected_pcrs all_pcrs
 selected_by_text bank =
-    filter_below (is_selected bank.select) (is_selected (select_of (select_text bank.select))) 24 (omega arith)
+    filter_below (is_selected bank.select) (is_selected (select_of (select_text bank.select))) 24
+    (omega arith)
     (λ pcr below. ap (λ (b : ℕ). b == 1) (low_bit bank.select pcr below))
 
 -- ---- banks
 
-hash_same : (a b : HashAlg) → to_be_bytes w16 (hash_number a) ≡ to_be_bytes w16 (hash_number b) → a ≡ b
+hash_same : (a b : HashAlg) → to_be_bytes w16 (hash_number a) ≡ to_be_bytes w16 (hash_number b)
+    → a ≡ b
 hash_same alg.Sha1 alg.Sha1 is = refl
-hash_same alg.Sha1 alg.Sha256 is = absurd (let never : 4 ≡ 11 = ap (from_be_bytes w16) is in omega (arith, never))
-hash_same alg.Sha256 alg.Sha1 is = absurd (let never : 11 ≡ 4 = ap (from_be_bytes w16) is in omega (arith, never))
+hash_same alg.Sha1 alg.Sha256 is =
+    absurd (let never : 4 ≡ 11 = ap (from_be_bytes w16) is in omega (arith, never))
+hash_same alg.Sha256 alg.Sha1 is =
+    absurd (let never : 11 ≡ 4 = ap (from_be_bytes w16) is in omega (arith, never))
 hash_same alg.Sha256 alg.Sha256 is = refl
 
-bank_values : (history : History) (a b : BankSelection) → bank_text a ≡ bank_text b → values_in history a ≡ values_in history b
+bank_values : (history : History) (a b : BankSelection) → bank_text a ≡ bank_text b
+    → values_in history a ≡ values_in history b
 unfolding bank_text
 bank_values history a b is =
-    let parts = same_fronts (to_be_bytes w16 (hash_number a.hash) ++ to_be_bytes w8 3) (select_text a.select) (to_be_bytes w16 (hash_number b.hash) ++ to_be_bytes w8 3) (select_text b.select) refl is in
-    let fronts = same_fronts (to_be_bytes w16 (hash_number a.hash)) (to_be_bytes w8 3) (to_be_bytes w16 (hash_number b.hash)) (to_be_bytes w8 3) refl parts.0 in
-    ap (λ (hash : HashAlg). map (pcr_of history hash) (selected_pcrs a)) (hash_same a.hash b.hash fronts.0)
-    ∙ ap (map (pcr_of history b.hash)) (selected_by_text a ∙ ap pcrs_in parts.1 ∙ sym (selected_by_text b))
+    let parts = same_fronts (to_be_bytes w16 (hash_number a.hash) ++ to_be_bytes w8 3)
+    (select_text a.select) (to_be_bytes w16 (hash_number b.hash) ++ to_be_bytes w8 3)
+    (select_text b.select) refl is in
+    let fronts = same_fronts (to_be_bytes w16 (hash_number a.hash)) (to_be_bytes w8 3)
+    (to_be_bytes w16 (hash_number b.hash)) (to_be_bytes w8 3) refl parts.0 in
+    ap (λ (hash : HashAlg). map (pcr_of history hash) (selected_pcrs a))
+    (hash_same a.hash b.hash fronts.0)
+    ∙ ap (map (pcr_of history b.hash))
+    (selected_by_text a ∙ ap pcrs_in parts.1 ∙ sym (selected_by_text b))
 
 some_text : (bank : BankSelection) (rest : List ℕ) → length (bank_text bank ++ rest) ≡ 0 → ⊥
 unfolding bank_text
 some_text bank rest is = omega (arith, is)
 
-banks_values : (history : History) (a b : List BankSelection) → flat_map bank_text a ≡ flat_map bank_text b → flat_map (values_in history) a ≡ flat_map (values_in history) b
+banks_values : (history : History) (a b : List BankSelection)
+    → flat_map bank_text a ≡ flat_map bank_text b
+    → flat_map (values_in history) a ≡ flat_map (values_in history) b
 unfolding bank_text
 banks_values history [] [] is = refl
-banks_values history [] (b ∷ bs) is = absurd (some_text b (flat_map bank_text bs) (ap length (sym is)))
-banks_values history (a ∷ others) [] is = absurd (some_text a (flat_map bank_text others) (ap length is))
+banks_values history [] (b ∷ bs) is =
+    absurd (some_text b (flat_map bank_text bs) (ap length (sym is)))
+banks_values history (a ∷ others) [] is =
+    absurd (some_text a (flat_map bank_text others) (ap length is))
 banks_values history (a ∷ others) (b ∷ bs) is =
-    let parts = same_fronts (bank_text a) (flat_map bank_text others) (bank_text b) (flat_map bank_text bs) refl is in
-    ap (λ (values : List (List ℕ)). values ++ flat_map (values_in history) others) (bank_values history a b parts.0)
-    ∙ ap (λ (values : List (List ℕ)). values_in history b ++ values) (banks_values history others bs parts.1)
+    let parts = same_fronts (bank_text a) (flat_map bank_text others) (bank_text b)
+    (flat_map bank_text bs) refl is in
+    ap (λ (values : List (List ℕ)). values ++ flat_map (values_in history) others)
+    (bank_values history a b parts.0)
+    ∙ ap (λ (values : List (List ℕ)). values_in history b ++ values)
+    (banks_values history others bs parts.1)
 
-pub digest_by_text : (history : History) (hash : HashAlg) (a b : List BankSelection) → selection_text a ≡ selection_text b → digest_in history hash a ≡ digest_in history hash b
+pub digest_by_text : (history : History) (hash : HashAlg) (a b : List BankSelection)
+    → selection_text a ≡ selection_text b → digest_in history hash a ≡ digest_in history hash b
 unfolding selection_text banks_text
 digest_by_text history hash a b is =
-    ap (λ (values : List (List ℕ)). hash_of hash (concat values)) (banks_values history a b (same_fronts (to_be_bytes w32 (length a)) (flat_map bank_text a) (to_be_bytes w32 (length b)) (flat_map bank_text b) refl is).1)
+    ap (λ (values : List (List ℕ)). hash_of hash (concat values))
+    (banks_values history a b
+    (same_fronts (to_be_bytes w32 (length a)) (flat_map bank_text a)
+    (to_be_bytes w32 (length b)) (flat_map bank_text b) refl is).1)

@@ -47,12 +47,19 @@ unfolding use_passes
 use_passed policy u =
     ok_bind_is _ (refused_if (is_trial u.kind) (entry_fault u.entry code.Attributes)) _ (λ a trial.
     ok_bind_is _ (refused_if (not u.available) (plain code.AuthUnavailable)) _ (λ b available.
-    ok_bind_is _ (refused_if (is_other policy.update_count u.update_count) (plain code.PcrChanged)) _ (λ d counter.
-    ok_bind_is _ (refused_if (is_other policy.command u.command) (entry_fault u.entry code.PolicyCc)) _ (λ f command.
-    ok_bind_is _ (refused_if (lacks_command u.role policy.command || is_other_hash policy.cp_hash u.cp_hash) (entry_fault u.entry code.PolicyFail)) _ (λ g call.
-    ok_bind_is _ (refused_if (is_other_written policy.nv_written u.written) (entry_fault u.entry code.PolicyFail)) _ (λ m written.
-    ok_bind_is _ (refused_if (bit_at policy.localities u.locality == 0) (plain code.Locality)) _ (λ h locality.
-    ok_bind_is _ (refused_if (not (is_policy_of u.hash policy.digest u.entity)) (entry_fault u.entry code.PolicyFail)) _ (λ k digest.
+    ok_bind_is _ (refused_if (is_other policy.update_count u.update_count) (plain code.PcrChanged))
+    _ (λ d counter.
+    ok_bind_is _ (refused_if (is_other policy.command u.command)
+    (entry_fault u.entry code.PolicyCc)) _ (λ f command.
+    ok_bind_is _
+    (refused_if (lacks_command u.role policy.command || is_other_hash policy.cp_hash u.cp_hash)
+    (entry_fault u.entry code.PolicyFail)) _ (λ g call.
+    ok_bind_is _ (refused_if (is_other_written policy.nv_written u.written)
+    (entry_fault u.entry code.PolicyFail)) _ (λ m written.
+    ok_bind_is _ (refused_if (bit_at policy.localities u.locality == 0) (plain code.Locality)) _
+    (λ h locality.
+    ok_bind_is _ (refused_if (not (is_policy_of u.hash policy.digest u.entity))
+    (entry_fault u.entry code.PolicyFail)) _ (λ k digest.
     record {
       trial = passed _ _ a trial;
       available = asked _ _ b available;
@@ -67,15 +74,18 @@ use_passed policy u =
 
 -- ---- consequences of passing the checks of a use
 
-pub recorded_is : (recorded : Option ℕ) (number : ℕ) → is_other recorded number ≡ false → IfSome recorded (λ n. n ≡ number)
+pub recorded_is : (recorded : Option ℕ) (number : ℕ) → is_other recorded number ≡ false
+    → IfSome recorded (λ n. n ≡ number)
 recorded_is None number is = tt
 recorded_is (Some n) number is = eqb-true n number (not-false (n == number) is)
 
-pub recorded_hash : (recorded : Option (List ℕ)) (hash : List ℕ) → is_other_hash recorded hash ≡ false → IfSome recorded (λ h. h ≡ hash)
+pub recorded_hash : (recorded : Option (List ℕ)) (hash : List ℕ)
+    → is_other_hash recorded hash ≡ false → IfSome recorded (λ h. h ≡ hash)
 recorded_hash None hash is = tt
 recorded_hash (Some h) hash is = (bytes_eq-Decides h hash).0 (not-false (bytes_eq h hash) is)
 
-pub recorded_written : (recorded found : Option Bool) → is_other_written recorded found ≡ false → IfSome recorded (λ is_written. found ≡ Some is_written)
+pub recorded_written : (recorded found : Option Bool) → is_other_written recorded found ≡ false
+    → IfSome recorded (λ is_written. found ≡ Some is_written)
 recorded_written None found is = tt
 recorded_written (Some true) None is = absurd cc
 recorded_written (Some false) None is = absurd cc
@@ -84,7 +94,8 @@ recorded_written (Some true) (Some false) is = absurd cc
 recorded_written (Some false) (Some true) is = absurd cc
 recorded_written (Some false) (Some false) is = refl
 
-pub names_command : (r : Role) (command : Option ℕ) → lacks_command r command ≡ false → NamesCommand r command
+pub names_command : (r : Role) (command : Option ℕ) → lacks_command r command ≡ false
+    → NamesCommand r command
 names_command role.User command is = tt
 names_command role.Admin None is = absurd cc
 names_command role.Admin (Some number) is = refl
@@ -111,10 +122,13 @@ both true false is = absurd cc
 both false b is = absurd cc
 
 some_policy : (digest : List ℕ) → is_policy digest ≡ true → digest ≢ []
-some_policy digest is none = absurd (let no : is_policy digest ≡ false = ap is_policy none in let never : ⊥ = cc in never)
+some_policy digest is none =
+    absurd (let no : is_policy digest ≡ false = ap is_policy none in let never : ⊥ = cc in never)
 
 -- an entity that accepts policies has an authPolicy that is not empty
-pub takes_some : (nv_use : NvUse) (view : View) (entity : EntityParts) → view_takes means.Policy nv_use view ≡ true → view_policy view ≡ Some entity → entity.digest ≢ []
+pub takes_some : (nv_use : NvUse) (view : View) (entity : EntityParts)
+    → view_takes means.Policy nv_use view ≡ true → view_policy view ≡ Some entity
+    → entity.digest ≢ []
 takes_some nv_use (OfObject public) entity takes is =
     let same : public.auth_policy ≡ entity.digest = cc in
     subst (λ (digest : List ℕ). digest ≢ []) same (some_policy public.auth_policy takes)
@@ -122,14 +136,21 @@ takes_some nv_use (OfIndex public) entity takes is =
     let same : public.auth_policy ≡ entity.digest = cc in
     subst (λ (digest : List ℕ). digest ≢ []) same (some_policy public.auth_policy (by nv_use takes))
   where
-    by : (nv_use : NvUse) → view_takes means.Policy nv_use (OfIndex public) ≡ true → is_policy public.auth_policy ≡ true
+    by : (nv_use : NvUse) → view_takes means.Policy nv_use (OfIndex public) ≡ true
+        → is_policy public.auth_policy ≡ true
     by does.Read takes = (both _ _ takes).1
     by does.Write takes = (both _ _ takes).1
     by does.Administer takes = takes
 takes_some nv_use (OfHandle handle) entity takes is = absurd cc
 
-pub is_its_policy : (s : LiveSession) (found : Option EntityParts) → ((entity : EntityParts) → found ≡ Some entity → entity.digest ≢ []) → is_policy_of s.hash (policy_in s).digest found ≡ true → IsPolicyOf s found
+pub is_its_policy : (s : LiveSession) (found : Option EntityParts)
+    → ((entity : EntityParts) → found ≡ Some entity → entity.digest ≢ [])
+    → is_policy_of s.hash (policy_in s).digest found ≡ true → IsPolicyOf s found
 is_its_policy s None some is = absurd cc
 is_its_policy s (Some entity) some is =
-    let parts = both (hash_number entity.hash == hash_number s.hash) (bytes_eq (policy_in s).digest entity.digest) is in
-    (hash_one entity.hash s.hash parts.0, (bytes_eq-Decides (policy_in s).digest entity.digest).0 parts.1, some entity refl)
+    let parts = both (hash_number entity.hash == hash_number s.hash)
+    (bytes_eq (policy_in s).digest entity.digest) is in (
+      hash_one entity.hash s.hash parts.0,
+      (bytes_eq-Decides (policy_in s).digest entity.digest).0 parts.1,
+      some entity refl,
+    )

@@ -5,7 +5,7 @@ use Rattle.tpm_object.specs.declared.object.Object.{Object}
 use Rattle.tpm_step.specs.step.Events.{PlainEvent, Cycled, Placed}
 use Rattle.tpm_step.specs.step.Execution.{Executes}
 use Rattle.tpm_step.specs.step.Step.{Stepped, step}
-use Rattle.tpm_step.specs.history.History.{History, recorded}
+use Rattle.tpm_step.specs.history.History.{History, extended_history}
 
 -- an executed event, with the record before it and its outcome
 pub record Execution : Type 0 where
@@ -32,7 +32,7 @@ placing_execution r object =
 
 -- the history after one more execution
 abbrev pub with_execution : Execution → History → History
-with_execution one history = recorded one.before one.event one.seen.row.check history
+with_execution one history = extended_history one.before one.event one.seen.row.check history
 
 -- the history after several executions, in order
 abbrev pub history_after : History → List Execution → History

@@ -4,7 +4,7 @@ use Rattle.std.specs.Prelude.{◌≡◌, ◌≢◌, ℕ, true, false, List, [], 
 use Rattle.tpm_lockout.specs.Lockout.{LockoutState, new_lockout}
 use Rattle.tpm_mac.specs.declared.algorithm.HashAlg.TheVariants as alg
 use Rattle.tpm_nv.specs.Index.{NvIndex}
-use Rattle.tpm_types.specs.Handle.{numbered}
+use Rattle.tpm_types.specs.Handle.{numbered_handle}
 use Rattle.tpm_record.specs.Record.{Record, manufactured}
 use Rattle.tpm_step.specs.step.Events.{PlainEvent, Given}
 use Rattle.tpm_step.specs.step.Step.{step}
@@ -19,7 +19,7 @@ zeros = replicate 256 0
 abbrev pub protected_index : NvIndex
 protected_index = record {
   public = record {
-    nv_index = numbered 0x01000001;
+    nv_index = numbered_handle 0x01000001;
     name_alg = alg.Sha256;
     attributes = record { bits = 0x00040004 };
     auth_policy = [];

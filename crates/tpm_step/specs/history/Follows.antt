@@ -26,7 +26,7 @@ use Rattle.tpm_step.specs.uses.QuietPcrs.{AllRecordUpdates}
 use Rattle.tpm_step.specs.uses.Replays.{ReplaysRepeat}
 use Rattle.tpm_step.specs.uses.RunReplays.{RunReplaysRepeat}
 use Rattle.tpm_step.specs.history.Executions.{Execution, Leads, history_after}
-use Rattle.tpm_step.specs.history.History.{History, recorded}
+use Rattle.tpm_step.specs.history.History.{History, extended_history}
 use Rattle.tpm_step.specs.history.Potential.{IsForgiving}
 use Rattle.tpm_step.specs.history.Tries.{FailsFew, FailsWithin}
 
@@ -72,7 +72,7 @@ pub record Follows (r : Record) (history : History) : Type 0 where
 abbrev pub After : (Record → History → Type 0) → Record → PlainEvent → Stepped → Type 0
 After Holds old event x =
     (history : History) → Follows old history
-    → Holds x.after (recorded old event x.row.check history)
+    → Holds x.after (extended_history old event x.row.check history)
 
 -- If the device followed a history before this event, it now follows that history, extended by the
 -- event if it was accepted. The history determines the device's counters, PCRs, authorization

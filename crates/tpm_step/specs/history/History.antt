@@ -12,14 +12,14 @@ use Rattle.tpm_types_object.specs.declared.sensitive.Sensitive.{Sensitive}
 use Rattle.tpm_object.specs.declared.object.Object.{Object}
 use Rattle.tpm_record.specs.Objects.{next_handle}
 use Rattle.tpm_record.specs.Record.{Record}
-use Rattle.tpm_record.specs.Tick.{ticked}
+use Rattle.tpm_record.specs.Tick.{after_tick}
 use Rattle.tpm_auth.specs.declared.session_grant.Grant.{Grant}
 use Rattle.tpm_record.specs.rows.Answer.{AnswerParts}
 use Rattle.tpm_record.specs.rows.Request.{Request, first_handle}
 use Rattle.tpm_actions_object.specs.Load.{parameters_in, sensitive_of}
 use Rattle.tpm_actions_object.specs.Loaded.{loaded_at}
 use Rattle.tpm_step.specs.step.Events.{PlainEvent, Given, Cycled, Placed}
-use Rattle.tpm_step.specs.step.Step.{Accepted, accepted}
+use Rattle.tpm_step.specs.step.Step.{Accepted, acceptance_in}
 use Rattle.tpm_step.specs.declared.refused_command.RefusedCommand.{RefusedCommand}
 use Rattle.tpm_step.specs.history.View.{View, view_of}
 
@@ -96,10 +96,10 @@ with_placed None object history = history
 
 -- the history extended by one event, which was executed on this record; `check` is the check in the
 -- event's row
-abbrev pub recorded : Record → PlainEvent → (check : ℕ) → History → History
-recorded r (Given buffer locality elapsed random) check history =
-    let t = ticked r elapsed in
-    with_command t (accepted t buffer locality random) check history
-recorded r Cycled check history = PowerCycled ∷ history
-recorded r (Placed object) check history =
+abbrev pub extended_history : Record → PlainEvent → (check : ℕ) → History → History
+extended_history r (Given buffer locality elapsed random) check history =
+    let t = after_tick r elapsed in
+    with_command t (acceptance_in t buffer locality random) check history
+extended_history r Cycled check history = PowerCycled ∷ history
+extended_history r (Placed object) check history =
     with_placed (next_handle r.objects) object history

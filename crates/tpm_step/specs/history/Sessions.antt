@@ -29,7 +29,7 @@ use Rattle.tpm_actions_device.specs.FlushContext.{flushed_handle}
 use Rattle.tpm_actions_device.specs.StartAuthSession.{Parameters, parameters_in}
 use Rattle.tpm_actions_policy.specs.Assertions.{session_handle}
 use Rattle.tpm_step.specs.rows.Draws.{draws_of}
-use Rattle.tpm_policy_meaning.specs.Asserted.{evaluated}
+use Rattle.tpm_policy_meaning.specs.Asserted.{evaluated_policy}
 use Rattle.tpm_step.specs.history.AuthValues.{auth_of}
 use Rattle.tpm_step.specs.history.HandleMap.{by_handle, changed_at, with_at}
 use Rattle.tpm_step.specs.history.History.{AcceptedCommand, Done, History, ObjectPlaced, PowerCycled}
@@ -61,7 +61,7 @@ pub record LiveSession : Type 0 where
 -- the policy of a live session: its digest, and the values that are checked when the session
 -- authorizes a command
 abbrev pub policy_in : LiveSession → Policy
-policy_in s = evaluated s.hash (is_trial s.kind) s.assertions
+policy_in s = evaluated_policy s.hash (is_trial s.kind) s.assertions
 
 -- for each handle, the live session at this handle, if any
 abbrev pub LiveSessions : Type 0

@@ -24,15 +24,15 @@ use Rattle.tpm_types_command.specs.Command.{Whole}
 use Rattle.tpm_commands.specs.declared.command_code.CommandCode.{CommandCode}
 use Rattle.tpm_commands.specs.declared.command_code.CommandCode.TheVariants as command
 use Rattle.tpm_record.specs.Record.{Record}
-use Rattle.tpm_record.specs.Tick.{ticked}
+use Rattle.tpm_record.specs.Tick.{after_tick}
 use Rattle.tpm_auth.specs.Comparison.{failure}
 use Rattle.tpm_auth.specs.Entries.{session_of}
 use Rattle.tpm_auth.specs.Grant.{authorize, used_protection}
-use Rattle.tpm_auth.specs.SessionGrant.{demanded, entry_protection}
+use Rattle.tpm_auth.specs.SessionGrant.{demand_of_session, entry_protection}
 use Rattle.tpm_step.specs.step.Answer.{refusal_text}
 use Rattle.tpm_step.specs.step.Events.{PlainEvent, Given, Cycled, Placed}
 use Rattle.tpm_step.specs.step.General.{general}
-use Rattle.tpm_step.specs.step.Step.{Accepted, Stepped, accepted}
+use Rattle.tpm_step.specs.step.Step.{Accepted, Stepped, acceptance_in}
 use Rattle.tpm_step.specs.declared.refused_command.RefusedCommand.{RefusedCommand}
 use Rattle.tpm_step.specs.uses.EntryHmacs.{used_in}
 use Rattle.tpm_step.specs.history.Executions.{Execution, Leads, history_after}
@@ -56,7 +56,7 @@ counts_try (Err e) = is_try e.refused.counted
 -- whether an event is a command whose refusal increments failedTries
 abbrev pub fails_try : Record → PlainEvent → Bool
 fails_try r (Given buffer locality elapsed random) =
-    counts_try (accepted (ticked r elapsed) buffer locality random)
+    counts_try (acceptance_in (after_tick r elapsed) buffer locality random)
 fails_try r Cycled = false
 fails_try r (Placed object) = false
 
@@ -78,7 +78,8 @@ touched_where device session handle (Err e) = protection.None
 abbrev pub touched_of_session : Record → Whole → (locality position : ℕ) → Option Handle → Session
     → Protection
 touched_of_session device command locality position (Some handle) session =
-    touched_where device session handle (demanded device command locality position handle session)
+    touched_where device session handle
+    (demand_of_session device command locality position handle session)
 touched_of_session device command locality position None session =
     entry_protection device session None
 
@@ -115,7 +116,7 @@ pub record FailsTry (r : Record) (locality : ℕ) (buffer : List ℕ) : Type 0 w
 -- The event is a failed try.
 abbrev pub IsRefusedTry : Record → PlainEvent → Type 0
 IsRefusedTry r (Given buffer locality elapsed random) =
-    FailsTry (ticked r elapsed) locality buffer
+    FailsTry (after_tick r elapsed) locality buffer
 IsRefusedTry r Cycled = ⊥
 IsRefusedTry r (Placed object) = ⊥
 
@@ -140,7 +141,7 @@ pub record IsAnsweredFailure (e : Refused) (x : Stepped) : Type 0 where
 -- The event is a failed try, and its response is the refusal of the entry that failed.
 abbrev pub IsAnsweredTry : Record → PlainEvent → Stepped → Type 0
 IsAnsweredTry r (Given buffer locality elapsed random) x =
-    (fails : FailsTry (ticked r elapsed) locality buffer)
+    (fails : FailsTry (after_tick r elapsed) locality buffer)
     × IsAnsweredFailure (try_refusal fails.command fails.place) x
 IsAnsweredTry r Cycled x = ⊥
 IsAnsweredTry r (Placed object) x = ⊥

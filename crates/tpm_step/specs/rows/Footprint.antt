@@ -3,9 +3,9 @@
 use Rattle.std.specs.Prelude.{◌≡◌, ◌⊎◌, ◌+◌, []}
 use Rattle.tpm_types.specs.declared.handle.HierarchyHandle.{HierarchyHandle}
 use Rattle.tpm_actions_device.specs.Clear.{cleared_lockout}
-use Rattle.tpm_nv.specs.Clear.{cleared}
+use Rattle.tpm_nv.specs.Clear.{contents_after_clear}
 use Rattle.tpm_nv.specs.Index.{NvContents}
-use Rattle.tpm_nv.specs.Startup.{started}
+use Rattle.tpm_nv.specs.Startup.{contents_after_startup}
 use Rattle.tpm_record.specs.Clear.{cleared_objects, cleared_persistent}
 use Rattle.tpm_record.specs.declared.fixed.Fixed.{Fixed}
 use Rattle.tpm_record.specs.declared.hierarchy.Hierarchies.{Hierarchies}
@@ -22,8 +22,8 @@ KeepsSecrets old new = (h : HierarchyHandle) → secrets_of new h ≡ secrets_of
 -- the fixed part f after a startup. The fields that a startup sets are copied from the second
 -- argument: whether the device is started, resetCount and restartCount, platformAuth and the null
 -- hierarchy, whether lockoutAuth is disabled, and the PCRs. The number of PCR updates is 0
-abbrev pub begun : Fixed → Fixed → Fixed
-begun f after = record f {
+abbrev pub fixed_after_startup : Fixed → Fixed → Fixed
+fixed_after_startup f after = record f {
   started = after.started;
   hierarchies = record f.hierarchies {
     platform = record f.hierarchies.platform {
@@ -41,7 +41,7 @@ begun f after = record f {
 
 -- A startup either leaves all NV indices unchanged, or has its effect on all of them.
 abbrev pub StartsNv : NvContents → NvContents → Type 0
-StartsNv old new = (new ≡ old) ⊎ (new ≡ started old)
+StartsNv old new = (new ≡ old) ⊎ (new ≡ contents_after_startup old)
 
 -- the fixed part f after TPM2_Clear. The owner's new seed and proof, and the endorsement
 -- hierarchy's new proof, are copied from the second argument. All authorization values are empty
@@ -86,7 +86,8 @@ Touches Lockout old new =
     new ≡ record old { fixed = record old.fixed { lockout = new.fixed.lockout } }
 Touches Banks old new = new ≡ record old { fixed = record old.fixed { banks = new.fixed.banks } }
 Touches Beginning old new =
-    (new ≡ record old { fixed = begun old.fixed new.fixed; nv = new.nv }) × StartsNv old.nv new.nv
+    (new ≡ record old { fixed = fixed_after_startup old.fixed new.fixed; nv = new.nv })
+    × StartsNv old.nv new.nv
 Touches Saved old new = new ≡ record old { fixed = record old.fixed { saved = new.fixed.saved } }
 Touches DisableClear old new =
     new ≡ record old { fixed = record old.fixed { disable_clear = new.fixed.disable_clear } }
@@ -95,5 +96,5 @@ Touches Cleared old new =
       fixed = emptied_fixed old.fixed new.fixed;
       objects = cleared_objects old.objects;
       persistent = cleared_persistent old.persistent;
-      nv = cleared old.nv;
+      nv = contents_after_clear old.nv;
     }

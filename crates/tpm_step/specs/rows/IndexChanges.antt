@@ -8,8 +8,8 @@ use Rattle.tpm_types_nv.specs.NvAttributes.{index_type}
 use Rattle.tpm_types_nv.specs.declared.nv_attributes.NvAttribute.TheVariants as attribute
 use Rattle.tpm_types_nv.specs.declared.nv_public.NvPublic.{NvPublic}
 use Rattle.tpm_types_nv.specs.declared.nv_type.NvType.TheVariants as type
-use Rattle.tpm_nv.specs.Access.{incremented, index_has}
-use Rattle.tpm_nv.specs.Clear.{cleared}
+use Rattle.tpm_nv.specs.Access.{contents_after_increment, index_has}
+use Rattle.tpm_nv.specs.Clear.{contents_after_clear}
 use Rattle.tpm_nv.specs.Definition.{defined_index, index_attribute_conflicts}
 use Rattle.tpm_nv.specs.Index.{NvContents, NvIndex, changed_index, index_at, with_index}
 use Rattle.tpm_nv.specs.Index.{without_index}
@@ -51,7 +51,7 @@ pub record Writes (old new : NvContents) : Type 0 where
 pub record Increments (q : Request) (old new : NvContents) : Type 0 where
   pub handle : Handle
   pub named : second_handle q.handles ≡ Ok handle
-  pub is : incremented old handle ≡ Ok new
+  pub is : contents_after_increment old handle ≡ Ok new
 
 -- The authorization value of one index changes, and nothing else.
 pub record ChangesAuth (old new : NvContents) : Type 0 where
@@ -94,5 +94,5 @@ ChangesIndices NvAuthValue q = ChangesAuth
 ChangesIndices NvDefined q = Defines q
 ChangesIndices NvUndefined q = Undefines q
 ChangesIndices Beginning q = StartsNv
-ChangesIndices Cleared q = λ old new. new ≡ cleared old
+ChangesIndices Cleared q = λ old new. new ≡ contents_after_clear old
 ChangesIndices _ q = λ old new. new ≡ old

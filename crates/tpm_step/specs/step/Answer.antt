@@ -18,9 +18,9 @@ use Rattle.tpm_types.specs.declared.check.Check.{Check}
 use Rattle.tpm_types.specs.declared.check.Check.TheVariants as check
 use Rattle.tpm_types.specs.declared.refused.Refused.{Refused}
 
--- a response: its tag, its size, its code, and the body after this header
-abbrev pub framed : (tag code : ℕ) → List ℕ → List ℕ
-framed tag code body =
+-- a response or a command: its tag, its size, its code, and the body after this header
+abbrev pub framed_message : (tag code : ℕ) → List ℕ → List ℕ
+framed_message tag code body =
     to_be_bytes w16 tag ++ to_be_bytes w32 (10 + length body) ++ to_be_bytes w32 code ++ body
 
 -- the tag of a refusal: TPM_ST_NO_SESSIONS, or TPM_ST_RSP_COMMAND (00C4) if the command's tag was
@@ -31,7 +31,7 @@ refusal_tag _ = 0x8001
 
 -- the ten bytes of the response to a refused command
 abbrev pub refusal_text : Refused → List ℕ
-refusal_text e = framed (refusal_tag e.check) (rc_number e.rc) []
+refusal_text e = framed_message (refusal_tag e.check) (rc_number e.rc) []
 
 abbrev pub handle_answer : Option Handle → List ℕ
 handle_answer None = []
@@ -41,9 +41,10 @@ handle_answer (Some handle) = handle_text handle
 -- the command has sessions, the size of the parameters comes before the parameters, and the answer
 -- to each entry comes after them
 unfoldable pub success_text : List Entry → Option Handle → (answer area : List ℕ) → List ℕ
-success_text [] handle answer area = framed 0x8001 0 (handle_answer handle ++ answer)
+success_text [] handle answer area = framed_message 0x8001 0 (handle_answer handle ++ answer)
 success_text (entry ∷ entries) handle answer area =
-    framed 0x8002 0 (handle_answer handle ++ to_be_bytes w32 (length answer) ++ answer ++ area)
+    framed_message 0x8002 0
+    (handle_answer handle ++ to_be_bytes w32 (length answer) ++ answer ++ area)
 
 -- a response, and the record after it
 pub record Answered : Type 0 where

@@ -10,7 +10,7 @@ use Rattle.tpm_policy.specs.State.{starting}
 use Rattle.tpm_session.specs.declared.session.Session.{Session}
 use Rattle.tpm_session.specs.EntryText.{response_mac_of}
 use Rattle.tpm_session.specs.ParameterHash.{HashedParts, parameter_hash_of}
-use Rattle.tpm_session.specs.Sessions.{flushed, rolled, with_session_policy}
+use Rattle.tpm_session.specs.Sessions.{sessions_after_roll, slots_without_session, with_session_policy}
 use Rattle.tpm_types.specs.declared.session_type.SessionType.{SessionType}
 use Rattle.tpm_types.specs.declared.session_type.SessionType.TheVariants as type
 use Rattle.tpm_types_command.specs.AuthEntry.{Entry}
@@ -35,7 +35,8 @@ draw_of r e = option_map_or (λ (s : Session). length s.nonce_tpm) (session_of r
 -- random bytes
 unfoldable pub entry_rolled : Record → Entry → List ℕ → Drawn
 entry_rolled r e left = record {
-  after = record r { sessions = rolled r.sessions e.session (take (draw_of r e) left) };
+  after =
+      record r { sessions = sessions_after_roll r.sessions e.session (take (draw_of r e) left) };
   left = drop (draw_of r e) left;
 }
 
@@ -98,7 +99,8 @@ entry_restarted r e =
 -- if the entry authorized a handle, the session's policy is reset
 unfoldable pub entry_ended : Record → Entry → Option Grant → Record
 entry_ended r e grant =
-    if not (continues_session e.attributes) then record r { sessions = flushed r.sessions e.session }
+    if not (continues_session e.attributes)
+    then record r { sessions = slots_without_session r.sessions e.session }
     else (if is_some grant then entry_restarted r e else r)
 
 -- the record after all entries, in order

@@ -25,7 +25,7 @@ use Rattle.tpm_types.specs.Rc.{plain}
 use Rattle.tpm_commands.specs.CommandCode.{authorized_handles, shape_of}
 use Rattle.tpm_record.specs.Entity.{absence_rc, is_present}
 use Rattle.tpm_record.specs.Record.{Record}
-use Rattle.tpm_types.specs.Refused.{checked, refusal}
+use Rattle.tpm_types.specs.Refused.{checked_result, refusal}
 use Rattle.tpm_types.specs.declared.check.Check.{Check}
 use Rattle.tpm_types.specs.declared.check.Check.TheVariants as check
 use Rattle.tpm_types.specs.declared.refused.Refused.{Refused}
@@ -90,9 +90,9 @@ unfoldable pub body_of : Record → Header → List ℕ → Result Whole Refused
 body_of r header text = do
   g5 ← refused_if (both_or_neither r.fixed.started (is_startup header.code))
       (refusal check.Started (plain code.Initialize))
-  handles ← checked check.Handles (present_handles_at r header.code text)
+  handles ← checked_result check.Handles (present_handles_at r header.code text)
   g7 ← sessions_pass header.code header.tag
-  entries ← checked check.Entries (sessions_at header.tag handles.1)
+  entries ← checked_result check.Entries (sessions_at header.tag handles.1)
   Ok (record {
     code = header.code;
     handles = handles.0;

@@ -13,6 +13,6 @@ placed_at None object places = places
 
 -- the record with this object in the lowest free slot of the transient objects; if all slots are
 -- taken, the record is unchanged
-abbrev pub placed : Record → Object → Record
-placed r object =
+abbrev pub record_with_object : Record → Object → Record
+record_with_object r object =
     record r { objects = placed_at (lowest_free r.objects) object r.objects }

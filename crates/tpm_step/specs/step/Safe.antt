@@ -1,7 +1,7 @@
 -- What a refusal changes, how many random bytes a success may draw, and how long an answer may be.
 use Rattle.std.specs.Prelude.{◌≡◌, ◌≢◌, ℕ, ◌≤◌, List, length, Ok, IfOk}
 use Rattle.tpm_record.specs.Record.{Record}
-use Rattle.tpm_record.specs.Tick.{ticked}
+use Rattle.tpm_record.specs.Tick.{after_tick}
 use Rattle.tpm_types.specs.Limits.{answer_limit}
 use Rattle.tpm_types.specs.Check.{check_number}
 use Rattle.tpm_types.specs.declared.refused.Refused.{Refused}
@@ -10,12 +10,12 @@ use Rattle.tpm_record.specs.rows.Draws.{draw_limit}
 use Rattle.tpm_step.specs.step.Answer.{refusal_text}
 use Rattle.tpm_step.specs.step.Entries.{DrawsFew}
 use Rattle.tpm_step.specs.step.Events.{PlainEvent, Given, Cycled, Placed}
-use Rattle.tpm_step.specs.step.Step.{Accepted, Stepped, accepted, counted_in}
+use Rattle.tpm_step.specs.step.Step.{Accepted, Stepped, acceptance_in, counted_in}
 
 -- the record after the elapsed time of a command; unchanged for a power cycle and for a placed
 -- object
 abbrev pub only_ticked : Record → PlainEvent → Record
-only_ticked r (Given buffer locality elapsed random) = ticked r elapsed
+only_ticked r (Given buffer locality elapsed random) = after_tick r elapsed
 only_ticked r Cycled = r
 only_ticked r (Placed object) = r
 
@@ -41,13 +41,14 @@ IsModest random a =
 -- If a command is accepted, its success stays within the limits.
 abbrev pub IsModestIfAccepted : Record → PlainEvent → Type 0
 IsModestIfAccepted r (Given buffer locality elapsed random) =
-    IfOk (accepted (ticked r elapsed) buffer locality random) (IsModest random)
+    IfOk (acceptance_in (after_tick r elapsed) buffer locality random) (IsModest random)
 IsModestIfAccepted r Cycled = Unit {0}
 IsModestIfAccepted r (Placed object) = Unit {0}
 
 -- A command is accepted, and its success stays within the limits.
 abbrev pub AcceptsModestly : Record → PlainEvent → Type 0
 AcceptsModestly r (Given buffer locality elapsed random) =
-    (a : Accepted) × (accepted (ticked r elapsed) buffer locality random ≡ Ok a) × IsModest random a
+    (a : Accepted) × (acceptance_in (after_tick r elapsed) buffer locality random ≡ Ok a)
+    × IsModest random a
 AcceptsModestly r Cycled = Unit {0}
 AcceptsModestly r (Placed object) = Unit {0}

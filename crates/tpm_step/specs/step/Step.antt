@@ -6,9 +6,9 @@ use Rattle.tpm_bytes.specs.Reading.{◌>>=◌}
 use Rattle.tpm_types_command.specs.Command.{Whole}
 use Rattle.tpm_commands.specs.CommandCode.{code_number}
 use Rattle.tpm_commands.specs.CommandCode.{shape_of}
-use Rattle.tpm_record.specs.Cycle.{cycled}
+use Rattle.tpm_record.specs.Cycle.{after_cycle}
 use Rattle.tpm_record.specs.Record.{Record, with_lockout, with_saved}
-use Rattle.tpm_record.specs.Tick.{ticked}
+use Rattle.tpm_record.specs.Tick.{after_tick}
 use Rattle.tpm_types.specs.Check.{check_number}
 use Rattle.tpm_auth.specs.Grant.{authorize}
 use Rattle.tpm_auth.specs.declared.session_grant.Grant.{Grant}
@@ -30,7 +30,7 @@ use Rattle.tpm_step.specs.step.Events.{PlainEvent, Given, Cycled, Placed}
 use Rattle.tpm_step.specs.step.General.{general, in_command}
 use Rattle.tpm_step.specs.step.Granted.{granted_entries}
 use Rattle.tpm_step.specs.step.Parameters.{plain_parameters}
-use Rattle.tpm_step.specs.step.Placing.{placed}
+use Rattle.tpm_step.specs.step.Placing.{record_with_object}
 use Rattle.tpm_step.specs.step.Table.{row_of}
 use Rattle.tpm_step.specs.declared.event.Outcome.{Outcome}
 use Rattle.tpm_step.specs.declared.event.Row.{Row}
@@ -91,8 +91,8 @@ Accepts can a c grants old (Err e) answer new = (new ≡ old) × RefusesOrWantsM
 
 -- the accepted command that a buffer encodes, or the first refusal. The command's elapsed time has
 -- already been added to the record
-unfoldable pub accepted : Record → List ℕ → ℕ → List ℕ → Result Accepted RefusedCommand
-accepted r buffer locality random = do
+unfoldable pub acceptance_in : Record → List ℕ → ℕ → List ℕ → Result Accepted RefusedCommand
+acceptance_in r buffer locality random = do
   command ← general r buffer
   in_command command.code (acceptance r command locality random)
 
@@ -116,8 +116,8 @@ refusal_step r e = record {
 
 -- the record after a success, which discards the state that a TPM2_Shutdown saved unless the
 -- command preserves it (Part 3, section 9.4)
-abbrev pub settled : CommandCode → Record → Record
-settled code r = if (shape_of code).keeps_shutdown then r else with_saved r Nothing
+abbrev pub settled_record : CommandCode → Record → Record
+settled_record code r = if (shape_of code).keeps_shutdown then r else with_saved r Nothing
 
 abbrev pub success_step : Accepted → List ℕ → Stepped
 success_step a random =
@@ -126,7 +126,7 @@ success_step a random =
     record {
       response = x.response;
       row = record { code = code_number a.command.code; check = 0 };
-      after = settled a.command.code x.after;
+      after = settled_record a.command.code x.after;
     }
 
 abbrev pub stepped_of : Record → List ℕ → Result Accepted RefusedCommand → Stepped
@@ -165,11 +165,16 @@ answer_where true r random a = answer_without_memory r random a
 -- taken
 abbrev pub step_where : Bool → Record → PlainEvent → Stepped
 step_where refused r (Given buffer locality elapsed random) =
-    let t = ticked r elapsed in answer_where refused t random (accepted t buffer locality random)
+    let t = after_tick r elapsed in
+    answer_where refused t random (acceptance_in t buffer locality random)
 step_where refused r Cycled =
-    record { response = []; row = record { code = 0; check = 0 }; after = cycled r }
+    record { response = []; row = record { code = 0; check = 0 }; after = after_cycle r }
 step_where refused r (Placed object) =
-    record { response = []; row = record { code = 0; check = 0 }; after = placed r object }
+    record {
+      response = [];
+      row = record { code = 0; check = 0 };
+      after = record_with_object r object;
+    }
 
 -- the step of an event when all allocations succeed
 abbrev pub step : Record → PlainEvent → Stepped

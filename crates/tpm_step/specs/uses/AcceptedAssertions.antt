@@ -5,7 +5,7 @@ use Rattle.tpm_mac.specs.declared.algorithm.HashAlg.{HashAlg}
 use Rattle.tpm_policy.specs.Assertion as assertion
 use Rattle.tpm_policy.specs.Assertion.{Assertion}
 use Rattle.tpm_policy.specs.State.{Policy}
-use Rattle.tpm_policy_meaning.specs.Asserted.{HasWidths, IsAmong, evaluated}
+use Rattle.tpm_policy_meaning.specs.Asserted.{HasWidths, IsAmong, evaluated_policy}
 use Rattle.tpm_types.specs.Buffer.{is_given}
 use Rattle.tpm_types.specs.declared.handle.Handle.{Handle}
 use Rattle.tpm_types.specs.declared.session_type.SessionType.TheVariants as type
@@ -33,7 +33,8 @@ Finds _ p = Unit {0}
 abbrev pub AllFind : HashAlg → List Assertion → Type 0
 AllFind hash [] = Unit {0}
 AllFind hash (latest ∷ earlier) =
-    (Finds latest (evaluated hash false earlier) × HasWidths hash latest) × AllFind hash earlier
+    (Finds latest (evaluated_policy hash false earlier) × HasWidths hash latest)
+    × AllFind hash earlier
 
 -- Each assertion of a policy session that exists after a history met its condition when the
 -- assertion was accepted.

@@ -10,7 +10,7 @@ use Rattle.tpm_types.specs.declared.pcr_selection.BankSelection.{BankSelection}
 use Rattle.tpm_types.specs.declared.session_type.SessionType.TheVariants as type
 use Rattle.tpm_types_command.specs.AuthEntry.{Entry}
 use Rattle.tpm_commands.specs.CommandCode.{code_number}
-use Rattle.tpm_policy_meaning.specs.Asserted.{evaluated}
+use Rattle.tpm_policy_meaning.specs.Asserted.{evaluated_policy}
 use Rattle.tpm_step.specs.uses.Grounds.{MeetsPolicy, policy_at, written_at}
 use Rattle.tpm_step.specs.history.History.{AcceptedCommand, History}
 use Rattle.tpm_step.specs.history.Pcrs.{digest_in, pcr_of}
@@ -19,7 +19,8 @@ use Rattle.tpm_step.specs.history.Sessions.{LiveSession}
 
 -- The entity's authPolicy is the digest of these assertions, the latest first.
 abbrev pub HasPolicyOf : HashAlg → List Assertion → Option EntityParts → Type 0
-HasPolicyOf hash assertions (Some entity) = entity.digest ≡ (evaluated hash false assertions).digest
+HasPolicyOf hash assertions (Some entity) =
+    entity.digest ≡ (evaluated_policy hash false assertions).digest
 HasPolicyOf hash assertions None = ⊥
 
 -- the assertion that the selected PCRs have the values that they have after this history. The

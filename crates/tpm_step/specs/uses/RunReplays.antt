@@ -10,7 +10,7 @@ use Rattle.tpm_record.specs.Record.{Record}
 use Rattle.tpm_step.specs.step.Events.{PlainEvent, Given, Cycled, Placed}
 use Rattle.tpm_step.specs.step.Step.{Stepped}
 use Rattle.tpm_step.specs.history.Executions.{Execution, history_after, with_execution}
-use Rattle.tpm_step.specs.history.History.{AcceptedCommand, Done, History, recorded}
+use Rattle.tpm_step.specs.history.History.{AcceptedCommand, Done, History, extended_history}
 use Rattle.tpm_step.specs.uses.Replays.{LivesThrough, Repeats, Replay}
 use Rattle.tpm_step.specs.history.Sessions.{LiveSession, sessions_of}
 
@@ -19,7 +19,8 @@ use Rattle.tpm_step.specs.history.Sessions.{LiveSession, sessions_of}
 pub record IsRecorded (old : Record) (event : PlainEvent) (x : Stepped) (buffer : List ℕ) : Type 0 where
   pub command : AcceptedCommand
   pub spelled : command_at buffer ≡ Ok (command.command, [])
-  pub recorded : (history : History) → recorded old event x.row.check history ≡ Done command ∷ history
+  pub recorded : (history : History) → extended_history old event x.row.check history
+      ≡ Done command ∷ history
 
 -- The event is a command with this buffer.
 abbrev pub Gives : List ℕ → PlainEvent → Type 0

@@ -74,6 +74,7 @@ fn read_handles(text: &mut Cursor, count: usize) -> Result<ArrayVec<Handle, 3>, 
 }
 
 /// Reads the entries of the authorization area, which is present if the tag is TPM_ST_SESSIONS.
+#[inline(always)]
 pub fn read_sessions<'a>(text: &mut Cursor<'a>, tag: Tag) -> Result<ArrayVec<AuthEntry<'a>, 3>, Rc>
     ensures { Reads (λ entries. map entry_of entries.items) (sessions_at tag text.old)
         text.old result text.new }

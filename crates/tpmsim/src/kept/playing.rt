@@ -142,10 +142,9 @@ impl Player {
         };
         let answer = kept.execute_after(*elapsed_ms, *locality, random, buffer)?;
         self.trace(&event, answer, writer)?;
-        match self.answers.put(writer, answer.response) {
-            Ok(()) => Ok(()),
-            Err(_) => Err(Stop::Write),
-        }
+        self.answers
+            .put(writer, answer.response)
+            .map_err(|_| Stop::Write)
     }
 
     /// Prints the trace of a command with its answer, if traces are requested.
@@ -182,19 +181,15 @@ impl Player {
     fn put_text<W: Write>(&mut self, writer: &mut Tap<W>, text: &[u8]) -> Result<(), Stop>
         requires { length text.now ≤ 64 }
     {
-        match self.answers.put_text(writer, text) {
-            Ok(()) => Ok(()),
-            Err(_) => Err(Stop::Write),
-        }
+        self.answers.put_text(writer, text).map_err(|_| Stop::Write)
     }
 
     /// Writes all buffered output.
     fn flush<W: Write>(&mut self, writer: &mut Tap<W>) -> Result<(), PlayFault>
         ensures { backlog self.new.answers ≡ [] }
     {
-        match self.answers.flush(writer) {
-            Ok(()) => Ok(()),
-            Err(_) => Err(PlayFault::Script(ScriptFault::Write)),
-        }
+        self.answers
+            .flush(writer)
+            .map_err(|_| PlayFault::Script(ScriptFault::Write))
     }
 }

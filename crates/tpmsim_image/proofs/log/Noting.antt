@@ -11,12 +11,18 @@ use Rattle.tpm_step.specs.step.Events.{PlainEvent}
 use Rattle.tpm_step.specs.step.Step.{Stepped}
 use Rattle.tpm_step.specs.declared.event.Outcome.{Outcome}
 
-entry_latest : (now : Record) (drawn : ℕ) (event : PlainEvent) (outcome : Outcome) (one : Execution) → IsLatest now drawn event outcome one → entry_in one ≡ entry_by event drawn outcome.response.items
+entry_latest : (now : Record) (drawn : ℕ) (event : PlainEvent) (outcome : Outcome) (one : Execution)
+    → IsLatest now drawn event outcome one
+    → entry_in one ≡ entry_by event drawn outcome.response.items
 entry_latest now drawn event outcome one latest =
-    ap (λ (e : PlainEvent). entry_by e (drawn_by one.before one.event one.seen.row.check) one.seen.response) latest.event_is
+    ap (λ (e : PlainEvent). entry_by e (drawn_by one.before one.event one.seen.row.check)
+    one.seen.response) latest.event_is
     ∙ ap (λ (n : ℕ). entry_by event n one.seen.response) (sym latest.drawn_is)
     ∙ ap (λ (x : Stepped). entry_by event drawn x.response) latest.seen_is
 
-pub adds_latest : (now : Record) (drawn : ℕ) (event : PlainEvent) (outcome : Outcome) (one : Execution) (old new : Written) → IsLatest now drawn event outcome one → AddsSome old (entry_by event drawn outcome.response.items) new → Adds old one new
+pub adds_latest : (now : Record) (drawn : ℕ) (event : PlainEvent) (outcome : Outcome)
+    (one : Execution) (old new : Written) → IsLatest now drawn event outcome one
+    → AddsSome old (entry_by event drawn outcome.response.items) new → Adds old one new
 adds_latest now drawn event outcome one old new latest adds =
-    subst (λ (o : Option PlainEntry). AddsSome old o new) (sym (entry_latest now drawn event outcome one latest)) adds
+    subst (λ (o : Option PlainEntry). AddsSome old o new)
+    (sym (entry_latest now drawn event outcome one latest)) adds

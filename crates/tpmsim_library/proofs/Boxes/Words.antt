@@ -38,12 +38,15 @@ word at alloc = vstruct (vcons (ptr_val at) (vcons (heap_word alloc) vnil))
 
 -- this machine word represents an allocator; an allocator owns no memory
 pub heap_is : (alloc : Global) → Is Heap alloc (heap_word alloc ∷ [])
-heap_is alloc = ((vstruct (vcons vunit vnil) ∷ [], tt), (refl, (((vunit ∷ [], tt), (refl, (refl, tt))), tt)))
+heap_is alloc =
+    ((vstruct (vcons vunit vnil) ∷ [], tt), (refl, (((vunit ∷ [], tt), (refl, (refl, tt))), tt)))
 
-pub heap_told : (alloc : Global) (words : List Val) → Is Heap alloc words → words ≡ heap_word alloc ∷ []
+pub heap_told : (alloc : Global) (words : List Val) → Is Heap alloc words
+    → words ≡ heap_word alloc ∷ []
 heap_told alloc words is = global_laws.the_told.tells alloc words is
 
-pub heap_typed : (alloc : Global) → T (has_ty (layout Heap) (heap_word alloc)) × WT (heap_word alloc)
+pub heap_typed : (alloc : Global) → T (has_ty (layout Heap) (heap_word alloc))
+    × WT (heap_word alloc)
 heap_typed alloc = (tt, ((tt, tt), tt))
 
 -- a pointer value has the type of pointers, whether it is null or not
@@ -53,7 +56,9 @@ pointer_typed null_ptr = (tt, record { fits = lit< tt })
 
 -- a machine word has the type of any struct with these two fields, because the names of structs and
 -- fields are ignored
-pub word_typed : (at : Ptr) (alloc : Global) → T (has_ty (ty_struct [] (tcons ty_ptr (tcons (layout Heap) tnil))) (word at alloc)) × WT (word at alloc)
+pub word_typed : (at : Ptr) (alloc : Global)
+    → T (has_ty (ty_struct [] (tcons ty_ptr (tcons (layout Heap) tnil))) (word at alloc))
+    × WT (word at alloc)
 word_typed (block_ptr b o) alloc = (tt, (tt, ((heap_typed alloc).1, tt)))
 word_typed null_ptr alloc = (tt, (record { fits = lit< tt }, ((heap_typed alloc).1, tt)))
 
@@ -61,19 +66,27 @@ word_typed null_ptr alloc = (tt, (record { fits = lit< tt }, ((heap_typed alloc)
 abbrev pub Fields : Shape
 Fields = record { name = []; args = []; types = []; fields = RawPtr ∷ Heap ∷ [] }
 
-pub word_is : (at : Ptr) (alloc : Global) → Is (Struct Fields) (at, (alloc, tt)) (word at alloc ∷ [])
-word_is at alloc = ((ptr_val at ∷ [], (heap_word alloc ∷ [], tt)), (refl, (refl, (heap_is alloc, tt))))
+pub word_is : (at : Ptr) (alloc : Global)
+    → Is (Struct Fields) (at, (alloc, tt)) (word at alloc ∷ [])
+word_is at alloc =
+    ((ptr_val at ∷ [], (heap_word alloc ∷ [], tt)), (refl, (refl, (heap_is alloc, tt))))
 
-pub word_told : (at : Ptr) (alloc : Global) (words : List Val) → Is (Struct Fields) (at, (alloc, tt)) words → words ≡ word at alloc ∷ []
-word_told at alloc = Struct-Tells Fields ((λ p. ptr_val p ∷ []), ((λ a. heap_word a ∷ []), tt)) (rawptr_Tells, (heap_told, tt)) (at, (alloc, tt))
+pub word_told : (at : Ptr) (alloc : Global) (words : List Val)
+    → Is (Struct Fields) (at, (alloc, tt)) words → words ≡ word at alloc ∷ []
+word_told at alloc = Struct-Tells Fields ((λ p. ptr_val p ∷ []), ((λ a. heap_word a ∷ []), tt))
+    (rawptr_Tells, (heap_told, tt)) (at, (alloc, tt))
 
 -- neither field owns memory
 heap_plain : (alloc : Global) (words : List Val) → Pure (Heap.own_val alloc words)
 heap_plain alloc words fields = (tt, ((λ inner. (tt, (tt, tt))), tt))
 
 module _ {M : Type 1} {𝓤 : Ura M} (𝓛 : Logic 𝓤) where
-  pub heap_made : (alloc : Global) → ent 𝓤 (emp 𝓤) (sem 𝓛 (Heap.own_val alloc (heap_word alloc ∷ [])))
-  heap_made alloc = makes_shadow 𝓛 (Heap.own_val alloc (heap_word alloc ∷ [])) (heap_plain alloc (heap_word alloc ∷ [])) (heap_is alloc)
+  pub heap_made : (alloc : Global)
+      → ent 𝓤 (emp 𝓤) (sem 𝓛 (Heap.own_val alloc (heap_word alloc ∷ [])))
+  heap_made alloc = makes_shadow 𝓛 (Heap.own_val alloc (heap_word alloc ∷ []))
+      (heap_plain alloc (heap_word alloc ∷ [])) (heap_is alloc)
 
-  pub fields_made : (at : Ptr) (alloc : Global) → ent 𝓤 (emp 𝓤) (sem 𝓛 ((Struct Fields).own_val (at, (alloc, tt)) (word at alloc ∷ [])))
-  fields_made at alloc = Struct-Makes 𝓛 Fields ((λ p words. tt), (heap_plain, tt)) (at, (alloc, tt)) (word at alloc ∷ []) (word_is at alloc)
+  pub fields_made : (at : Ptr) (alloc : Global)
+      → ent 𝓤 (emp 𝓤) (sem 𝓛 ((Struct Fields).own_val (at, (alloc, tt)) (word at alloc ∷ [])))
+  fields_made at alloc = Struct-Makes 𝓛 Fields ((λ p words. tt), (heap_plain, tt)) (at, (alloc, tt))
+      (word at alloc ∷ []) (word_is at alloc)

@@ -35,7 +35,8 @@ pub source_laws : Laws Source
 source_laws = arg_laws (bare (layout lent.the_row)) no lent.the_row lent_laws.the_row_laws refl
 
 pub content_laws : Laws Content
-content_laws = arg_laws (bare (layout device.the_row)) no device.the_row device_laws.the_row_laws refl
+content_laws = arg_laws (bare (layout device.the_row)) no device.the_row device_laws.the_row_laws
+    refl
 
 -- the machine word of an allocator
 abbrev pub source_word : Lent → Val
@@ -49,10 +50,12 @@ word at alloc = vstruct (vcons (ptr_val at) (vcons (source_word alloc) vnil))
 pub source_is : (alloc : Lent) → Is Source alloc (source_word alloc ∷ [])
 source_is alloc = (tt, (refl, tt))
 
-pub source_told : (alloc : Lent) (words : List Val) → Is Source alloc words → words ≡ source_word alloc ∷ []
+pub source_told : (alloc : Lent) (words : List Val) → Is Source alloc words
+    → words ≡ source_word alloc ∷ []
 source_told alloc words is = lent_laws.the_told.tells alloc words is
 
-pub source_typed : (alloc : Lent) → T (has_ty (layout Source) (source_word alloc)) × WT (source_word alloc)
+pub source_typed : (alloc : Lent) → T (has_ty (layout Source) (source_word alloc))
+    × WT (source_word alloc)
 source_typed alloc = (tt, tt)
 
 -- a pointer value has the type of pointers, whether it is null or not
@@ -62,7 +65,9 @@ pointer_typed null_ptr = (tt, record { fits = lit< tt })
 
 -- a machine word has the type of any struct with these two fields, because the names of structs and
 -- fields are ignored
-pub word_typed : (at : Ptr) (alloc : Lent) → T (has_ty (ty_struct [] (tcons ty_ptr (tcons (layout Source) tnil))) (word at alloc)) × WT (word at alloc)
+pub word_typed : (at : Ptr) (alloc : Lent)
+    → T (has_ty (ty_struct [] (tcons ty_ptr (tcons (layout Source) tnil))) (word at alloc))
+    × WT (word at alloc)
 word_typed (block_ptr b o) alloc = (tt, (tt, ((source_typed alloc).1, tt)))
 word_typed null_ptr alloc = (tt, (record { fits = lit< tt }, ((source_typed alloc).1, tt)))
 
@@ -71,18 +76,25 @@ abbrev pub Fields : Shape
 Fields = record { name = []; args = []; types = []; fields = RawPtr ∷ Source ∷ [] }
 
 pub word_is : (at : Ptr) (alloc : Lent) → Is (Struct Fields) (at, (alloc, tt)) (word at alloc ∷ [])
-word_is at alloc = ((ptr_val at ∷ [], (source_word alloc ∷ [], tt)), (refl, (refl, (source_is alloc, tt))))
+word_is at alloc =
+    ((ptr_val at ∷ [], (source_word alloc ∷ [], tt)), (refl, (refl, (source_is alloc, tt))))
 
-pub word_told : (at : Ptr) (alloc : Lent) (words : List Val) → Is (Struct Fields) (at, (alloc, tt)) words → words ≡ word at alloc ∷ []
-word_told at alloc = Struct-Tells Fields ((λ p. ptr_val p ∷ []), ((λ a. source_word a ∷ []), tt)) (rawptr_Tells, (source_told, tt)) (at, (alloc, tt))
+pub word_told : (at : Ptr) (alloc : Lent) (words : List Val)
+    → Is (Struct Fields) (at, (alloc, tt)) words → words ≡ word at alloc ∷ []
+word_told at alloc = Struct-Tells Fields ((λ p. ptr_val p ∷ []), ((λ a. source_word a ∷ []), tt))
+    (rawptr_Tells, (source_told, tt)) (at, (alloc, tt))
 
 -- neither field owns memory
 source_plain : (alloc : Lent) (words : List Val) → Pure (Source.own_val alloc words)
 source_plain alloc words fields = (tt, tt)
 
 module _ {M : Type 1} {𝓤 : Ura M} (𝓛 : Logic 𝓤) where
-  pub source_made : (alloc : Lent) → ent 𝓤 (emp 𝓤) (sem 𝓛 (Source.own_val alloc (source_word alloc ∷ [])))
-  source_made alloc = makes_shadow 𝓛 (Source.own_val alloc (source_word alloc ∷ [])) (source_plain alloc (source_word alloc ∷ [])) (source_is alloc)
+  pub source_made : (alloc : Lent)
+      → ent 𝓤 (emp 𝓤) (sem 𝓛 (Source.own_val alloc (source_word alloc ∷ [])))
+  source_made alloc = makes_shadow 𝓛 (Source.own_val alloc (source_word alloc ∷ []))
+      (source_plain alloc (source_word alloc ∷ [])) (source_is alloc)
 
-  pub fields_made : (at : Ptr) (alloc : Lent) → ent 𝓤 (emp 𝓤) (sem 𝓛 ((Struct Fields).own_val (at, (alloc, tt)) (word at alloc ∷ [])))
-  fields_made at alloc = Struct-Makes 𝓛 Fields ((λ p words. tt), (source_plain, tt)) (at, (alloc, tt)) (word at alloc ∷ []) (word_is at alloc)
+  pub fields_made : (at : Ptr) (alloc : Lent)
+      → ent 𝓤 (emp 𝓤) (sem 𝓛 ((Struct Fields).own_val (at, (alloc, tt)) (word at alloc ∷ [])))
+  fields_made at alloc = Struct-Makes 𝓛 Fields ((λ p words. tt), (source_plain, tt))
+      (at, (alloc, tt)) (word at alloc ∷ []) (word_is at alloc)

@@ -7,6 +7,7 @@ use Rattle.tpm_actions_capability.proofs.element.tell_elements.Given as goal
 -- encoding.
 abbrev pub invariant-loop-e : goal.invariant-loop-e
 invariant-loop-e l = record {
-  told : l.text ++ text_of l.telling l.from l.left (drop l.e-index l.elements) ≡ l.fn.text ++ text_of l.telling l.from l.count l.elements;
+  told : l.text ++ text_of l.telling l.from l.left (drop l.e-index l.elements)
+      ≡ l.fn.text ++ text_of l.telling l.from l.count l.elements;
   room : length l.text + 8 * l.left ≤ answer_limit;
 }

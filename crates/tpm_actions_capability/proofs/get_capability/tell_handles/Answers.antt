@@ -10,6 +10,8 @@ pub returns : goal.returns
 returns g c =
     let text = λ (from : ℕ) (es : List Element). listing tell.Value 1 from c.args.asked.count es in
     let from = first_handle_of c.args.asked.property in
-    told_listed (handle_elements (g.K.Keep.record_of c.args.keep.now) (c.args.asked.property / 2 ^ 24)) (text from)
+    told_listed (handle_elements (g.K.Keep.record_of c.args.keep.now)
+    (c.args.asked.property / 2 ^ 24)) (text from)
     c.handles.new.elements.items c.list.new.text (search rules)
-    (c.list.ensures ∙ ap (λ (n : ℕ). text n c.as_slice.result.now) c.first_handle_of-from.ensures ∙ ap (text from) c.as_slice.ensures.value)
+    (c.list.ensures ∙ ap (λ (n : ℕ). text n c.as_slice.result.now) c.first_handle_of-from.ensures
+    ∙ ap (text from) c.as_slice.ensures.value)

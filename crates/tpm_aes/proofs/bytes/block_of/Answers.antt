@@ -5,5 +5,10 @@ use Rattle.tpm_aes.specs.Words.{bytes_of}
 
 pub returns : goal.returns
 returns c =
-    rw (c.to_le_bytes.ensures, c.to_le_bytes-2.ensures, c.to_le_bytes-3.ensures, c.to_le_bytes-4.ensures)
+    rw (
+      c.to_le_bytes.ensures,
+      c.to_le_bytes-2.ensures,
+      c.to_le_bytes-3.ensures,
+      c.to_le_bytes-4.ensures,
+    )
     (sym (ap bytes_of (four_words c.args.words (search rules))))

@@ -9,4 +9,5 @@ loop-index-preserved c =
 
 pub returns : goal.returns
 returns c =
-    c.loop-index.invariant ∙ xored_all c.args.bytes.now c.args.other.now c.loop-index.index (omega arith) c.requires
+    c.loop-index.invariant ∙ xored_all c.args.bytes.now c.args.other.now c.loop-index.index
+    (omega arith) c.requires

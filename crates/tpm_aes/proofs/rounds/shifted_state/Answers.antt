@@ -6,4 +6,5 @@ pub returns : goal.returns
 returns c =
     shifted_words c.args.state _ _ _ _ _ _ _ _ (search rules)
     c.to_le_bytes.ensures c.to_le_bytes-2.ensures c.to_le_bytes-3.ensures c.to_le_bytes-4.ensures
-    c.substituted_word.ensures c.substituted_word-2.ensures c.substituted_word-3.ensures c.substituted_word-4.ensures
+    c.substituted_word.ensures c.substituted_word-2.ensures c.substituted_word-3.ensures
+    c.substituted_word-4.ensures

@@ -10,7 +10,9 @@ abbrev pub invariant-loop-index : goal.invariant-loop-index
 invariant-loop-index g l =
     let r = g.K.Keep.record_of l.keep in
     record {
-      left : entries_pass r l.code (map entry_of (take l.index l.entries)) (map entry_of (drop l.index l.entries)) ≡ entries_pass r l.code [] (map entry_of l.entries);
+      left : entries_pass r l.code (map entry_of (take l.index l.entries))
+          (map entry_of (drop l.index l.entries))
+          ≡ entries_pass r l.code [] (map entry_of l.entries);
       found : AreSessions r l.sessions.items (map entry_of (take l.index l.entries));
       as_many : length l.sessions.items ≡ l.index;
     }

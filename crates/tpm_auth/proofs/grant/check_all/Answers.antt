@@ -9,6 +9,10 @@ use Rattle.tpm_auth.proofs.grant.check_all.Goals as goal
 
 pub returns-in-len1 : goal.returns-in-len1
 returns-in-len1 g c =
-    let one = only_entry c.as_slice.result.now _ (omega (arith, c.in-len1.len_at_least)) (omega (arith, c.in-len1.len_below)) in
+    let one = only_entry c.as_slice.result.now _ (omega (arith, c.in-len1.len_at_least))
+    (omega (arith, c.in-len1.len_below)) in
     let same = ap (map entry_of) (sym c.as_slice.ensures.value) ∙ one in
-    subst (λ (l : List Entry). Gives granted_by (grants_pass (g.K.Keep.record_of c.args.keep.now) (whole_of c.args.sent.now.command.now) (locality_number c.args.sent.now.locality) [] l) c.check_one_password.result) (sym same) c.check_one_password.ensures
+    subst (λ (l : List Entry). Gives granted_by
+    (grants_pass (g.K.Keep.record_of c.args.keep.now) (whole_of c.args.sent.now.command.now)
+    (locality_number c.args.sent.now.locality) [] l) c.check_one_password.result) (sym same)
+    c.check_one_password.ensures

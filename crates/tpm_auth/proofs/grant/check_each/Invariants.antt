@@ -13,7 +13,8 @@ invariant-loop-place g l =
     let c = whole_of l.sent.command.now in
     let at = locality_number l.sent.locality in
     record {
-      left : grants_pass r c at l.grants.items (map entry_of (drop l.place l.entries)) ≡ grants_pass r c at [] (map entry_of l.entries);
+      left : grants_pass r c at l.grants.items (map entry_of (drop l.place l.entries))
+          ≡ grants_pass r c at [] (map entry_of l.entries);
       size : length l.grants.items ≡ l.place;
       hashed : l.hashes ≡ hashed_command r c;
     }

@@ -5,6 +5,7 @@ use Rattle.tpm_auth.proofs.grant.resolve_all.Given as goal
 -- The entities found so far belong to the first handles.
 abbrev pub invariant-loop-handle : goal.invariant-loop-handle
 invariant-loop-handle g l = record {
-  found : map found_by l.all.items ≡ entities_at (g.K.Keep.record_of l.keep) (take l.handle-index l.handles);
+  found : map found_by l.all.items ≡ entities_at (g.K.Keep.record_of l.keep)
+      (take l.handle-index l.handles);
   size : length l.all.items ≡ l.handle-index;
 }

@@ -11,8 +11,11 @@ returns-in-Some c r is =
     let place = c.args.place in
     let first = c.authorized.result.now in
     let lookup = c.in-Some.ensures.lookup in
-    let here = slice_get_read first (length first) place c.in-Some.resolved.now refl lookup.3.0 lookup.1 in
-    used_in r command.handles c.args.sent.now.entities.now (authorized_handles command.code) place c.in-Some.resolved.now is.found (ap (λ l. slice_get l place) (sym c.authorized.ensures) ∙ here)
+    let here = slice_get_read first (length first) place c.in-Some.resolved.now refl lookup.3.0
+    lookup.1 in
+    used_in r command.handles c.args.sent.now.entities.now (authorized_handles command.code) place
+    c.in-Some.resolved.now is.found (ap (λ l. slice_get l place) (sym c.authorized.ensures)
+    ∙ here)
 
 pub returns-in-None : goal.returns-in-None
 returns-in-None c r is =
@@ -21,4 +24,5 @@ returns-in-None c r is =
     let first = c.authorized.result.now in
     let lookup = c.in-None.ensures.lookup in
     let none = slice_get_past first place lookup.3 in
-    nothing_in r command.handles c.args.sent.now.entities.now (authorized_handles command.code) place is.found (ap (λ l. slice_get l place) (sym c.authorized.ensures) ∙ none)
+    nothing_in r command.handles c.args.sent.now.entities.now (authorized_handles command.code)
+    place is.found (ap (λ l. slice_get l place) (sym c.authorized.ensures) ∙ none)

@@ -6,6 +6,7 @@ use Rattle.tpm_completion.proofs.handles.objects.Given as goal
 
 abbrev pub invariant-loop-place : goal.invariant-loop-place
 invariant-loop-place g l = record {
-  are : l.elements.items ≡ flat_map (object_element (g.K.Keep.record_of l.keep)) (numbers_below l.place);
+  are : l.elements.items ≡ flat_map (object_element (g.K.Keep.record_of l.keep))
+      (numbers_below l.place);
   count : length l.elements.items ≤ l.place;
 }

@@ -6,6 +6,7 @@ use Rattle.tpm_completion.proofs.listing.tell_elements.Given as goal
 -- output.
 abbrev pub invariant-loop-element : goal.invariant-loop-element
 invariant-loop-element l = record {
-  told : l.text ++ text_of l.form l.from l.left (drop l.element-index l.elements) ≡ l.fn.text ++ text_of l.form l.from l.count l.elements;
+  told : l.text ++ text_of l.form l.from l.left (drop l.element-index l.elements)
+      ≡ l.fn.text ++ text_of l.form l.from l.count l.elements;
   room : length l.text + 8 * l.left ≤ 521;
 }

@@ -10,7 +10,8 @@ loop-count-preserved g c =
     let N = g.row.N in
     let cells = g.C.Items.items c.loop-count.cells in
     let below = c.requires.below in
-    let more : g.C.Items.items c.insert.new.self ≡ cells ++ None ∷ [] = c.in_ok-insert.ensures.inserted ∙ rw (← i.size) (insert_end cells None) in
+    let more : g.C.Items.items c.insert.new.self ≡ cells ++ None ∷ [] =
+    c.in_ok-insert.ensures.inserted ∙ rw (← i.size) (insert_end cells None) in
     let room : length cells < N = omega (arith, below, i.size, c.loop-count-test.true) in
     record {
       same = ap (padded_to N) more ∙ padded-grown N cells room ∙ i.same;

@@ -7,6 +7,7 @@ pub returns-clause-made : goal.returns-clause-made
 returns-clause-made c =
     let head = c.in_ok-head.head in
     let plain = c.as_slice.result.now in
-    let content : content_in c.args.hierarchies.now c.args.binding c.args.bytes.now ≡ Ok (head, plain) = search rules in
+    let content : content_in c.args.hierarchies.now c.args.binding c.args.bytes.now
+    ≡ Ok (head, plain) = search rules in
     found_if c.args.hierarchies.now c.args.binding c.args.bytes.now head plain c.object_in.result
     c.decrypt_content.ensures.bytes c.object_in.ensures.bytes content c.object_in.ensures.value

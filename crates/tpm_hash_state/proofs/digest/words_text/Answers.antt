@@ -11,7 +11,8 @@ on_ok (Err e) is fact = cc
 
 -- If the items are the bytes of the first i words, appending the bytes of word i makes them the
 -- bytes of the first i + 1 words.
-bytes_more : (words items bytes new : List ℕ) (i : ℕ) → items ≡ digest_bytes words i → length items ≡ 4 * i
+bytes_more : (words items bytes new : List ℕ) (i : ℕ) → items ≡ digest_bytes words i
+    → length items ≡ 4 * i
     → bytes ≡ to_be_bytes w32 (slice_index words i) → new ≡ items ++ bytes
     → (new ≡ digest_bytes words (i + 1)) × (length new ≡ 4 * (i + 1))
 unfolding digest_bytes
@@ -32,6 +33,8 @@ loop-word-preserved c =
     let word = slice_index c.args.words.now i in
     let size = c.loop-word.invariant.1 in
     let four : length c.to_be_bytes.result ≡ 4 = ap length c.to_be_bytes.ensures in
-    let room : length items + length c.to_be_bytes.result ≤ 32 = omega (arith, size, four, c.requires) in
-    bytes_more c.args.words.now items c.to_be_bytes.result _ i c.loop-word.invariant.0 size c.to_be_bytes.ensures
+    let room : length items + length c.to_be_bytes.result ≤ 32 =
+    omega (arith, size, four, c.requires) in
+    bytes_more c.args.words.now items c.to_be_bytes.result _ i c.loop-word.invariant.0 size
+    c.to_be_bytes.ensures
     (on_ok _ (c.try_extend_from_slice.ensures.variant.1 room) c.try_extend_from_slice.ensures.ok)

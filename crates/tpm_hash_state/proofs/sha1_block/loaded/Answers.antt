@@ -12,5 +12,6 @@ pub loop-t-preserved : goal.loop-t-preserved
 loop-t-preserved c =
     let sized = c.loop-t.invariant.0 in (
       search (rules, length-set),
-      first_words_more c.loop-t.words c.args.block.now c.loop-t.t _ (omega arith) c.loop-t.invariant.1 c.word_at.ensures,
+      first_words_more c.loop-t.words c.args.block.now c.loop-t.t _ (omega arith)
+          c.loop-t.invariant.1 c.word_at.ensures,
     )

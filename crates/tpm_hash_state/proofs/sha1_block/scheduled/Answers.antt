@@ -11,7 +11,8 @@ pub loop-t-preserved : goal.loop-t-preserved
 loop-t-preserved c =
     let sized = c.loop-t.invariant.0 in (
       search (rules, length-set),
-      schedule_more c.loop-t.words c.args.block.now c.loop-t.t _ (omega arith) (omega arith) c.loop-t.invariant.1 c.next_word.ensures,
+      schedule_more c.loop-t.words c.args.block.now c.loop-t.t _ (omega arith) (omega arith)
+          c.loop-t.invariant.1 c.next_word.ensures,
     )
 
 pub returns : goal.returns

@@ -11,5 +11,6 @@ pub loop-t-preserved : goal.loop-t-preserved
 loop-t-preserved c =
     let t = c.loop-t.t in
     c.round-next.ensures
-    ∙ ap (λ (v : List ℕ). round v (slice_index round_constants t) (slice_index c.args.schedule.now t)) c.loop-t.invariant
+    ∙ ap (λ (v : List ℕ). round v (slice_index round_constants t)
+    (slice_index c.args.schedule.now t)) c.loop-t.invariant
     ∙ sym (rounds_next c.args.hash c.args.schedule.now t)

@@ -15,7 +15,8 @@ returns c =
     (YieldsList-from_take_while _ begins_entry
     (YieldsList-from_take 3
     (YieldsList-from_skip (handle_count c.args.code + 1)
-    (YieldsList-from_slice_split _ (λ byte. byte == space) c.args.words.now (cc) (cc) (cc) (λ x b q k. search (rules, tests)))
+    (YieldsList-from_slice_split _ (λ byte. byte == space) c.args.words.now (cc) (cc) (cc)
+    (λ x b q k. search (rules, tests)))
     (cc))
     (cc))
     c.take_while.ensures.closure c.take_while.ensures.done (λ x b q k. search (rules, tests)))

@@ -5,7 +5,8 @@ use Rattle.tpm_help.proofs.wanted.first_token.Goals as goal
 
 pub returns-in-Some : goal.returns-in-Some
 returns-in-Some c =
-    let at : position (λ (byte : ℕ). byte == 32) c.args.words.now ≡ Some c.in-Some.place = search rules in
+    let at : position (λ (byte : ℕ). byte == 32) c.args.words.now ≡ Some c.in-Some.place =
+    search rules in
     sym (ap (λ tokens. get_or tokens 0 []) (cut_found 32 c.args.words.now c.in-Some.place at))
 
 pub returns-in-None : goal.returns-in-None

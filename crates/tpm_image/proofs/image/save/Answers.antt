@@ -9,5 +9,8 @@ use Rattle.tpm_image.proofs.image.save.Goals as goal
 -- of the rest.
 pub returns-clause-cut_off : goal.returns-clause-cut_off
 returns-clause-cut_off g c =
-    let same : c.as_slice.result.now ++ c.as_slice-2.result.now ≡ image_text Two (kept_of (g.K.Keep.record_of c.args.machine.now.keep)) = search rules in
-    subst (λ (l : List ℕ). OnErr c.send.result (AppendsFront (g.D.Write.contents (device_of c.args.tap.now)) (g.D.Write.contents (device_of c.send.new.tap)) l)) same c.send.ensures.cut_off
+    let same : c.as_slice.result.now ++ c.as_slice-2.result.now
+    ≡ image_text Two (kept_of (g.K.Keep.record_of c.args.machine.now.keep)) = search rules in
+    subst (λ (l : List ℕ). OnErr c.send.result
+    (AppendsFront (g.D.Write.contents (device_of c.args.tap.now))
+    (g.D.Write.contents (device_of c.send.new.tap)) l)) same c.send.ensures.cut_off

@@ -17,7 +17,16 @@ returns c =
       saved = c.in_ok-fixed-6.field-0;
     } in (
       state,
-      rw (c.in_ok-fixed.ensures, c.in_ok-fixed-2.ensures, c.in_ok-read_lockout.ensures, c.in_ok-fixed-3.ensures, c.in_ok-fixed-4.ensures, c.in_ok-fixed-5.ensures, c.in_ok-max_count.ensures, c.in_ok-fixed-6.ensures) refl,
+      rw (
+        c.in_ok-fixed.ensures,
+        c.in_ok-fixed-2.ensures,
+        c.in_ok-read_lockout.ensures,
+        c.in_ok-fixed-3.ensures,
+        c.in_ok-fixed-4.ensures,
+        c.in_ok-fixed-5.ensures,
+        c.in_ok-max_count.ensures,
+        c.in_ok-fixed-6.ensures,
+      ) refl,
       rw c.restore-fixed.ensures refl,
       refl,
     )

@@ -17,7 +17,9 @@ loop-preserved g c =
     let i = c.loop.invariant in
     let added = c.in_ok-lowest.ensures in
     record {
-      joined = entries_more object_in c.args.count c.loop.counter c.loop.lowest _ _ _ added.0 c.loop.text _ (omega (arith, c.loop-test.true)) added.1 added.2 added.3 added.4 ∙ i.joined;
+      joined = entries_more object_in c.args.count c.loop.counter c.loop.lowest _ _ _ added.0
+          c.loop.text _ (omega (arith, c.loop-test.true)) added.1 added.2 added.3 added.4
+          ∙ i.joined;
       below = rw added.4 (behind_below _ c.loop.lowest _ added.0 added.2 added.3 i.below);
       size = rw (added.4, length-append _ (added.0 ∷ [])) (omega (arith, i.size));
     }
@@ -25,7 +27,14 @@ loop-preserved g c =
 pub returns-in_err-lowest : goal.returns-in_err-lowest
 returns-in_err-lowest g c =
     let p = err_from_is_err_and c.from_residual.result c.from_residual.ensures.1 in
-    rw (p.1, p.2) (filled_cut object_in _ c.loop.lowest (g.P.PersistentObjects.entries c.loop.objects) _ (g.P.PersistentObjects.entries c.add_object.new.objects) c.loop.text _ _ _ _ (λ misfits. sym c.loop.invariant.joined ∙ entries_cut object_in c.args.count c.loop.counter c.loop.lowest _ c.loop.text (omega (arith, c.loop-test.true)) misfits) c.in_err-lowest.ensures)
+    rw (p.1, p.2)
+    (filled_cut object_in _ c.loop.lowest (g.P.PersistentObjects.entries c.loop.objects) _
+    (g.P.PersistentObjects.entries c.add_object.new.objects) c.loop.text _ _ _ _
+    (λ misfits. sym c.loop.invariant.joined
+    ∙ entries_cut object_in c.args.count c.loop.counter c.loop.lowest _ c.loop.text
+    (omega (arith, c.loop-test.true)) misfits) c.in_err-lowest.ensures)
 
 pub returns : goal.returns
-returns g c = sym c.loop.invariant.joined ∙ entries_done object_in c.args.count c.loop.counter c.loop.lowest _ c.loop.text (omega (arith, c.loop-test.false, c.loop.auto))
+returns g c = sym c.loop.invariant.joined
+    ∙ entries_done object_in c.args.count c.loop.counter c.loop.lowest _ c.loop.text
+    (omega (arith, c.loop-test.false, c.loop.auto))

@@ -10,7 +10,8 @@ returns-in-None g c =
     let starts = c.in-Ok.ensures in
     record {
       followed = c.follow-followed.result;
-      reads = read_so g.K.Keep.can_refuse c.args.text.now _ starts.0 _ _ starts.1 _ _ _ c.requires.never_refused starts.2
+      reads = read_so g.K.Keep.can_refuse c.args.text.now _ starts.0 _ _ starts.1 _ _ _
+          c.requires.never_refused starts.2
           c.split_at.ensures.back c.follow-followed.ensures;
       whole = c.in-None.is;
       size = ap (λ (n : ℕ). n + c.follow-followed.result.taken) starts.2;

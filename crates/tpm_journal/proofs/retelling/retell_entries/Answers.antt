@@ -24,11 +24,13 @@ loop-entry-smaller g c =
 
 pub loop-entry-preserved : goal.loop-entry-preserved
 loop-entry-preserved g c =
-    told_more _ _ _ _ _ _ _ _ _ _ _ _ _ _ _ c.split_at.ensures.back c.loop-entry.invariant c.in-Executed.ensures (search rules)
+    told_more _ _ _ _ _ _ _ _ _ _ _ _ _ _ _ c.split_at.ensures.back c.loop-entry.invariant
+    c.in-Executed.ensures (search rules)
 
 pub put_entry-requires-in-Otherwise-clause-told :
     goal.put_entry-requires-in-Otherwise-clause-told
-put_entry-requires-in-Otherwise-clause-told g c = can_be_told _ _ _ _ _ _ c.in-Otherwise.ensures.performed
+put_entry-requires-in-Otherwise-clause-told g c =
+    can_be_told _ _ _ _ _ _ c.in-Otherwise.ensures.performed
 
 pub put_entry-requires-in-Otherwise-clause-long :
     goal.put_entry-requires-in-Otherwise-clause-long
@@ -36,12 +38,15 @@ put_entry-requires-in-Otherwise-clause-long g c = long_enough _ _ _ _ _ _ _ _ c.
 
 pub returns-in-Otherwise-clause-told : goal.returns-in-Otherwise-clause-told
 returns-in-Otherwise-clause-told g c =
-    told_otherwise _ _ _ _ _ _ _ _ _ _ _ _ _ _ _ _ c.split_at.ensures.back c.ended.ensures c.loop-entry.invariant c.in-Otherwise.ensures (search rules)
+    told_otherwise _ _ _ _ _ _ _ _ _ _ _ _ _ _ _ _ c.split_at.ensures.back c.ended.ensures
+    c.loop-entry.invariant c.in-Otherwise.ensures (search rules)
 
 pub returns-in-Torn-clause-told : goal.returns-in-Torn-clause-told
 returns-in-Torn-clause-told g c =
-    told_torn _ _ _ _ _ _ _ _ _ _ _ _ _ _ c.split_at.ensures.back c.ended-in-Torn.ensures c.loop-entry.invariant c.in-Torn.ensures
+    told_torn _ _ _ _ _ _ _ _ _ _ _ _ _ _ c.split_at.ensures.back c.ended-in-Torn.ensures
+    c.loop-entry.invariant c.in-Torn.ensures
 
 pub returns-in-Damaged-clause-told : goal.returns-in-Damaged-clause-told
 returns-in-Damaged-clause-told g c =
-    told_damaged _ _ _ _ _ _ _ _ _ _ _ _ _ _ c.split_at.ensures.back c.ended-in-Damaged.ensures c.loop-entry.invariant c.in-Damaged.ensures
+    told_damaged _ _ _ _ _ _ _ _ _ _ _ _ _ _ c.split_at.ensures.back c.ended-in-Damaged.ensures
+    c.loop-entry.invariant c.in-Damaged.ensures

@@ -17,4 +17,5 @@ returns-clause-none c =
     none_so c.read_marked_line.result c.read_marked_line.ensures.none
     (λ none other many are there.
     none other (many ∙ sym c.told-mark) are
-    (ap (λ (n : ℕ). take n c.args.text.now) size ∙ there ∙ ap (λ (w : List ℕ). marked_line w other (sum_from offset_basis other)) (sym word)))
+    (ap (λ (n : ℕ). take n c.args.text.now) size ∙ there
+    ∙ ap (λ (w : List ℕ). marked_line w other (sum_from offset_basis other)) (sym word)))

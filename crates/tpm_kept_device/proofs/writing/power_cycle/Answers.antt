@@ -9,4 +9,5 @@ returns-clause-text c = search rules
 pub returns-clause-read : goal.returns-clause-read
 returns-clause-read c =
     subst (λ (text : List ℕ). command_of text ≡ Ok (Cycles c.args.now_ms c.args.start))
-    (sym (returns-clause-text c)) (cycle_read c.args.now_ms c.args.start c.ranges.now_ms.fits c.ranges.start.fits)
+    (sym (returns-clause-text c))
+    (cycle_read c.args.now_ms c.args.start c.ranges.now_ms.fits c.ranges.start.fits)

@@ -6,4 +6,5 @@ use Rattle.tpm_mac.proofs.derivation.kdfa.Given as goal
 -- fit.
 abbrev pub invariant-loop-index : goal.invariant-loop-index
 invariant-loop-index l = take (l.index * l.size) l.out
-    ≡ take (length l.out) (blocks_to l.fn.alg l.fn.key l.label l.context_u l.context_v (length l.out) l.index)
+    ≡ take (length l.out)
+    (blocks_to l.fn.alg l.fn.key l.label l.context_u l.context_v (length l.out) l.index)

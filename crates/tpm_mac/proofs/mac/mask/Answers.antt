@@ -4,4 +4,5 @@ use Rattle.tpm_mac.proofs.mac.mask.Goals as goal
 
 pub loop-byte-preserved : goal.loop-byte-preserved
 loop-byte-preserved c =
-    masked_more c.args.key.now _ c.args.pad c.loop-byte.byte-index (omega arith) c.loop-byte.invariant
+    masked_more c.args.key.now _ c.args.pad c.loop-byte.byte-index (omega arith)
+    c.loop-byte.invariant

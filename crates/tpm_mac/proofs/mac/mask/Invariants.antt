@@ -4,4 +4,5 @@ use Rattle.tpm_mac.specs.Hmac.{masked_key}
 
 -- The bytes before this index are masked, and the remaining bytes of the key are unchanged.
 abbrev pub invariant-loop-byte : goal.invariant-loop-byte
-invariant-loop-byte l = l.byte-items ≡ masked_key l.pad (take l.byte-index l.key) ++ drop l.byte-index l.key
+invariant-loop-byte l = l.byte-items ≡ masked_key l.pad (take l.byte-index l.key)
+    ++ drop l.byte-index l.key

@@ -11,7 +11,8 @@ abbrev pub invariant-loop-rule : goal.invariant-loop-rule
 invariant-loop-rule g l =
     let at = present_handle_at (g.K.Keep.record_of l.keep) in
     record {
-      joined : behind l.handles.items (each_at at l.number (drop l.rule-index l.rules) l.ahead) ≡ each_at at 1 l.rules l.text;
+      joined : behind l.handles.items (each_at at l.number (drop l.rule-index l.rules) l.ahead)
+          ≡ each_at at 1 l.rules l.text;
       place : l.number ≡ l.rule-index + 1;
       size : length l.handles.items ≡ l.rule-index;
       few : length l.rules ≤ 3;

@@ -9,7 +9,9 @@ abbrev pub invariant-loop-entry : goal.invariant-loop-entry
 invariant-loop-entry g l =
     let record_of = g.K.Keep.record_of in
     record {
-      rolled : entries_rolled (record_of l.keep) (map entry_of (drop l.entry-index l.entries)) l.draws ≡ entries_rolled (record_of l.initial.keep) (map entry_of l.entries) l.initial.draws;
+      rolled : entries_rolled (record_of l.keep) (map entry_of (drop l.entry-index l.entries))
+          l.draws ≡ entries_rolled (record_of l.initial.keep) (map entry_of l.entries)
+          l.initial.draws;
       random : length l.initial.draws ≤ length l.draws + 32 * l.entry-index;
       left : length l.draws ≤ length l.initial.draws;
     }

@@ -7,4 +7,5 @@ pub roll-requires : goal.roll-requires
 roll-requires g c =
     let few = subst (λ (n : ℕ). n ≤ 32) c.draw_of.ensures.value c.draw_of.ensures.small in
     rw (c.sessions_mut.ensures.value, c.nonce-nonce.ensures.nonce, c.draw_of.ensures.value)
-    (nonce_fits (g.K.Keep.record_of c.args.keep.now) (entry_of c.args.entry.now) c.args.draws.now c.requires few)
+    (nonce_fits (g.K.Keep.record_of c.args.keep.now) (entry_of c.args.entry.now) c.args.draws.now
+    c.requires few)

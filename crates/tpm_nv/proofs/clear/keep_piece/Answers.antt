@@ -9,5 +9,7 @@ returns-clause-left g c =
     let area = g.R.Area.bytes c.args.area.now in
     let start = c.args.start in
     let size = size_of c.args.head.now in
-    ap (λ (l : List ℕ). drop (start + size) l) (c.move_down.ensures ∙ ap (λ (n : ℕ). moved_down start n c.args.kept area) c.from-size.ensures)
+    ap (λ (l : List ℕ). drop (start + size) l)
+    (c.move_down.ensures ∙ ap (λ (n : ℕ). moved_down start n c.args.kept area)
+    c.from-size.ensures)
     ∙ moved_behind start size c.args.kept area c.requires.inside c.requires.lower

@@ -13,6 +13,7 @@ returns-else-key-other-2-clause-absent c =
     let item = c.loop-other-item in
     let left = c.loop-other.invariant in
     sym left.1
-    ∙ none_from c.args.heads.now c.loop-other.other-index c.args.key item.result c.loop-other-test.true left.2
+    ∙ none_from c.args.heads.now c.loop-other.other-index c.args.key item.result
+    c.loop-other-test.true left.2
     (subst (λ (e : ℕ × Head). c.args.key ≤ e.0) item.is c.if-key-other.true)
     (subst (λ (e : ℕ × Head). c.args.key ≢ e.0) item.is c.if-key-other-2.false)

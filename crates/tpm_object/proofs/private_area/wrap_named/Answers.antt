@@ -14,5 +14,6 @@ pub returns-clause-other_type : goal.returns-clause-other_type
 unfolding private_text
 returns-clause-other_type c = λ public named other.
     let iv : List ℕ = c.args.iv.now in
-    wrapped_refused c.args.parent.now public c.args.name.now iv _ c.args.sensitive.now (search rules)
+    wrapped_refused c.args.parent.now public c.args.name.now iv _ c.args.sensitive.now
+    (search rules)
     (search rules) c.protected_text-protected.ensures.fits named other

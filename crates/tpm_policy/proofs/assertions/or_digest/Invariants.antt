@@ -11,7 +11,8 @@ use Rattle.tpm_policy.proofs.assertions.or_digest.Given as goal
 -- already visited.
 abbrev pub invariant-loop-digest : goal.invariant-loop-digest
 invariant-loop-digest l = record {
-  so_far : joined_text l.parts.items ≡ replicate (digest_size l.hash) 0 ++ to_be_bytes w32 (code_number served.PolicyOr)
+  so_far : joined_text l.parts.items ≡ replicate (digest_size l.hash) 0
+      ++ to_be_bytes w32 (code_number served.PolicyOr)
       ++ flat_map (λ digest. digest) (digests_of (take l.digest-index l.digest-items));
   size : length l.parts.items ≡ l.digest-index + 2;
 }

@@ -6,7 +6,8 @@ use Rattle.tpm_policy.proofs.comparison.is_signed_less.Goals as goal
 pub returns-then-byte-other : goal.returns-then-byte-other
 returns-then-byte-other c = λ same.
     rw (
-      signed_less _ _ c.in-len1-up.len_at_least same (λ i. (c.type_inv.bytes i).fits) (λ i. (c.type_inv.others i).fits),
+      signed_less _ _ c.in-len1-up.len_at_least same (λ i. (c.type_inv.bytes i).fits)
+          (λ i. (c.type_inv.others i).fits),
       sym c.raised_byte-byte.ensures,
       sym c.raised_byte-other.ensures,
       lt-ltb _ _ c.if-byte-other.true,
@@ -15,7 +16,8 @@ returns-then-byte-other c = λ same.
 pub returns-then-byte-other-2 : goal.returns-then-byte-other-2
 returns-then-byte-other-2 c = λ same.
     rw (
-      signed_less _ _ c.in-len1-up.len_at_least same (λ i. (c.type_inv.bytes i).fits) (λ i. (c.type_inv.others i).fits),
+      signed_less _ _ c.in-len1-up.len_at_least same (λ i. (c.type_inv.bytes i).fits)
+          (λ i. (c.type_inv.others i).fits),
       sym c.raised_byte-byte.ensures,
       sym c.raised_byte-other.ensures,
       le-ltb _ _ c.if-byte-other.false,
@@ -26,7 +28,8 @@ returns-then-byte-other-2 c = λ same.
 pub returns-else-byte-other-2 : goal.returns-else-byte-other-2
 returns-else-byte-other-2 c = λ same.
     rw (
-      signed_less _ _ c.in-len1-up.len_at_least same (λ i. (c.type_inv.bytes i).fits) (λ i. (c.type_inv.others i).fits),
+      signed_less _ _ c.in-len1-up.len_at_least same (λ i. (c.type_inv.bytes i).fits)
+          (λ i. (c.type_inv.others i).fits),
       sym c.raised_byte-byte.ensures,
       sym c.raised_byte-other.ensures,
       le-ltb _ _ c.if-byte-other.false,

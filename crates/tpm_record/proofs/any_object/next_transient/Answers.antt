@@ -11,4 +11,6 @@ returns-then-is_there g c =
     let test : ℕ → Bool = is_from (g.K.Keep.record_of c.args.keep.now).objects c.args.from.number in
     let passes : test c.loop-place.place ≡ true = search (rules, of_calls) in
     ap (λ (n : ℕ). Some n) c.number_of.ensures
-    ∙ sym (ap (option_map (number_of 0x80)) (found_least test c.loop-place.place object_limit c.loop-place.invariant passes (omega arith)))
+    ∙ sym (ap (option_map (number_of 0x80))
+    (found_least test c.loop-place.place object_limit c.loop-place.invariant passes
+    (omega arith)))

@@ -14,10 +14,12 @@ loop-place-preserved g c =
     record {
       cleared =
           c.clear_place.ensures.cleared
-          ∙ ap (λ (l : List (Option Object)). cond (is_place_cleared (at_place l i)) (slice_set l i None) l) c.loop-place.invariant.cleared
+          ∙ ap (λ (l : List (Option Object)). cond (is_place_cleared (at_place l i))
+          (slice_set l i None) l) c.loop-place.invariant.cleared
           ∙ cleared_in_turn old i
           ∙ ap (λ (n : ℕ). cleared_up_to n old) next;
       all = λ _.
-          sym (ap (λ (l : List (Option Object)). length l) c.loop-place.invariant.cleared ∙ cleared_length i old)
+          sym (ap (λ (l : List (Option Object)). length l) c.loop-place.invariant.cleared
+          ∙ cleared_length i old)
           ∙ c.clear_place.ensures.all;
     }

@@ -15,6 +15,7 @@ loop-place-preserved g c =
     let i = c.loop-place.invariant in
     let words = c.loop-place.words in
     record {
-      joined = left_more (number_in w32) g.row.N c.loop-place.place words _ c.loop-place.ahead _ c.loop-place-test.true i.size c.in_ok-words.ensures ∙ i.joined;
+      joined = left_more (number_in w32) g.row.N c.loop-place.place words _ c.loop-place.ahead _
+          c.loop-place-test.true i.size c.in_ok-words.ensures ∙ i.joined;
       size = length-set words c.loop-place.place c.in_ok-words.field-0 ∙ i.size;
     }

@@ -8,4 +8,5 @@ returns-clause-history g c = λ state history is follows same.
     let old = g.K.Keep.record_of c.args.machine.now.keep in
     let device = g.K.Keep.record_of c.replace.new.machine.keep in
     has_follows can device state history c.replace.result
-    (into_again can old device state c.args.text.now c.replace.result c.replace.ensures is same) follows
+    (into_again can old device state c.args.text.now c.replace.result c.replace.ensures is same)
+    follows

@@ -8,6 +8,7 @@ loop-place-preserved c =
     let i = c.loop-place.invariant in
     let objects = c.loop-place.objects in
     record {
-      joined = left_more held_in 8 c.loop-place.place objects _ c.loop-place.ahead _ c.loop-place-test.true i.size c.in_ok-objects.ensures ∙ i.joined;
+      joined = left_more held_in 8 c.loop-place.place objects _ c.loop-place.ahead _
+          c.loop-place-test.true i.size c.in_ok-objects.ensures ∙ i.joined;
       size = length_set objects c.loop-place.place c.in_ok-objects.field-0 ∙ i.size;
     }

@@ -8,4 +8,6 @@ use Rattle.tpm_state_text.proofs.earlier.remove_waiting.Given as goal
 -- The flushed objects that stayed in earlier slots have been removed.
 abbrev pub invariant-loop-place : goal.invariant-loop-place
 invariant-loop-place g l =
-    objects_of g.O.Slots.places l.objects ≡ fold (without_one l.held) (objects_of g.O.Slots.places l.fn.objects) (numbers_below l.place)
+    objects_of g.O.Slots.places l.objects
+    ≡ fold (without_one l.held) (objects_of g.O.Slots.places l.fn.objects)
+    (numbers_below l.place)

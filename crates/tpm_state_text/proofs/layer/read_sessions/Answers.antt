@@ -9,6 +9,7 @@ loop-place-preserved c =
     let i = c.loop-place.invariant in
     let sessions = c.loop-place.sessions in
     record {
-      joined = left_more (number_in w64) 16 c.loop-place.place sessions _ c.loop-place.ahead _ c.loop-place-test.true i.size c.in_ok-sessions.ensures ∙ i.joined;
+      joined = left_more (number_in w64) 16 c.loop-place.place sessions _ c.loop-place.ahead _
+          c.loop-place-test.true i.size c.in_ok-sessions.ensures ∙ i.joined;
       size = length_set sessions c.loop-place.place c.in_ok-sessions.field-0 ∙ i.size;
     }

@@ -8,6 +8,7 @@ use Rattle.tpm_state_text.proofs.layer.read_sessions.Given as goal
 -- The sessions read so far, followed by the unread sessions, are the whole list.
 abbrev pub invariant-loop-place : goal.invariant-loop-place
 invariant-loop-place l = record {
-  joined : left (number_in w64) 16 l.place l.sessions l.ahead ≡ many_at (number_in w64) 16 l.fn.text;
+  joined : left (number_in w64) 16 l.place l.sessions l.ahead
+      ≡ many_at (number_in w64) 16 l.fn.text;
   size : length l.sessions ≡ 16;
 }

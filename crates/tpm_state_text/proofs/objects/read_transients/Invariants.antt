@@ -10,7 +10,8 @@ use Rattle.tpm_state_text.proofs.objects.read_transients.Given as goal
 -- still free.
 abbrev pub invariant-loop-place : goal.invariant-loop-place
 invariant-loop-place g l = record {
-  joined : left (optional_in object_fields_in) 8 l.place (objects_of g.O.Slots.places l.objects) l.text ≡ transients_in l.fn.text;
+  joined : left (optional_in object_fields_in) 8 l.place (objects_of g.O.Slots.places l.objects)
+      l.text ≡ transients_in l.fn.text;
   size : length (objects_of g.O.Slots.places l.objects) ≡ 8;
   free : IsFreeFrom l.place (objects_of g.O.Slots.places l.objects);
 }

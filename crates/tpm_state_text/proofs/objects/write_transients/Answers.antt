@@ -11,6 +11,9 @@ loop-place-preserved g c =
     let text = c.loop-place.text in
     let one = c.write_optional_object.ensures in
     record {
-      written = placed_more (optional_text object_fields_text) text c.write_optional_object.new.text _ all c.loop-place.place (omega (arith, c.read_sizes.ensures.all, c.loop-place-test.true)) (one.written ∙ ap (λ (v : _). text ++ optional_text object_fields_text v) c.in_place.ensures) c.loop-place.invariant.written;
+      written = placed_more (optional_text object_fields_text) text c.write_optional_object.new.text
+          _ all c.loop-place.place (omega (arith, c.read_sizes.ensures.all, c.loop-place-test.true))
+          (one.written ∙ ap (λ (v : _). text ++ optional_text object_fields_text v)
+          c.in_place.ensures) c.loop-place.invariant.written;
       size = omega (arith, one.small, c.loop-place.invariant.size);
     }

@@ -7,6 +7,8 @@ use Rattle.tpm_state_text.proofs.objects.write_transients.Given as goal
 -- The slots written so far, followed by the unwritten slots, are the whole list.
 abbrev pub invariant-loop-place : goal.invariant-loop-place
 invariant-loop-place g l = record {
-  written : l.text ++ places_text object_fields_text (drop l.place (objects_of g.O.Slots.places l.objects)) ≡ l.fn.text ++ places_text object_fields_text (objects_of g.O.Slots.places l.objects);
+  written : l.text ++ places_text object_fields_text
+      (drop l.place (objects_of g.O.Slots.places l.objects))
+      ≡ l.fn.text ++ places_text object_fields_text (objects_of g.O.Slots.places l.objects);
   size : length l.text ≤ length l.fn.text + 327 * l.place;
 }

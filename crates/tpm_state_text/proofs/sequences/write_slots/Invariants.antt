@@ -7,6 +7,7 @@ use Rattle.tpm_state_text.proofs.sequences.write_slots.Given as goal
 -- The slots written so far, followed by the unwritten slots, are the whole list.
 abbrev pub invariant-loop-slot : goal.invariant-loop-slot
 invariant-loop-slot l = record {
-  written : l.text ++ flat_map slot_text (drop l.slot-index l.slots) ≡ l.fn.text ++ flat_map slot_text l.slots;
+  written : l.text ++ flat_map slot_text (drop l.slot-index l.slots)
+      ≡ l.fn.text ++ flat_map slot_text l.slots;
   size : length l.text ≤ length l.fn.text + l.slot-index * slot_size;
 }

@@ -22,7 +22,9 @@ loop-place-preserved g c =
     let before = places_of g.S.Slots.places c.loop-place.sessions in
     let after = filled.2 ∙ value_set before place filled.0 (this_free place before i.free) in
     record {
-      joined = rw after (left_more (optional_in session_in) 16 place before filled.0 c.loop-place.text _ c.loop-place-test.true i.size filled.1 ∙ i.joined);
+      joined =
+          rw after (left_more (optional_in session_in) 16 place before filled.0 c.loop-place.text _
+          c.loop-place-test.true i.size filled.1 ∙ i.joined);
       size = rw after (length_set before place filled.0 ∙ i.size);
       free = rw after (free_more place before filled.0 i.free);
     }
@@ -32,9 +34,14 @@ returns-in_err-read_place g c =
     let p = err_from_is_err_and c.from_residual.result c.from_residual.ensures.1 in
     let before = places_of g.S.Slots.places c.loop-place.sessions in
     let place = c.loop-place.place in
-    rw (p.1, p.2) (place_cut _ _ before _ (places_of g.S.Slots.places c.read_place.new.sessions) place _ _ _ _ (λ is. sym c.loop-place.invariant.joined ∙ left_cut (optional_in session_in) 16 place before _ c.loop-place.text c.loop-place-test.true is) c.in_err-read_place.ensures)
+    rw (p.1, p.2) (place_cut _ _ before _ (places_of g.S.Slots.places c.read_place.new.sessions)
+    place _ _ _ _ (λ is. sym c.loop-place.invariant.joined
+    ∙ left_cut (optional_in session_in) 16 place before _ c.loop-place.text
+    c.loop-place-test.true is) c.in_err-read_place.ensures)
 
 pub returns : goal.returns
 returns g c =
     let all = places_of g.S.Slots.places c.loop-place.sessions in
-    sym c.loop-place.invariant.joined ∙ left_done (optional_in session_in) 16 c.loop-place.place all c.loop-place.text (omega (arith, c.loop-place-test.false, c.loop-place.auto)) c.loop-place.invariant.size
+    sym c.loop-place.invariant.joined ∙ left_done (optional_in session_in) 16 c.loop-place.place all
+    c.loop-place.text (omega (arith, c.loop-place-test.false, c.loop-place.auto))
+    c.loop-place.invariant.size

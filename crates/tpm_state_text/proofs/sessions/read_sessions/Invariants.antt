@@ -9,7 +9,8 @@ use Rattle.tpm_state_text.proofs.sessions.read_sessions.Given as goal
 -- still free.
 abbrev pub invariant-loop-place : goal.invariant-loop-place
 invariant-loop-place g l = record {
-  joined : left (optional_in session_in) 16 l.place (places_of g.S.Slots.places l.sessions) l.text ≡ sessions_in l.fn.text;
+  joined : left (optional_in session_in) 16 l.place (places_of g.S.Slots.places l.sessions) l.text
+      ≡ sessions_in l.fn.text;
   size : length (places_of g.S.Slots.places l.sessions) ≡ 16;
   free : IsFreeFrom l.place (places_of g.S.Slots.places l.sessions);
 }

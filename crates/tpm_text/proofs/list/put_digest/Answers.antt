@@ -9,4 +9,11 @@ use Rattle.tpm_text.proofs.list.put_digest.Goals as goal
 
 pub returns : goal.returns
 unfolding digest_word_text
-returns c = rw (c.in_ok-hash.ensures, eq-eqb (length c.in_ok-hash.digits.now) (2 * digest_size c.in_ok-hash.hash) (search rules)) (drafted_behind (to_be_bytes w16 (hash_number c.in_ok-hash.hash)) _ _ _ _ _ (search rules) c.put_hex.ensures)
+returns c =
+    rw (
+      c.in_ok-hash.ensures,
+      eq-eqb (length c.in_ok-hash.digits.now)
+          (2 * digest_size c.in_ok-hash.hash) (search rules),
+    )
+    (drafted_behind (to_be_bytes w16 (hash_number c.in_ok-hash.hash)) _ _ _ _ _ (search rules)
+    c.put_hex.ensures)

@@ -7,4 +7,5 @@ use Rattle.tpm_text.proofs.list.put_list.Goals as goal
 
 pub returns : goal.returns
 unfolding list_text
-returns c = drafted_behind (to_be_bytes w32 (length (pieces_of plus c.args.token.now))) _ _ _ _ _ (search rules) c.put_elements.ensures
+returns c = drafted_behind (to_be_bytes w32 (length (pieces_of plus c.args.token.now))) _ _ _ _ _
+    (search rules) c.put_elements.ensures

@@ -6,4 +6,5 @@ use Rattle.tpm_types.proofs.pcr_selection.append_selection.Goals as goal
 pub returns-clause-written : goal.returns-clause-written
 returns-clause-written g c =
     let banks = c.args.banks.now in
-    c.append_banks.ensures.written ∙ ap (λ (l : List ℕ). l ++ banks_text banks) c.append_u32.ensures ∙ selection_written banks c.args.sink.now
+    c.append_banks.ensures.written ∙ ap (λ (l : List ℕ). l ++ banks_text banks) c.append_u32.ensures
+    ∙ selection_written banks c.args.sink.now

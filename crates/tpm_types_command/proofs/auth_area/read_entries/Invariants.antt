@@ -8,6 +8,7 @@ use Rattle.tpm_types_command.proofs.auth_area.read_entries.Given as goal
 -- area.
 abbrev pub invariant-loop : goal.invariant-loop
 invariant-loop l = record {
-  joined : behind (map entry_of l.entries.items) (entries_in (3 - l.counter) l.left) ≡ entries_in 3 l.bytes;
+  joined : behind (map entry_of l.entries.items) (entries_in (3 - l.counter) l.left)
+      ≡ entries_in 3 l.bytes;
   few : length l.entries.items ≤ l.counter;
 }

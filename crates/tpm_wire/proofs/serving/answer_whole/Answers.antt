@@ -17,8 +17,18 @@ loop-front-init g c = record {
 
 pub returns-in-Err-clause-ran : goal.returns-in-Err-clause-ran
 returns-in-Err-clause-ran g c =
-    let i = c.loop-front.invariant.ran in
-    (i.0, i.1, i.3, ((_, c.in-Some.ensures.1), (c.loop-front.host, i.2, c.in-Err.field-0, c.in-Err.ensures), i.5, i.6), i.7)
+    let i = c.loop-front.invariant.ran in (
+      i.0,
+      i.1,
+      i.3,
+      (
+        (_, c.in-Some.ensures.1),
+        (c.loop-front.host, i.2, c.in-Err.field-0, c.in-Err.ensures),
+        i.5,
+        i.6,
+      ),
+      i.7,
+    )
 
 pub returns-in-Err-answer_front-clause-ran : goal.returns-in-Err-answer_front-clause-ran
 returns-in-Err-answer_front-clause-ran g c =
@@ -32,25 +42,34 @@ returns-in-Err-answer_front-clause-ran g c =
     let r = state c.loop-front.machine in
     let new = state c.answer_front.new.machine in
     let outcome = c.answer_front.new.outcome in
-    let asks = asks_one g.H.FnMut c.args.host.now c.loop-front.host c.host.new.self i.0 r new x.buffer c.in-Ok.said outcome i.2 c.in-Ok.ensures in
+    let asks = asks_one g.H.FnMut c.args.host.now c.loop-front.host c.host.new.self i.0 r new
+    x.buffer c.in-Ok.said outcome i.2 c.in-Ok.ensures in
     let held = contents (device_of c.loop-front.writer) in
     let holds = contents (device_of c.answer_front.new.writer) in
     let delivers = c.in-Err-answer_front.ensures.delivers in
-    let ends = unanswered g.H.FnMut notes failed (contents (device_of c.args.writer.now)) held holds (marks_of c.args.writer.now) (marks_of c.loop-front.writer) (marks_of c.answer_front.new.writer) c.args.host.now c.host.new.self c.args.witness.now c.loop-front.witness c.answer_front.new.witness i.0 r new x.buffer c.in-Ok.said outcome c.answer_front.new.connection c.in-Err-answer_front.unsent asks i.5 i.7 delivers in (
+    let ends = unanswered g.H.FnMut notes failed (contents (device_of c.args.writer.now)) held holds
+    (marks_of c.args.writer.now) (marks_of c.loop-front.writer)
+    (marks_of c.answer_front.new.writer) c.args.host.now c.host.new.self c.args.witness.now
+    c.loop-front.witness c.answer_front.new.witness i.0 r new x.buffer c.in-Ok.said outcome
+    c.answer_front.new.connection c.in-Err-answer_front.unsent asks i.5 i.7 delivers in (
       i.0 ++ execution_of r x.buffer c.in-Ok.said new outcome ∷ [],
-      leads_one g.K.Keep.can_refuse (state c.args.machine.now) r new i.0 x.buffer c.in-Ok.said outcome i.1 c.answer_front.ensures.executes,
-      cuts_more c.args.connection.now s c.answer_front.new.connection i.0 r new x c.in-Ok.said outcome i.3 c.in-Some.ensures.1 c.answer_front.ensures.after,
+      leads_one g.K.Keep.can_refuse (state c.args.machine.now) r new i.0 x.buffer c.in-Ok.said
+          outcome i.1 c.answer_front.ensures.executes,
+      cuts_more c.args.connection.now s c.answer_front.new.connection i.0 r new x c.in-Ok.said
+          outcome i.3 c.in-Some.ensures.1 c.answer_front.ensures.after,
       ends.0,
       ends.1,
     )
 
 pub overflow_add-answered : goal.overflow_add-answered
-overflow_add-answered g c = let i = c.loop-front.invariant.count in let small = c.requires.small in omega arith
+overflow_add-answered g c = let i = c.loop-front.invariant.count in let small =
+    c.requires.small in omega arith
 
 pub loop-front-smaller : goal.loop-front-smaller
 loop-front-smaller g c =
     let front = c.in-Some.front in
-    let less = next_shorter c.loop-front.connection (cut_at front.size front.last c.loop-front.connection.taken) c.in-Some.ensures.1 in
+    let less = next_shorter c.loop-front.connection
+    (cut_at front.size front.last c.loop-front.connection.taken) c.in-Some.ensures.1 in
     rw c.answer_front.ensures.after less
 
 pub loop-front-preserved : goal.loop-front-preserved
@@ -72,13 +91,20 @@ loop-front-preserved g c =
       count = rw c.answer_front.ensures.after (omega arith);
       ran = (
         i.0 ++ one ∷ [],
-        leads_one g.K.Keep.can_refuse (state c.args.machine.now) r new i.0 x.buffer c.in-Ok.said outcome i.1 c.answer_front.ensures.executes,
-        asks_one g.H.FnMut c.args.host.now c.loop-front.host c.host.new.self i.0 r new x.buffer c.in-Ok.said outcome i.2 c.in-Ok.ensures,
-        cuts_more c.args.connection.now s c.answer_front.new.connection i.0 r new x c.in-Ok.said outcome i.3 c.in-Some.ensures.1 c.answer_front.ensures.after,
+        leads_one g.K.Keep.can_refuse (state c.args.machine.now) r new i.0 x.buffer c.in-Ok.said
+            outcome i.1 c.answer_front.ensures.executes,
+        asks_one g.H.FnMut c.args.host.now c.loop-front.host c.host.new.self i.0 r new x.buffer
+            c.in-Ok.said outcome i.2 c.in-Ok.ensures,
+        cuts_more c.args.connection.now s c.answer_front.new.connection i.0 r new x c.in-Ok.said
+            outcome i.3 c.in-Some.ensures.1 c.answer_front.ensures.after,
         omega (arith, i.4, length-append i.0 (one ∷ [])),
-        written_one (contents (device_of c.args.writer.now)) (contents (device_of c.loop-front.writer)) (contents (device_of c.answer_front.new.writer)) i.0 r new x.buffer c.in-Ok.said outcome i.5 delivers.1,
+        written_one (contents (device_of c.args.writer.now))
+            (contents (device_of c.loop-front.writer))
+            (contents (device_of c.answer_front.new.writer)) i.0 r new x.buffer c.in-Ok.said outcome
+            i.5 delivers.1,
         delivers.2 ∙ i.6,
-        notes_one g.S.Witness.notes c.args.witness.now c.loop-front.witness c.answer_front.new.witness i.0 one i.7 delivers.0,
+        notes_one g.S.Witness.notes c.args.witness.now c.loop-front.witness
+            c.answer_front.new.witness i.0 one i.7 delivers.0,
       );
     }
 

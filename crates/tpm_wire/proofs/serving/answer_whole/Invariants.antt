@@ -15,11 +15,13 @@ invariant-loop-front g l =
       callable : always_mut g.H.FnMut l.host;
       count : l.answered + length l.connection.taken ≤ length l.fn.connection.taken;
       ran : (executions : List Execution)
-          × Leads g.K.Keep.can_refuse (state_of record_of l.fn.machine) executions (state_of record_of l.machine)
+          × Leads g.K.Keep.can_refuse (state_of record_of l.fn.machine) executions
+          (state_of record_of l.machine)
           × AsksForEach g.H.FnMut l.fn.host executions l.host
           × CutsTo l.fn.connection (buffers_of executions) l.connection
           × (l.answered ≡ length executions)
-          × Appends (g.W.Write.contents (device_of l.fn.writer)) (g.W.Write.contents (device_of l.writer)) (responses_of executions)
+          × Appends (g.W.Write.contents (device_of l.fn.writer))
+          (g.W.Write.contents (device_of l.writer)) (responses_of executions)
           × (marks_of l.writer ≡ marks_of l.fn.writer)
           × NotesEach g.S.Witness.notes l.fn.witness executions l.witness;
     }

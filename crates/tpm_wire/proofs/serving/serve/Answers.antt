@@ -12,6 +12,7 @@ returns-clause-served g c some = (c.serve_saving.ensures.served some).0
 
 pub returns-clause-unsaved : goal.returns-clause-unsaved
 returns-clause-unsaved g c =
-    unsaved_where (lowest_free (wire_of g.K.Keep.record_of c.args.mux.now).streams) c.serve_saving.result
+    unsaved_where (lowest_free (wire_of g.K.Keep.record_of c.args.mux.now).streams)
+    c.serve_saving.result
     (λ none. (c.serve_saving.ensures.full none).0)
     (λ some. let served = c.serve_saving.ensures.served some in never_unsaved _ _ _ _ _ served.1)

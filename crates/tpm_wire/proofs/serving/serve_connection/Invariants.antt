@@ -20,12 +20,16 @@ invariant-loop g l =
       reads : (marks_of l.reader).reads ≡ l.counter;
       count : l.answered + length l.connection.taken ≤ buffer_limit * l.counter;
       ran : (pieces : List (List ℕ)) × (read : List ℕ) × (executions : List Execution)
-          × FoldsTo (ReadsPiece (buffers_of executions)) [] pieces read × (length pieces ≡ l.counter)
-          × Consumes (g.R.Read.remaining (device_of l.fn.reader)) (g.R.Read.remaining (device_of l.reader)) read
-          × Leads g.K.Keep.can_refuse (state_of record_of l.fn.machine) executions (state_of record_of l.machine)
+          × FoldsTo (ReadsPiece (buffers_of executions)) [] pieces read
+          × (length pieces ≡ l.counter)
+          × Consumes (g.R.Read.remaining (device_of l.fn.reader))
+          (g.R.Read.remaining (device_of l.reader)) read
+          × Leads g.K.Keep.can_refuse (state_of record_of l.fn.machine) executions
+          (state_of record_of l.machine)
           × AsksForEach g.H.FnMut l.fn.host executions l.host
           × (cut_of read ≡ cut_with (buffers_of executions) l.connection)
           × (l.answered ≡ length executions)
-          × Appends (g.W.Write.contents (device_of l.fn.writer)) (g.W.Write.contents (device_of l.writer)) (responses_of executions)
+          × Appends (g.W.Write.contents (device_of l.fn.writer))
+          (g.W.Write.contents (device_of l.writer)) (responses_of executions)
           × NotesEach g.S.Witness.notes l.fn.witness executions l.witness;
     }

@@ -10,14 +10,18 @@ use Rattle.tpmsim_library.proofs.asking.tpmsim_keeper_execute.Goals as goal
 pub returns-in-Ok-clause-begins : goal.returns-in-Ok-clause-begins
 returns-in-Ok-clause-begins c =
     let before = c.deref_mut.result.now in
-    let was : c.args.holder.now.keeper ≡ Some before = c.in-Some-take.ensures.taken ∙ ap Some (sym c.deref_mut.ensures.value) in
+    let was : c.args.holder.now.keeper ≡ Some before =
+    c.in-Some-take.ensures.taken ∙ ap Some (sym c.deref_mut.ensures.value) in
     let begun = subst
-    (λ l. Begins before.cuts Execute (text_at c.args.now_ms l (not (c.args.completes == 0)) c.args.random.now c.args.buffer.now) before c.execute-begun.new.self)
+    (λ l. Begins before.cuts Execute
+    (text_at c.args.now_ms l (not (c.args.completes == 0)) c.args.random.now
+    c.args.buffer.now) before c.execute-begun.new.self)
     c.in-Some.ensures.1 c.in-Ok.ensures.ok in
     λ done. (before, c.execute-begun.new.self, was, c.put.ensures, begun)
 
 pub returns-in-Err-clause-memory : goal.returns-in-Err-clause-memory
 returns-in-Err-clause-memory c =
     let before = c.deref_mut.result.now in
-    let was : c.args.holder.now.keeper ≡ Some before = c.in-Some-take.ensures.taken ∙ ap Some (sym c.deref_mut.ensures.value) in
+    let was : c.args.holder.now.keeper ≡ Some before =
+    c.in-Some-take.ensures.taken ∙ ap Some (sym c.deref_mut.ensures.value) in
     λ refused. (before, was)

@@ -6,11 +6,13 @@ use Rattle.tpmsim_library.proofs.asking.tpmsim_keeper_power.Goals as goal
 pub returns-in-Ok-clause-begins : goal.returns-in-Ok-clause-begins
 returns-in-Ok-clause-begins c =
     let before = c.deref_mut.result.now in
-    let was : c.args.holder.now.keeper ≡ Some before = c.in-Some.ensures.taken ∙ ap Some (sym c.deref_mut.ensures.value) in
+    let was : c.args.holder.now.keeper ≡ Some before =
+    c.in-Some.ensures.taken ∙ ap Some (sym c.deref_mut.ensures.value) in
     λ done. (before, c.cycle_power-begun.new.self, was, c.put.ensures, c.in-Ok.ensures.ok)
 
 pub returns-in-Err-clause-memory : goal.returns-in-Err-clause-memory
 returns-in-Err-clause-memory c =
     let before = c.deref_mut.result.now in
-    let was : c.args.holder.now.keeper ≡ Some before = c.in-Some.ensures.taken ∙ ap Some (sym c.deref_mut.ensures.value) in
+    let was : c.args.holder.now.keeper ≡ Some before =
+    c.in-Some.ensures.taken ∙ ap Some (sym c.deref_mut.ensures.value) in
     λ refused. (before, was)

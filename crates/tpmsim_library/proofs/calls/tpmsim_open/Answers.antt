@@ -6,12 +6,14 @@ use Rattle.tpmsim_library.proofs.Opening.{fault_alike}
 use Rattle.tpmsim_library.proofs.calls.tpmsim_open.Goals as goal
 
 pub returns-in-Ok-clause-opens : goal.returns-in-Ok-clause-opens
-returns-in-Ok-clause-opens c = (Ok c.in-Ok.device.value, c.in-Ok.ensures.exact, (refl, c.put.ensures))
+returns-in-Ok-clause-opens c =
+    (Ok c.in-Ok.device.value, c.in-Ok.ensures.exact, (refl, c.put.ensures))
 
 pub returns-in-Err-clause-opens : goal.returns-in-Err-clause-opens
 returns-in-Err-clause-opens c = (
   Err c.in-Err.fault,
-  fault_alike (λ (b : D boxes). record_of b.value) record_of true c.args.image.now c.in-Err.fault c.in-Err.ensures.exact,
+  fault_alike (λ (b : D boxes). record_of b.value) record_of true c.args.image.now c.in-Err.fault
+      c.in-Err.ensures.exact,
   (c.fault_number.ensures, refl),
 )
 
@@ -19,4 +21,8 @@ returns-in-Err-clause-opens c = (
 -- power cycle
 pub returns-in-Ok-clause-history : goal.returns-in-Ok-clause-history
 returns-in-Ok-clause-history c =
-    λ done version r history is follows image. (c.in-Ok.device.value, c.put.ensures, c.in-Ok.ensures.history version r history is follows image)
+    λ done version r history is follows image. (
+      c.in-Ok.device.value,
+      c.put.ensures,
+      c.in-Ok.ensures.history version r history is follows image,
+    )

@@ -6,5 +6,12 @@ use Rattle.tpmsim_library.proofs.calls.tpmsim_power_cycle.Goals as goal
 pub returns-clause-executes : goal.returns-clause-executes
 returns-clause-executes c =
     let before = c.deref_mut.result.now in
-    let was : c.args.holder.now.device ≡ Some before = c.in-Some.ensures.taken ∙ ap Some (sym c.deref_mut.ensures.value) in
-    rw was (_, c.put.ensures, c.cycle_power.ensures.executes, c.cycle_power.ensures.history, c.cycle_power.ensures.journal)
+    let was : c.args.holder.now.device ≡ Some before =
+    c.in-Some.ensures.taken ∙ ap Some (sym c.deref_mut.ensures.value) in
+    rw was (
+      _,
+      c.put.ensures,
+      c.cycle_power.ensures.executes,
+      c.cycle_power.ensures.history,
+      c.cycle_power.ensures.journal,
+    )

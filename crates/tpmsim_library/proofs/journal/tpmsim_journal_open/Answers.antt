@@ -9,6 +9,7 @@ use Rattle.tpmsim_library.proofs.journal.tpmsim_journal_open.Goals as goal
 pub returns-in-Some-Ok-clause-opens : goal.returns-in-Some-Ok-clause-opens
 returns-in-Some-Ok-clause-opens c =
     let opens = subst
-    (λ r. OpensDevice (λ (b : D boxes). b.value) c.args.text.now c.args.taken.now (Some r) c.open_journal.new.taken)
+    (λ r. OpensDevice (λ (b : D boxes). b.value) c.args.text.now c.args.taken.now (Some r)
+    c.open_journal.new.taken)
     c.in-Some-Ok.field-0-is c.in-Some-Ok.ensures in
     λ done. (c.in-Some-Ok.device.value, c.put.ensures, opens)

@@ -20,13 +20,19 @@ returns-in-Ok-clause-again c = λ before is same done.
 
 pub returns-in-Ok-clause-history : goal.returns-in-Ok-clause-history
 returns-in-Ok-clause-history c = λ state history is follows same done.
-    let device = c.in-Ok.device.value in
-    (device, c.put.ensures, same_history c.args.text.now device c.in-Ok.ensures state history is follows same)
+    let device = c.in-Ok.device.value in (
+      device,
+      c.put.ensures,
+      same_history c.args.text.now device c.in-Ok.ensures state history is
+          follows same,
+    )
 
 pub returns-in-Err-clause-told : goal.returns-in-Err-clause-told
 returns-in-Err-clause-told c = λ refused other.
-    fault_told (λ (b : D boxes). b.value) c.args.text.now c.in-Err.fault c.restore_number.result c.restore_number.ensures c.in-Err.ensures other
+    fault_told (λ (b : D boxes). b.value) c.args.text.now c.in-Err.fault c.restore_number.result
+    c.restore_number.ensures c.in-Err.ensures other
 
 pub returns-in-Err-clause-taken : goal.returns-in-Err-clause-taken
 returns-in-Err-clause-taken c = λ state is same refused.
-    only_memory (λ (b : D boxes). b.value) c.args.text.now c.in-Err.fault c.restore_number.result state c.restore_number.ensures c.in-Err.ensures is same
+    only_memory (λ (b : D boxes). b.value) c.args.text.now c.in-Err.fault c.restore_number.result
+    state c.restore_number.ensures c.in-Err.ensures is same

@@ -4,4 +4,5 @@ use Rattle.tpmsim_script.proofs.script.repeated.Given as goal
 abbrev pub invariant-loop-place : goal.invariant-loop-place
 invariant-loop-place l =
     (length l.random ≡ 256)
-    × ((k : ℕ) → k < l.place → slice_index l.random k ≡ slice_index l.entropy (k % length l.entropy))
+    × ((k : ℕ) → k < l.place → slice_index l.random k
+    ≡ slice_index l.entropy (k % length l.entropy))

@@ -7,5 +7,6 @@ use Rattle.tpmsim_web.proofs.journal.journal_checkpoint.Goals as goal
 pub returns-clause-checkpoints : goal.returns-clause-checkpoints
 returns-clause-checkpoints c =
     let before = c.deref_mut.result.now in
-    let was : c.args.holder.now.device ≡ Some before = c.in-Some.ensures.taken ∙ ap Some (sym c.deref_mut.ensures.value) in
+    let was : c.args.holder.now.device ≡ Some before =
+    c.in-Some.ensures.taken ∙ ap Some (sym c.deref_mut.ensures.value) in
     rw was (_, c.put.ensures, c.checkpoint-size.ensures.checkpoints)

@@ -8,9 +8,13 @@ use Rattle.tpmsim_web.proofs.journal.journal_execute.Goals as goal
 pub returns-clause-records : goal.returns-clause-records
 returns-clause-records c =
     let before = c.deref_mut.result.now in
-    let was : c.args.holder.now.device ≡ Some before = c.in-Some-take.ensures.taken ∙ ap Some (sym c.deref_mut.ensures.value) in
+    let was : c.args.holder.now.device ≡ Some before =
+    c.in-Some-take.ensures.taken ∙ ap Some (sym c.deref_mut.ensures.value) in
     let told = subst
-    (λ l. Records before (command_by before c.args.buffer.now l c.args.now_ms (not (c.args.completes == 0)) c.args.random.now) c.execute_recorded.new.response
-    c.execute_recorded.new.answered c.execute_recorded.result c.execute_recorded.new.entry c.execute_recorded.new.self)
+    (λ l. Records before
+    (command_by before c.args.buffer.now l c.args.now_ms (not (c.args.completes == 0))
+    c.args.random.now) c.execute_recorded.new.response
+    c.execute_recorded.new.answered c.execute_recorded.result c.execute_recorded.new.entry
+    c.execute_recorded.new.self)
     c.in-Some.ensures.1 c.execute_recorded.ensures.records in
     λ _. (before, c.execute_recorded.new.self, was, c.put.ensures, told)

@@ -14,15 +14,20 @@ on_ok (Err e) P Q so p = tt
 abbrev Appended : ArrayString 256 → List ℕ → ArrayString 256 → Type 0
 Appended old bytes new = new.bytes ≡ old.bytes ++ bytes
 
-after_calls : (old : ArrayString 256) (parts : List (List ℕ)) (new : ArrayString 256) → FoldsTo Appended old parts new → new.bytes ≡ old.bytes ++ concat parts
-after_calls old [] new folds = ap (λ (s : ArrayString 256). s.bytes) (sym folds) ∙ sym (append-nil old.bytes)
+after_calls : (old : ArrayString 256) (parts : List (List ℕ)) (new : ArrayString 256)
+    → FoldsTo Appended old parts new → new.bytes ≡ old.bytes ++ concat parts
+after_calls old [] new folds = ap (λ (s : ArrayString 256). s.bytes) (sym folds)
+    ∙ sym (append-nil old.bytes)
 after_calls old (part ∷ parts) new folds =
     after_calls folds.0 parts new folds.2
     ∙ ap (λ (bytes : List ℕ). bytes ++ concat parts) folds.1
     ∙ append_assoc old.bytes part (concat parts)
 
-appended : (old new : ArrayString 256) (bytes : List ℕ) → WritesInCalls Appended old bytes new → new.bytes ≡ old.bytes ++ bytes
-appended old new bytes writes = after_calls old writes.parts new writes.calls ∙ ap (λ (all : List ℕ). old.bytes ++ all) writes.whole
+appended : (old new : ArrayString 256) (bytes : List ℕ) → WritesInCalls Appended old bytes new
+    → new.bytes ≡ old.bytes ++ bytes
+appended old new bytes writes = after_calls old writes.parts new writes.calls
+    ∙ ap (λ (all : List ℕ). old.bytes ++ all) writes.whole
 
 pub returns : goal.returns
-returns c = on_ok c.writeln.result _ _ (appended c.args.text.now c.writeln.new.self _) c.writeln.ensures.writes
+returns c = on_ok c.writeln.result _ _ (appended c.args.text.now c.writeln.new.self _)
+    c.writeln.ensures.writes

@@ -24,12 +24,14 @@ loop-index-preserved c =
     let part : c.decrypt_block.new.text ≡ piece i =
     c.decrypt_block.ensures.value
     ∙ ap (λ (b : List ℕ). xor_of b (aes_of key c.loop-index.feedback)) left
-    ∙ ap (λ (b : List ℕ). xor_of (block_at text i) (aes_of key b)) (c.loop-index.invariant.1 (omega arith)) in
+    ∙ ap (λ (b : List ℕ). xor_of (block_at text i) (aes_of key b))
+    (c.loop-index.invariant.1 (omega arith)) in
     let size : length c.decrypt_block.new.text ≡ end - 16 * i =
     omega (arith, c.decrypt_block.auto.text, ap length left, length-block_at text i) in (
       done_to_more piece text now _ c.decrypt_block.new.text i (16 * i) end c.loop-index.invariant.0
           refl (omega arith) stop part size refl,
-      λ whole. c.decrypt_block.ensures.fed_back (ap length left ∙ omega (arith, length-block_at text i))
+      λ whole. c.decrypt_block.ensures.fed_back
+          (ap length left ∙ omega (arith, length-block_at text i))
           ∙ left ∙ ap (block_before iv text) (sym (add-one i)),
     )
 
@@ -40,7 +42,8 @@ returns-clause-undone c =
     let iv = c.args.iv.now in
     let text = c.args.text.now in
     let value : c.loop-index.text ≡ cfb_decrypt_of key iv text =
-    done_to_all (plain_block key iv text) text c.loop-index.text c.loop-index.index c.loop-index.invariant.0 (omega arith) in
+    done_to_all (plain_block key iv text) text c.loop-index.text c.loop-index.index
+    c.loop-index.invariant.0 (omega arith) in
     ap (cfb_encrypt_of key iv) value ∙ cfb_redone key iv text
 
 pub returns-clause-value : goal.returns-clause-value

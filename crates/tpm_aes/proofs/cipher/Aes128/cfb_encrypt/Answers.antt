@@ -6,8 +6,10 @@ use Rattle.tpm_aes.specs.Cfb.{block_at, cfb_decrypt_of, cfb_encrypt_of}
 use Rattle.tpm_aes.specs.Cipher.{aes_of, xor_of}
 
 pub loop-index-init : goal.loop-index-init
-loop-index-init c =
-    (done_to_none _ c.args.text.now, λ _. sym (cipher_block_none c.args.self.now c.args.iv.now c.args.text.now))
+loop-index-init c = (
+  done_to_none _ c.args.text.now,
+  λ _. sym (cipher_block_none c.args.self.now c.args.iv.now c.args.text.now),
+)
 
 pub loop-index-preserved : goal.loop-index-preserved
 loop-index-preserved c =
@@ -25,13 +27,15 @@ loop-index-preserved c =
     let part : c.encrypt_block.new.text ≡ piece i =
     c.encrypt_block.ensures.value
     ∙ ap (λ (b : List ℕ). xor_of b (aes_of key c.loop-index.feedback)) left
-    ∙ ap (λ (b : List ℕ). xor_of (block_at text i) (aes_of key b)) (c.loop-index.invariant.1 (omega arith))
+    ∙ ap (λ (b : List ℕ). xor_of (block_at text i) (aes_of key b))
+    (c.loop-index.invariant.1 (omega arith))
     ∙ sym (cipher_block_more key iv text i) in
     let size : length c.encrypt_block.new.text ≡ end - 16 * i =
     omega (arith, c.encrypt_block.auto.text, ap length left, length-block_at text i) in (
       done_to_more piece text now _ c.encrypt_block.new.text i (16 * i) end c.loop-index.invariant.0
           refl (omega arith) stop part size refl,
-      λ whole. c.encrypt_block.ensures.fed_back (ap length left ∙ omega (arith, length-block_at text i)) ∙ part,
+      λ whole. c.encrypt_block.ensures.fed_back
+          (ap length left ∙ omega (arith, length-block_at text i)) ∙ part,
     )
 
 pub returns-clause-undone : goal.returns-clause-undone
@@ -41,7 +45,8 @@ returns-clause-undone c =
     let iv = c.args.iv.now in
     let text = c.args.text.now in
     let value : c.loop-index.text ≡ cfb_encrypt_of key iv text =
-    done_to_all (cipher_piece key iv text) text c.loop-index.text c.loop-index.index c.loop-index.invariant.0 (omega arith) in
+    done_to_all (cipher_piece key iv text) text c.loop-index.text c.loop-index.index
+    c.loop-index.invariant.0 (omega arith) in
     ap (cfb_decrypt_of key iv) value ∙ cfb_undone key iv text
 
 pub returns-clause-value : goal.returns-clause-value

@@ -9,4 +9,5 @@ use Rattle.tpm_aes.specs.Cfb.{cipher_block}
 abbrev pub invariant-loop-index : goal.invariant-loop-index
 invariant-loop-index l =
     IsDoneTo (cipher_piece l.self l.iv l.initial.text) l.initial.text l.text l.index
-    × (16 * l.index ≤ length l.initial.text → l.feedback ≡ cipher_block l.self l.iv l.initial.text l.index)
+    × (16 * l.index ≤ length l.initial.text
+    → l.feedback ≡ cipher_block l.self l.iv l.initial.text l.index)

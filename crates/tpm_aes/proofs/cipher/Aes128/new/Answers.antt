@@ -15,7 +15,8 @@ loop-round-preserved c =
     let so_far = c.loop-round.invariant in
     record {
       size = simp length-set so_far.size;
-      each = round_keys_more c.loop-round.round_keys c.args.key.now c.next_round_key.result c.loop-round.round
+      each = round_keys_more c.loop-round.round_keys c.args.key.now c.next_round_key.result
+          c.loop-round.round
           (omega arith) (omega arith) so_far.each c.next_round_key.ensures;
     }
 

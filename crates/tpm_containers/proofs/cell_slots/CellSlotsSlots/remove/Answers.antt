@@ -4,7 +4,8 @@ use Rattle.tpm_containers.proofs.Padding.{padded-clear, padded-set}
 use Rattle.tpm_containers.proofs.cell_slots.CellSlotsSlots.remove.Goals as goal
 
 pub returns-in_default : goal.returns-in_default
-returns-in_default g c = rw (← c.self.view_is) (sym (padded-clear g.row.N _ c.args.place c.in_default.ensures.absent))
+returns-in_default g c =
+    rw (← c.self.view_is) (sym (padded-clear g.row.N _ c.args.place c.in_default.ensures.absent))
 
 pub returns : goal.returns
 returns g c =

@@ -6,4 +6,7 @@ pub invariant_of-self : goal.invariant_of-self
 invariant_of-self g c =
     let es = g.E.Items.items c.self.inside.entries in
     let fewer = kept_few g.C.Choice.stays es in
-    rw c.retain.ensures (kept_ascends g.C.Choice.stays es c.self.invariant.0, omega (arith, fewer, c.self.invariant.1))
+    rw c.retain.ensures (
+      kept_ascends g.C.Choice.stays es c.self.invariant.0,
+      omega (arith, fewer, c.self.invariant.1),
+    )

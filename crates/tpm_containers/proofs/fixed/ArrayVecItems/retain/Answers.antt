@@ -3,4 +3,5 @@ use Rattle.arrayvec.proofs.ArrayVecLemmas.{filter-from_retain}
 use Rattle.tpm_containers.proofs.fixed.ArrayVecItems.retain.Goals as goal
 
 pub returns : goal.returns
-returns g c = filter-from_retain _ _ _ (λ x b f' y called. search rules) _ _ c.retain.ensures.filtered
+returns g c = filter-from_retain _ _ _ (λ x b f' y called. search rules) _ _
+    c.retain.ensures.filtered

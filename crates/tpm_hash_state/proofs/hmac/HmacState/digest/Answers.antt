@@ -2,7 +2,7 @@ use Rattle.std.proofs.Common.{◌∙◌, ap}
 use Rattle.tpm_hash_state.proofs.Absorbing.{absorbed_alg}
 use Rattle.tpm_hash_state.proofs.hmac.HmacState.digest.Goals as goal
 use Rattle.tpm_hash_state.specs.Hmac.{hmac_digest}
-use Rattle.tpm_hash_state.specs.State.{absorbed, state_alg, state_digest}
+use Rattle.tpm_hash_state.specs.State.{state_after_bytes, state_alg, state_digest}
 use Rattle.tpm_hash_state.specs.declared.state.HashState.{HashState}
 use Rattle.tpm_mac.specs.Digest.{digest_size}
 
@@ -10,7 +10,8 @@ pub returns-clause-value : goal.returns-clause-value
 unfolding hmac_digest
 returns-clause-value c =
     let bytes = c.as_slice.ensures.value ∙ c.digest.ensures.value in
-    c.digest-2.ensures.value ∙ ap state_digest (c.absorb.ensures ∙ ap (absorbed c.args.self.now.outer) bytes)
+    c.digest-2.ensures.value ∙ ap state_digest
+    (c.absorb.ensures ∙ ap (state_after_bytes c.args.self.now.outer) bytes)
 
 pub returns-clause-size : goal.returns-clause-size
 returns-clause-size c =

@@ -1,11 +1,11 @@
 use Rattle.std.proofs.Common.{◌∙◌, ap, arith, refl, slice_index, sym}
 use Rattle.tpm_hash_state.proofs.Absorbing.{absorbed_more}
 use Rattle.tpm_hash_state.proofs.state.HashState.absorb.Goals as goal
-use Rattle.tpm_hash_state.specs.State.{absorbed, byte_absorbed}
+use Rattle.tpm_hash_state.specs.State.{byte_absorbed, state_after_bytes}
 use Rattle.tpm_hash_state.specs.declared.state.HashState.{HashState}
 
 pub loop-byte-init : goal.loop-byte-init
-unfolding absorbed
+unfolding state_after_bytes
 loop-byte-init c = refl
 
 pub loop-byte-preserved : goal.loop-byte-preserved

@@ -14,8 +14,10 @@ loop-size-smaller g c =
 
 pub loop-size-preserved : goal.loop-size-preserved
 loop-size-preserved g c =
-    repeats_more _ _ _ _ _ _ _ _ _ _ c.loop-size.invariant (performs_at _ _ _ _ _ _ _ _ _ c.split_at.ensures.back c.in-Executed.ensures)
+    repeats_more _ _ _ _ _ _ _ _ _ _ c.loop-size.invariant
+    (performs_at _ _ _ _ _ _ _ _ _ c.split_at.ensures.back c.in-Executed.ensures)
 
 pub returns-in-Otherwise : goal.returns-in-Otherwise
 returns-in-Otherwise g c =
-    repeats_otherwise _ _ _ _ _ _ _ _ _ _ c.loop-size.invariant (performs_at _ _ _ _ _ _ _ _ _ c.split_at.ensures.back c.in-Otherwise.ensures)
+    repeats_otherwise _ _ _ _ _ _ _ _ _ _ c.loop-size.invariant
+    (performs_at _ _ _ _ _ _ _ _ _ c.split_at.ensures.back c.in-Otherwise.ensures)

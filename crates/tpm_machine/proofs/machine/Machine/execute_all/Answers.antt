@@ -6,5 +6,6 @@ pub loop-event-preserved : goal.loop-event-preserved
 loop-event-preserved g c = record {
   callable = search (rules, of_calls);
   joined = λ new q rest. c.loop-event.invariant.joined new q
-      (run_more _ _ _ _ _ _ c.loop-event.event-index c.event-item.result _ c.loop-event-test.true c.event-item.is c.execute_into.ensures.executes (search rules) rest);
+      (run_more _ _ _ _ _ _ c.loop-event.event-index c.event-item.result _ c.loop-event-test.true
+      c.event-item.is c.execute_into.ensures.executes (search rules) rest);
 }

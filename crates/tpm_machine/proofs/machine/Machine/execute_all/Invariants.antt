@@ -13,5 +13,9 @@ invariant-loop-event g l =
     let can = g.K.Keep.can_refuse in
     record {
       callable : always_mut g.F.FnMut l.tell;
-      joined : (new : Record) (q : _) → Runs g.F.FnMut can (record_of l.self.keep) l.tell (map plain_event (drop l.event-index l.events)) new q → Runs g.F.FnMut can (record_of l.fn.self.keep) l.fn.tell (map plain_event l.fn.events) new q;
+      joined : (new : Record) (q : _)
+          → Runs g.F.FnMut can (record_of l.self.keep) l.tell
+          (map plain_event (drop l.event-index l.events)) new q
+          → Runs g.F.FnMut can (record_of l.fn.self.keep) l.fn.tell (map plain_event l.fn.events)
+          new q;
     }

@@ -15,7 +15,12 @@ returns g c =
     let old = state c.args.self.now in
     let event = plain_event c.args.event.now in
     let done = c.advance-outcome in
-    let x : Stepped = record { response = done.new.text.items; row = done.result; after = state done.new.self } in
+    let x : Stepped = record {
+      response = done.new.text.items;
+      row = done.result;
+      after =
+          state done.new.self;
+    } in
     let steps = done.ensures.steps in
     let executes : Executes can old event x = record {
       happens = done.ensures.event;
@@ -26,4 +31,9 @@ returns g c =
       modest = λ zero. accepts_modestly can old event x steps zero (done.ensures.modest zero);
       fits = done.ensures.fits;
     } in
-    record { executes = executes; drawn = done.ensures.drawn; follows = follows_on can old event x executes }
+    record {
+      executes = executes;
+      drawn = done.ensures.drawn;
+      follows =
+          follows_on can old event x executes;
+    }

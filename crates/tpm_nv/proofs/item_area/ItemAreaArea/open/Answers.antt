@@ -14,5 +14,6 @@ returns-clause-opened g c =
     ∙ ap (moved_from_end start size) (c.slice_mut.ensures.value ∙ appended)
     ∙ opened_by_moving start size old c.requires.inside
     in
-    let long = ap length opened ∙ opened_length start size old c.requires.inside ∙ sym (ap length appended) in
+    let long = ap length opened ∙ opened_length start size old c.requires.inside
+    ∙ sym (ap length appended) in
     g.met.B.Items.written_all c.append_zeros.new.self c.move_from_end.new.bytes long ∙ opened

@@ -14,7 +14,9 @@ returns g c =
     let area = g.R.Area.bytes c.self.inside.area in
     rw (← c.self.view_is) (
     c.is_room.ensures
-    ∙ ap (λ n. nat_lt n nv_index_limit && nat_le (length c.as_slice.result.now + c.args.size) nv_space_limit) c.len.ensures
-    ∙ ap (λ l. nat_lt (length es) nv_index_limit && nat_le (length l + c.args.size) nv_space_limit) c.as_slice.ensures
+    ∙ ap (λ n. nat_lt n nv_index_limit
+    && nat_le (length c.as_slice.result.now + c.args.size) nv_space_limit) c.len.ensures
+    ∙ ap (λ l. nat_lt (length es) nv_index_limit && nat_le (length l + c.args.size) nv_space_limit)
+    c.as_slice.ensures
     ∙ sym (room_is es area c.self.inside.max_count c.args.size c.self.invariant)
     )

@@ -2,7 +2,7 @@ use Rattle.std.proofs.Common.{◌≡◌, ◌+◌, ◌<◌, ◌^◌, ℕ, List, O
 use Rattle.std.specs.Prelude.{Result}
 use Rattle.std.proofs.lemmas.Bool.{eqb-true}
 use Rattle.tpm_types_nv.specs.declared.nv_type.NvType.TheVariants as type
-use Rattle.tpm_nv.specs.Access.{with_data, counted, number_or}
+use Rattle.tpm_nv.specs.Access.{with_data, contents_after_count, number_or}
 use Rattle.tpm_nv.specs.Head.{index_with, size_of, indices_of}
 use Rattle.tpm_nv.specs.Index.{NvContents, changed_index}
 use Rattle.tpm_nv.specs.declared.fault.WriteFault.{WriteFault}
@@ -15,8 +15,12 @@ pub set_data-requires-clause-whole : goal.set_data-requires-clause-whole
 set_data-requires-clause-whole g c =
     let t = c.in_ok-found.ensures.there in
     let h = c.in_ok-found.found.head.now in
-    let size : size_of h ≡ 8 = eqb-true _ _ (size_of_type h.public type.Counter (type_of_writable type.Counter (index_with h t.0) t.2) t.1.sized) in
-    let many : length c.to_be_bytes.result ≡ size_of h = ap length c.to_be_bytes.ensures ∙ sym size in
+    let size : size_of h ≡ 8 =
+    eqb-true _ _
+    (size_of_type h.public type.Counter (type_of_writable type.Counter (index_with h t.0) t.2)
+    t.1.sized) in
+    let many : length c.to_be_bytes.result ≡ size_of h =
+    ap length c.to_be_bytes.ensures ∙ sym size in
     rw t.1.found (many, data_long h t.0 0 t.1.long)
 
 pub returns : goal.returns
@@ -24,15 +28,28 @@ returns g c =
     let t = c.in_ok-found.ensures.there in
     let h = c.in_ok-found.found.head.now in
     let index = index_with h t.0 in
-    let size : size_of h ≡ 8 = eqb-true _ _ (size_of_type h.public type.Counter (type_of_writable type.Counter index t.2) t.1.sized) in
+    let size : size_of h ≡ 8 =
+    eqb-true _ _ (size_of_type h.public type.Counter (type_of_writable type.Counter index t.2)
+    t.1.sized) in
     let last = c.number-last.result in
     let most = ap (λ (s : NvContents). s.max_count) c.self.view_is in
-    let number : last ≡ number_or c.args.self.now.max_count index = c.number-last.ensures c.args.handle t.0 t.1 t.3 (t.1.long ∙ size) ∙ ap (λ (m : ℕ). number_or m index) most in
+    let number : last ≡ number_or c.args.self.now.max_count index =
+    c.number-last.ensures c.args.handle t.0 t.1 t.3 (t.1.long ∙ size)
+    ∙ ap (λ (m : ℕ). number_or m index) most in
     let fits : last + 1 < 2 ^ 64 = omega (arith, c.number-last.type_inv, c.if-last.false) in
-    let set : c.set_data.new.self ≡ changed_index c.args.self.now c.args.handle (with_data index (to_be_bytes w64 (last + 1))) =
+    let set : c.set_data.new.self ≡ changed_index c.args.self.now c.args.handle
+    (with_data index (to_be_bytes w64 (last + 1))) =
     c.set_data.ensures index t.1.found
-    ∙ ap (λ (l : List ℕ). changed_index c.args.self.now c.args.handle (with_data index l)) c.to_be_bytes.ensures in
-    let made : ℕ → NvContents = λ m. record { indices = indices_of (g.H.SortedMap.entries c.self-2.inside.heads) (g.R.Area.bytes c.self-2.inside.area); max_count = m } in
-    let counts = ap made c.max-self-inside.ensures ∙ ap (λ (s : NvContents). counted s (last + 1)) (c.self-2.view_is ∙ set) in
+    ∙ ap (λ (l : List ℕ). changed_index c.args.self.now c.args.handle (with_data index l))
+    c.to_be_bytes.ensures in
+    let made : ℕ → NvContents =
+    λ m. record {
+      indices =
+          indices_of (g.H.SortedMap.entries c.self-2.inside.heads)
+          (g.R.Area.bytes c.self-2.inside.area);
+      max_count = m;
+    } in
+    let counts = ap made c.max-self-inside.ensures
+    ∙ ap (λ (s : NvContents). contents_after_count s (last + 1)) (c.self-2.view_is ∙ set) in
     let ok : NvContents → Result NvContents WriteFault = λ s. Ok s in
     incremented_is c.args.self.now c.args.handle h t.0 last t.1 t.2 number fits ∙ ap ok (sym counts)

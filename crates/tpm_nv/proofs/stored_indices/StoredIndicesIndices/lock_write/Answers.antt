@@ -11,5 +11,6 @@ returns g c =
     let t = c.in-Some.ensures.there in
     let h = c.in-Some.head.now in
     let ok : NvContents → Result NvContents LockFault = λ s. Ok s in
-    write_locked_is c.args.self.now c.args.handle h t.0 t.1 (sym c.is_write_lockable.ensures ∙ c.if-not-is_write_lockable.false)
+    write_locked_is c.args.self.now c.args.handle h t.0 t.1
+    (sym c.is_write_lockable.ensures ∙ c.if-not-is_write_lockable.false)
     ∙ ap ok (sym (c.mark.ensures (index_with h t.0) t.1.found))

@@ -4,4 +4,7 @@ use Rattle.tpm_nv.proofs.stored_indices.StoredIndicesIndices.read_sizes.Goals as
 
 pub returns : goal.returns
 returns g c =
-    rw (← c.self.view_is) (contents_are (g.H.SortedMap.entries c.self.inside.heads) (g.R.Area.bytes c.self.inside.area) c.self.inside.max_count c.self.invariant (search rules))
+    rw (← c.self.view_is)
+    (contents_are (g.H.SortedMap.entries c.self.inside.heads)
+    (g.R.Area.bytes c.self.inside.area) c.self.inside.max_count c.self.invariant
+    (search rules))

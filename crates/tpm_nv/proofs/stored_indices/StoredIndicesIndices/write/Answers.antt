@@ -18,13 +18,24 @@ returns g c =
     let bytes = c.args.bytes.now in
     let index = index_with h t.0 in
     let place = c.place-place.ensures in
-    let inside : c.args.offset + length bytes ≤ size_of h = omega (arith, c.from-offset.ensures, ap (λ (p : DataPlace). p.size) place, c.if-offset-bytes.false) in
-    let whole : (has h.public.attributes attribute.WriteAll && not (length bytes == size_of h)) ≡ false =
-    ap (λ (p : DataPlace). has p.attributes attribute.WriteAll && not (length bytes == p.size)) (sym place)
+    let inside : c.args.offset + length bytes ≤ size_of h =
+    omega (
+      arith,
+      c.from-offset.ensures,
+      ap (λ (p : DataPlace). p.size) place,
+      c.if-offset-bytes.false,
+    ) in
+    let whole : (has h.public.attributes attribute.WriteAll && not (length bytes == size_of h))
+    ≡ false =
+    ap (λ (p : DataPlace). has p.attributes attribute.WriteAll && not (length bytes == p.size))
+    (sym place)
     ∙ sym c.is_part.ensures
     ∙ c.if-is_part.false in
-    let put : c.put_data.new.self ≡ changed_index c.args.self.now c.args.handle (with_data index (put_over c.args.offset bytes (data_or 0xff index))) =
+    let put : c.put_data.new.self ≡ changed_index c.args.self.now c.args.handle
+    (with_data index (put_over c.args.offset bytes (data_or 0xff index))) =
     c.put_data.ensures index t.1.found
-    ∙ ap (λ (o : ℕ). changed_index c.args.self.now c.args.handle (with_data index (put_over o bytes (data_or 0xff index)))) c.from-offset.ensures in
+    ∙ ap (λ (o : ℕ). changed_index c.args.self.now c.args.handle
+    (with_data index (put_over o bytes (data_or 0xff index)))) c.from-offset.ensures in
     let ok : NvContents → Result NvContents WriteFault = λ s. Ok s in
-    written_is c.args.self.now c.args.handle h t.0 c.args.offset bytes t.1 t.2 inside whole ∙ ap ok (sym put)
+    written_is c.args.self.now c.args.handle h t.0 c.args.offset bytes t.1 t.2 inside whole
+    ∙ ap ok (sym put)

@@ -10,6 +10,7 @@ invariant-loop-bank l =
     let room = 8 - length l.values.items in
     record {
       banks : l.banks.items ++ answer_selection room left ≡ answer_selection 8 l.bank-items;
-      values : digests_of l.values.items ++ read_values l.self room left ≡ read_values l.self 8 l.bank-items;
+      values : digests_of l.values.items ++ read_values l.self room left
+          ≡ read_values l.self 8 l.bank-items;
       count : length l.banks.items ≡ l.bank-index;
     }

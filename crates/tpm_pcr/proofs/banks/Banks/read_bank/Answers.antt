@@ -16,7 +16,9 @@ loop-number-preserved c =
     let front = digests_of c.args.values.now.items in
     let values = digests_of c.loop-number.values.items in
     let is : c.unwrap-pcr.result ≡ n = search rules in
-    let counted : length c.loop-number.values.items ≡ length c.args.values.now.items + min (8 - length c.args.values.now.items) (length (filter p (numbers_below n))) =
+    let counted : length c.loop-number.values.items
+    ≡ length c.args.values.now.items + min (8 - length c.args.values.now.items)
+    (length (filter p (numbers_below n))) =
     values_count p f n _ _ front values (length-map _ _) (length-map _ _) i.values in
     record {
       select = c.read_pcr.ensures.select ∙ select_step p n _ _ _ _ is counted i.select;
@@ -31,4 +33,5 @@ returns-clause-select c =
 pub returns-clause-values : goal.returns-clause-values
 returns-clause-values c =
     let done : c.loop-number.number ≡ 24 = omega arith in
-    rw (selected_pcrs-is c.args.bank.now c.loop-number.number done, take-map) c.loop-number.invariant.values
+    rw (selected_pcrs-is c.args.bank.now c.loop-number.number done, take-map)
+    c.loop-number.invariant.values

@@ -12,5 +12,6 @@ invariant-loop-number l =
     let chosen = filter (is_selected l.bank.select) (numbers_below l.number) in
     record {
       select : l.select ≡ select_with (take room chosen);
-      values : digests_of l.values.items ≡ digests_of l.fn.values.items ++ map (pcr_value l.self l.bank.hash) (take room chosen);
+      values : digests_of l.values.items ≡ digests_of l.fn.values.items
+          ++ map (pcr_value l.self l.bank.hash) (take room chosen);
     }

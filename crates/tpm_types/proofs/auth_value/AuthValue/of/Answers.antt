@@ -5,5 +5,6 @@ use Rattle.tpm_types.proofs.auth_value.AuthValue.of.Goals as goal
 
 pub invariant_of-result : goal.invariant_of-result
 invariant_of-result c =
-    let same : c.copied.result.items ≡ trimmed c.args.bytes.now = c.copied.ensures.value ∙ c.trimmed.ensures.value in
+    let same : c.copied.result.items ≡ trimmed c.args.bytes.now =
+    c.copied.ensures.value ∙ c.trimmed.ensures.value in
     rw same (trimmed_twice c.args.bytes.now)

@@ -11,8 +11,16 @@ returns-then-len-banks-clause-written g c =
 
 pub returns-then-len-banks-clause-small : goal.returns-then-len-banks-clause-small
 returns-then-len-banks-clause-small g c =
-    omega (arith, length-selection_text c.args.self.now.banks.items, ap length c.as_slice-banks.ensures.value)
+    omega (
+      arith,
+      length-selection_text c.args.self.now.banks.items,
+      ap length c.as_slice-banks.ensures.value,
+    )
 
 pub returns-clause-small : goal.returns-clause-small
 returns-clause-small g c =
-    omega (arith, length-selection_text c.args.self.now.banks.items, ap length c.as_slice-banks.ensures.value)
+    omega (
+      arith,
+      length-selection_text c.args.self.now.banks.items,
+      ap length c.as_slice-banks.ensures.value,
+    )

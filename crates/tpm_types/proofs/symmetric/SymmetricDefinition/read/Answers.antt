@@ -6,7 +6,10 @@ use Rattle.tpm_types.proofs.symmetric.SymmetricDefinition.read.Goals as goal
 
 pub returns-clause-found : goal.returns-clause-found
 returns-clause-found c =
-    read_spelled symmetric_at symmetric_text symmetric_takes c.args.text.now c.read_fields.result c.read_fields.new.text c.read_fields.ensures.bytes c.read_fields.ensures.exact
+    read_spelled symmetric_at symmetric_text symmetric_takes c.args.text.now c.read_fields.result
+    c.read_fields.new.text c.read_fields.ensures.bytes c.read_fields.ensures.exact
 
 pub returns-clause-only : goal.returns-clause-only
-returns-clause-only c = λ definition rest spelled. read_only (λ (d : SymmetricDefinition). d) symmetric_at c.args.text.now _ definition rest c.read_fields.result c.read_fields.new.text (symmetric_again definition rest) spelled c.read_fields.ensures.exact
+returns-clause-only c = λ definition rest spelled. read_only (λ (d : SymmetricDefinition). d)
+    symmetric_at c.args.text.now _ definition rest c.read_fields.result c.read_fields.new.text
+    (symmetric_again definition rest) spelled c.read_fields.ensures.exact

@@ -6,7 +6,10 @@ use Rattle.tpm_types_command.proofs.command.Command.read.Goals as goal
 
 pub returns-clause-found : goal.returns-clause-found
 returns-clause-found c =
-    command_found c.args.text.now c.read_fields.result c.read_fields.new.text c.read_fields.ensures.bytes c.read_fields.ensures.exact
+    command_found c.args.text.now c.read_fields.result c.read_fields.new.text
+    c.read_fields.ensures.bytes c.read_fields.ensures.exact
 
 pub returns-clause-only : goal.returns-clause-only
-returns-clause-only c = λ command is spelled. read_only whole_of command_at c.args.text.now _ command [] c.read_fields.result c.read_fields.new.text (command_again command is) spelled c.read_fields.ensures.exact
+returns-clause-only c = λ command is spelled. read_only whole_of command_at c.args.text.now _
+    command [] c.read_fields.result c.read_fields.new.text (command_again command is) spelled
+    c.read_fields.ensures.exact

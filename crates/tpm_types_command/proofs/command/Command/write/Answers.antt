@@ -19,8 +19,10 @@ write_handles-requires g c =
     let text = c.in-Some.ensures in
     let size = text.1 in
     let fits : length c.args.sink.now + command_size whole ≤ g.row.N = omega arith in
-    let room = room_behind_header whole g.row.N c.in-Some.size c.tag.result c.args.sink.now c.write_header.new.sink c.write_header.ensures fits in
-    let same : length c.as_slice.result.now ≡ length whole.handles = ap length c.as_slice.ensures.value in
+    let room = room_behind_header whole g.row.N c.in-Some.size c.tag.result c.args.sink.now
+    c.write_header.new.sink c.write_header.ensures fits in
+    let same : length c.as_slice.result.now ≡ length whole.handles =
+    ap length c.as_slice.ensures.value in
     (search rules, omega arith)
 
 pub write_sessions-requires : goal.write_sessions-requires
@@ -30,11 +32,29 @@ write_sessions-requires g c =
     let has = text.0 in
     let size = text.1 in
     let fits : length c.args.sink.now + command_size whole ≤ g.row.N = omega arith in
-    let room = room_behind_header whole g.row.N c.in-Some.size c.tag.result c.args.sink.now c.write_header.new.sink c.write_header.ensures fits in
-    let handles : length c.write_handles.new.sink ≡ length c.write_header.new.sink + 4 * length whole.handles = ap length c.write_handles.ensures ∙ length-append c.write_header.new.sink (handles_text c.as_slice.result.now) ∙ ap (λ n. length c.write_header.new.sink + n) (length-handles_text c.as_slice.result.now ∙ ap (λ (l : List Handle). 4 * length l) c.as_slice.ensures.value) in
+    let room = room_behind_header whole g.row.N c.in-Some.size c.tag.result c.args.sink.now
+    c.write_header.new.sink c.write_header.ensures fits in
+    let handles : length c.write_handles.new.sink
+    ≡ length c.write_header.new.sink + 4 * length whole.handles =
+    ap length c.write_handles.ensures
+    ∙ length-append c.write_header.new.sink (handles_text c.as_slice.result.now)
+    ∙ ap (λ n. length c.write_header.new.sink + n)
+    (length-handles_text c.as_slice.result.now
+    ∙ ap (λ (l : List Handle). 4 * length l) c.as_slice.ensures.value) in
     let same = c.as_slice-2.ensures.value in
-    let bytes : length (sessions_text (map entry_of c.as_slice-2.result.now)) ≡ length (sessions_text whole.entries) = ap (λ (l : List AuthEntry). length (sessions_text (map entry_of l))) same in
-    (search rules, (c.as_slice-2.ensures.fits, (subst (λ (l : List AuthEntry). AllByRecursion HasSizes (map entry_of l)) (sym same) has.entries, omega arith)))
+    let bytes : length (sessions_text (map entry_of c.as_slice-2.result.now))
+    ≡ length (sessions_text whole.entries) =
+    ap (λ (l : List AuthEntry). length (sessions_text (map entry_of l))) same in (
+      search rules,
+      (
+        c.as_slice-2.ensures.fits,
+        (
+          subst (λ (l : List AuthEntry). AllByRecursion HasSizes (map entry_of l)) (sym same)
+              has.entries,
+          omega arith,
+        ),
+      ),
+    )
 
 pub append-requires : goal.append-requires
 append-requires g c =
@@ -42,11 +62,24 @@ append-requires g c =
     let text = c.in-Some.ensures in
     let size = text.1 in
     let fits : length c.args.sink.now + command_size whole ≤ g.row.N = omega arith in
-    let room = room_behind_header whole g.row.N c.in-Some.size c.tag.result c.args.sink.now c.write_header.new.sink c.write_header.ensures fits in
-    let two : c.write_handles.new.sink ≡ c.write_header.new.sink ++ handles_text whole.handles = c.write_handles.ensures ∙ ap (λ (l : List Handle). c.write_header.new.sink ++ handles_text l) c.as_slice.ensures.value in
-    let three : c.write_sessions.new.sink ≡ c.write_handles.new.sink ++ sessions_text whole.entries = c.write_sessions.ensures ∙ ap (λ (l : List AuthEntry). c.write_handles.new.sink ++ sessions_text (map entry_of l)) c.as_slice-2.ensures.value in
-    let handles : length c.write_handles.new.sink ≡ length c.write_header.new.sink + 4 * length whole.handles = ap length two ∙ length-append c.write_header.new.sink (handles_text whole.handles) ∙ ap (λ n. length c.write_header.new.sink + n) (length-handles_text whole.handles) in
-    let sessions : length c.write_sessions.new.sink ≡ length c.write_handles.new.sink + length (sessions_text whole.entries) = ap length three ∙ length-append c.write_handles.new.sink (sessions_text whole.entries) in
+    let room = room_behind_header whole g.row.N c.in-Some.size c.tag.result c.args.sink.now
+    c.write_header.new.sink c.write_header.ensures fits in
+    let two : c.write_handles.new.sink ≡ c.write_header.new.sink ++ handles_text whole.handles =
+    c.write_handles.ensures
+    ∙ ap (λ (l : List Handle). c.write_header.new.sink ++ handles_text l)
+    c.as_slice.ensures.value in
+    let three : c.write_sessions.new.sink ≡ c.write_handles.new.sink
+    ++ sessions_text whole.entries =
+    c.write_sessions.ensures
+    ∙ ap (λ (l : List AuthEntry). c.write_handles.new.sink ++ sessions_text (map entry_of l))
+    c.as_slice-2.ensures.value in
+    let handles : length c.write_handles.new.sink
+    ≡ length c.write_header.new.sink + 4 * length whole.handles =
+    ap length two ∙ length-append c.write_header.new.sink (handles_text whole.handles)
+    ∙ ap (λ n. length c.write_header.new.sink + n) (length-handles_text whole.handles) in
+    let sessions : length c.write_sessions.new.sink
+    ≡ length c.write_handles.new.sink + length (sessions_text whole.entries) =
+    ap length three ∙ length-append c.write_handles.new.sink (sessions_text whole.entries) in
     (search rules, omega arith)
 
 pub returns : goal.returns
@@ -56,7 +89,16 @@ returns g c =
     let has = text.0 in
     let size = text.1 in
     let fits : length c.args.sink.now + command_size whole ≤ g.row.N = omega arith in
-    let two : c.write_handles.new.sink ≡ c.write_header.new.sink ++ handles_text whole.handles = c.write_handles.ensures ∙ ap (λ (l : List Handle). c.write_header.new.sink ++ handles_text l) c.as_slice.ensures.value in
-    let three : c.write_sessions.new.sink ≡ c.write_handles.new.sink ++ sessions_text whole.entries = c.write_sessions.ensures ∙ ap (λ (l : List AuthEntry). c.write_handles.new.sink ++ sessions_text (map entry_of l)) c.as_slice-2.ensures.value in
-    let written = command_written whole c.in-Some.size c.tag.result c.args.sink.now c.write_header.new.sink c.write_handles.new.sink c.write_sessions.new.sink c.append.new.self size c.tag.ensures c.write_header.ensures two three c.append.ensures in
+    let two : c.write_handles.new.sink ≡ c.write_header.new.sink ++ handles_text whole.handles =
+    c.write_handles.ensures
+    ∙ ap (λ (l : List Handle). c.write_header.new.sink ++ handles_text l)
+    c.as_slice.ensures.value in
+    let three : c.write_sessions.new.sink ≡ c.write_handles.new.sink
+    ++ sessions_text whole.entries =
+    c.write_sessions.ensures
+    ∙ ap (λ (l : List AuthEntry). c.write_handles.new.sink ++ sessions_text (map entry_of l))
+    c.as_slice-2.ensures.value in
+    let written = command_written whole c.in-Some.size c.tag.result c.args.sink.now
+    c.write_header.new.sink c.write_handles.new.sink c.write_sessions.new.sink c.append.new.self
+    size c.tag.ensures c.write_header.ensures two three c.append.ensures in
     ((λ _. (has, fits), λ _. refl), written, tt)

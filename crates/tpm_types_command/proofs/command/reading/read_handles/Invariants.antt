@@ -7,7 +7,8 @@ use Rattle.tpm_types_command.proofs.command.reading.read_handles.Given as goal
 -- command.
 abbrev pub invariant-loop-before : goal.invariant-loop-before
 invariant-loop-before l = record {
-  joined : behind l.handles.items (handles_at (l.before + 1) (l.count - l.before) l.ahead) ≡ handles_at 1 l.count l.text;
+  joined : behind l.handles.items (handles_at (l.before + 1) (l.count - l.before) l.ahead)
+      ≡ handles_at 1 l.count l.text;
   size : length l.handles.items ≡ l.before;
   few : l.count ≤ 3;
 }

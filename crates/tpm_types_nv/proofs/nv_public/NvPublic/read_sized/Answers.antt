@@ -5,7 +5,10 @@ use Rattle.tpm_types_nv.proofs.nv_public.NvPublic.read_sized.Goals as goal
 
 pub returns-clause-found : goal.returns-clause-found
 returns-clause-found c =
-    spelled_found sized_nv_public_spelled (λ (x : NvPublic). x) c.args.text.now c.read_filled.result c.read_filled.new.text c.read_filled.ensures.bytes c.read_filled.ensures.exact
+    spelled_found sized_nv_public_spelled (λ (x : NvPublic). x) c.args.text.now c.read_filled.result
+    c.read_filled.new.text c.read_filled.ensures.bytes c.read_filled.ensures.exact
 
 pub returns-clause-only : goal.returns-clause-only
-returns-clause-only c = λ x rest is spelled. spelled_only sized_nv_public_spelled (λ (x : NvPublic). x) c.args.text.now x rest c.read_filled.result c.read_filled.new.text is spelled c.read_filled.ensures.exact
+returns-clause-only c = λ x rest is spelled. spelled_only sized_nv_public_spelled
+    (λ (x : NvPublic). x) c.args.text.now x rest c.read_filled.result c.read_filled.new.text is
+    spelled c.read_filled.ensures.exact

@@ -5,7 +5,11 @@ use Rattle.tpm_types_object.proofs.creation_data.CreationData.read_sized.Goals a
 
 pub returns-clause-found : goal.returns-clause-found
 returns-clause-found c =
-    spelled_found sized_creation_data_spelled (λ (x : CreationData). x) c.args.text.now c.read_filled.result c.read_filled.new.text c.read_filled.ensures.bytes c.read_filled.ensures.exact
+    spelled_found sized_creation_data_spelled (λ (x : CreationData). x) c.args.text.now
+    c.read_filled.result c.read_filled.new.text c.read_filled.ensures.bytes
+    c.read_filled.ensures.exact
 
 pub returns-clause-only : goal.returns-clause-only
-returns-clause-only c = λ x rest is spelled. spelled_only sized_creation_data_spelled (λ (x : CreationData). x) c.args.text.now x rest c.read_filled.result c.read_filled.new.text is spelled c.read_filled.ensures.exact
+returns-clause-only c = λ x rest is spelled. spelled_only sized_creation_data_spelled
+    (λ (x : CreationData). x) c.args.text.now x rest c.read_filled.result c.read_filled.new.text is
+    spelled c.read_filled.ensures.exact

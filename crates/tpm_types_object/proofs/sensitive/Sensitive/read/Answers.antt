@@ -5,7 +5,10 @@ use Rattle.tpm_types_object.proofs.sensitive.Sensitive.read.Goals as goal
 
 pub returns-clause-found : goal.returns-clause-found
 returns-clause-found c =
-    spelled_found sensitive_spelled (λ (x : Sensitive). x) c.args.text.now c.read_fields.result c.read_fields.new.text c.read_fields.ensures.bytes c.read_fields.ensures.exact
+    spelled_found sensitive_spelled (λ (x : Sensitive). x) c.args.text.now c.read_fields.result
+    c.read_fields.new.text c.read_fields.ensures.bytes c.read_fields.ensures.exact
 
 pub returns-clause-only : goal.returns-clause-only
-returns-clause-only c = λ x rest is spelled. spelled_only sensitive_spelled (λ (x : Sensitive). x) c.args.text.now x rest c.read_fields.result c.read_fields.new.text is spelled c.read_fields.ensures.exact
+returns-clause-only c = λ x rest is spelled. spelled_only sensitive_spelled (λ (x : Sensitive). x)
+    c.args.text.now x rest c.read_fields.result c.read_fields.new.text is spelled
+    c.read_fields.ensures.exact

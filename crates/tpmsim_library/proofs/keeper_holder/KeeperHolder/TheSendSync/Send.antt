@@ -14,7 +14,7 @@ use Rattle.std.proofs.alloc.Global.TheSendSync as global
 use Rattle.std.specs.declared.alloc.Global.{Global}
 use Rattle.std.specs.declared.option.Option.{Option}
 use Rattle.std.specs.declared.option.Option.TheVariants.{None, Some}
-use Rattle.tpmsim_library.specs.Held.{held}
+use Rattle.tpmsim_library.specs.Held.{held_memory}
 use Rattle.tpmsim_library.specs.contracts.keeper.DeviceKeeper as keeper
 use Rattle.tpmsim_library.proofs.keeper.DeviceKeeper.TheSendSync.{the_send as keeper_sends}
 use Rattle.tpmsim_library.specs.contracts.keeper_holder.KeeperHolder.{the_row, the_type}
@@ -28,12 +28,17 @@ lies : (R : RattleType) → IsSend R → (p : Ptr) (x : R.Denot) → Keyless (li
 lies R s (block_ptr b o) x = part_keyless R s full_share x b o
 lies R s null_ptr x = tt
 
-owned : (alloc : Global) (at : Ptr) (found : Option keeper.the_row.Denot) → Keyless (held keeper.the_row alloc at found)
+owned : (alloc : Global) (at : Ptr) (found : Option keeper.the_row.Denot)
+    → Keyless (held_memory keeper.the_row alloc at found)
 owned alloc at None = tt
-owned alloc at (Some x) = (lies keeper.the_row keeper_sends at x, heap.frees.frees alloc (raw (lone keeper.the_row.mir)) at)
+owned alloc at (Some x) = (
+  lies keeper.the_row keeper_sends at x,
+  heap.frees.frees alloc (raw (lone keeper.the_row.mir)) at,
+)
 
 pub send : IsSend the_row
 send =
     let all : AllSend (fields the_type) = (search sendable, (global.the_field_send, tt)) in
     owning_send the_type all (λ h. owned h.alloc h.at h.keeper)
-    (λ k. quiet (to the_type) (exits_of k (fields the_type)) ((struct_send (shape the_type) all).leaving k))
+    (λ k. quiet (to the_type) (exits_of k (fields the_type))
+    ((struct_send (shape the_type) all).leaving k))

@@ -37,20 +37,28 @@ stays = (stay_dropped (plain (λ _. Passed)) yes, tt)
 pub into_owner_spec : {M : Type 1} → statement M
 into_owner_spec 𝓤 𝓛 𝓜 𝓡 wired =
     let clauses = promise.clauses 𝓛 𝓜.mem 𝓡.returns in
-    proved 𝓛 promise.ended stays clauses 𝓜 𝓡 (Goes-blank 𝓛 0 (plain (λ _. Passed)) yes (λ κs x f. tt), tt) promise.Key.name code.function
-    (code.unfolded 𝓤 𝓛.H 𝓜 𝓡 wired) (λ κs. ((λ h. word h.at h.alloc ∷ []), tt)) (λ κs. ((λ h ws is. word_told h.at h.alloc ws is.0), tt)) (λ κs qs bounds a _ are.
+    proved 𝓛 promise.ended stays clauses 𝓜 𝓡
+    (Goes-blank 𝓛 0 (plain (λ _. Passed)) yes (λ κs x f. tt), tt) promise.Key.name code.function
+    (code.unfolded 𝓤 𝓛.H 𝓜 𝓡 wired) (λ κs. ((λ h. word h.at h.alloc ∷ []), tt))
+    (λ κs. ((λ h ws is. word_told h.at h.alloc ws is.0), tt)) (λ κs qs bounds a _ are.
     let h = a.0 in let w : Val = word h.at h.alloc in
-    let y : (walk_of 𝓛 promise.ended stays clauses).Ghost = ((κs, qs, bounds, a, (w ∷ [], tt)), tt) in
+    let y : (walk_of 𝓛 promise.ended stays clauses).Ghost =
+    ((κs, qs, bounds, a, (w ∷ [], tt)), tt) in
     let made : Given.Denot = record { at = h.at; alloc = h.alloc; value = h.keeper } in
     -- The proof context contains the memory that the holder owned.
-    qed 𝓛 ((‵ ftrue ⊛ ‵ (fsep (Passed.own_val h (w ∷ [])) ftrue)) ∷ raw ((clauses κs a).requires tt) ∷ []) ∵ split ! $ drop ! $ fsplit ! $ keep ! (0 ∷ []) $
+    qed 𝓛 ((‵ ftrue ⊛ ‵ (fsep (Passed.own_val h (w ∷ [])) ftrue)) ∷ raw ((clauses κs a).requires tt)
+    ∷ []) ∵ split ! $ drop ! $ fsplit ! $ keep ! (0 ∷ []) $
     fsplit ! $ drop ! $
     enter ! _ _ _ _ _ $ alloc_all ! (λ l. pass_all ! refl (word_typed h.at h.alloc, tt) $
-    sets ! (of_opd ! (get_in ! (fld ! refl (stop !)) (sub ! 0 refl (whole !)))) refl (pointer_typed h.at) $
-    sets ! (of_opd ! (get_in ! (fld ! refl (stop !)) (sub ! 1 refl (whole !)))) refl (heap_typed h.alloc) $
+    sets ! (of_opd ! (get_in ! (fld ! refl (stop !)) (sub ! 0 refl (whole !))))
+    refl (pointer_typed h.at) $
+    sets ! (of_opd ! (get_in ! (fld ! refl (stop !)) (sub ! 1 refl (whole !))))
+    refl (heap_typed h.alloc) $
     sets ! (of_opd ! (get ! refl)) refl (pointer_typed h.at) $
-    sets ! (agg ! (and_then ! (get ! refl) (and_then ! (get ! refl) (no_more !)))) refl (word_typed h.at h.alloc) $
+    sets ! (agg ! (and_then ! (get ! refl) (and_then ! (get ! refl) (no_more !))))
+    refl (word_typed h.at h.alloc) $
     returns ! (look_at ! 0 refl) $ free_all ! refl $
-    use0 𝓛 (‵ ((Struct Fields).own_val (h.at, (h.alloc, tt)) (w ∷ []))) (fields_made 𝓛 h.at h.alloc) $ fjoin ! $
+    use0 𝓛 (‵ ((Struct Fields).own_val (h.at, (h.alloc, tt)) (w ∷ []))) (fields_made 𝓛 h.at h.alloc)
+    $ fjoin ! $
     suffices ! _ (ends_at 𝓛 promise.ended stays clauses y w made (tt, tt) (tt, tt)) $ says ! refl $
     nothing ! $ nothing ! $ join ! $ nothing ! $ group ! 3 $ done !))

@@ -10,6 +10,9 @@ returns c =
     let text = c.args.self.now.text in
     let used = c.args.self.now.used in
     let response = c.args.response.now in
-    let size : length (printed_response response) ≡ 2 * length response + 1 = length-append (encode_lower response) (10 ∷ []) ∙ ap (λ n. n + 1) (length-encode_with _ response) in
-    put_behind text.items c.deref_mut.result.now c.print.new.line (printed_response response) _ _ used (used + 2 * length response + 1) text.len
+    let size : length (printed_response response) ≡ 2 * length response + 1 =
+    length-append (encode_lower response) (10 ∷ [])
+    ∙ ap (λ n. n + 1) (length-encode_with _ response) in
+    put_behind text.items c.deref_mut.result.now c.print.new.line (printed_response response) _ _
+    used (used + 2 * length response + 1) text.len
     c.deref_mut.ensures.value c.print.ensures (omega arith) (omega (arith, size)) (omega arith)

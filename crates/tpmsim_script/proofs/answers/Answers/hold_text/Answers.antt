@@ -8,5 +8,6 @@ returns c =
     let used = c.args.self.now.used in
     let line = c.args.text.now in
     let size : length (line ++ 10 ∷ []) ≡ length line + 1 = length-append line (10 ∷ []) in
-    put_behind text.items c.deref_mut.result.now c.print_text.new.line (line ++ 10 ∷ []) _ _ used (used + length line + 1) text.len
+    put_behind text.items c.deref_mut.result.now c.print_text.new.line (line ++ 10 ∷ []) _ _ used
+    (used + length line + 1) text.len
     c.deref_mut.ensures.value c.print_text.ensures (omega arith) (omega (arith, size)) (omega arith)

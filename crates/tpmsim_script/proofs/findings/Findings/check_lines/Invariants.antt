@@ -8,6 +8,8 @@ use Rattle.tpmsim_script.proofs.Reporting.{SoFar}
 use Rattle.tpmsim_script.proofs.findings.Findings.check_lines.Given as goal
 
 abbrev pub invariant-loop-number : goal.invariant-loop-number
-invariant-loop-number l = SoFar l.self.text.bytes.items l.self.first (waited_of l.checker) l.number l.rest
-    (l.fn.self.text.bytes.items ++ report_text l.fn.text) (option_or l.fn.self.first (first_number (script_faults l.fn.text)))
+invariant-loop-number l = SoFar l.self.text.bytes.items l.self.first (waited_of l.checker) l.number
+    l.rest
+    (l.fn.self.text.bytes.items ++ report_text l.fn.text)
+    (option_or l.fn.self.first (first_number (script_faults l.fn.text)))
     (length (lines_of l.fn.text))

@@ -12,5 +12,7 @@ pub returns-clause-did : goal.returns-clause-did
 returns-clause-did g c = λ cannot.
     let record_of = g.K.Keep.record_of in
     let device = state_of record_of c.execute_into.new.self in
-    cycled (playing_of record_of c.args.self.now) (outcome_step device c.execute_into.new.outcome) _ _ _ _ (c.execute_into.ensures.executes.exactly cannot)
-    c.trace.ensures.printed c.trace.ensures.cut_off (ap (playing_of record_of) c.trace.ensures.kept) c.trace.ensures.fault
+    cycled (playing_of record_of c.args.self.now) (outcome_step device c.execute_into.new.outcome) _
+    _ _ _ (c.execute_into.ensures.executes.exactly cannot)
+    c.trace.ensures.printed c.trace.ensures.cut_off (ap (playing_of record_of) c.trace.ensures.kept)
+    c.trace.ensures.fault

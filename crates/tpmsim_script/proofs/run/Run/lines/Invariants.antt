@@ -18,14 +18,26 @@ invariant-loop-number g l =
     let record_of = g.K.Keep.record_of in
     record {
       whole : g.K.Keep.can_refuse ≡ false → (new : Option (List ℕ)) (bad : Option ℕ)
-          → Plays (text_left (remaining (device_of l.reader)) l.self.lines) (printout (contents (device_of l.writer)) l.self.player.answers) new (playing_of record_of l.self.player) l.number bad
-          → Plays (text_left (remaining (device_of l.fn.reader)) l.fn.self.lines) (printout (contents (device_of l.fn.writer)) l.fn.self.player.answers) new (playing_of record_of l.fn.self.player) 1 bad;
+          → Plays (text_left (remaining (device_of l.reader)) l.self.lines)
+          (printout (contents (device_of l.writer)) l.self.player.answers) new
+          (playing_of record_of l.self.player) l.number bad
+          → Plays (text_left (remaining (device_of l.fn.reader)) l.fn.self.lines)
+          (printout (contents (device_of l.fn.writer)) l.fn.self.player.answers) new
+          (playing_of record_of l.fn.self.player) 1 bad;
       leads : g.K.Keep.can_refuse ≡ false → (new : Option (List ℕ))
-          → Leads (text_left (remaining (device_of l.reader)) l.self.lines) (printout (contents (device_of l.writer)) l.self.player.answers) (playing_of record_of l.self.player) l.number
-          (text_left (remaining (device_of l.fn.reader)) l.fn.self.lines) (printout (contents (device_of l.fn.writer)) l.fn.self.player.answers) (playing_of record_of l.fn.self.player) new;
+          → Leads (text_left (remaining (device_of l.reader)) l.self.lines)
+          (printout (contents (device_of l.writer)) l.self.player.answers)
+          (playing_of record_of l.self.player) l.number
+          (text_left (remaining (device_of l.fn.reader)) l.fn.self.lines)
+          (printout (contents (device_of l.fn.writer)) l.fn.self.player.answers)
+          (playing_of record_of l.fn.self.player) new;
       keeps : g.K.Keep.can_refuse ≡ false
-          → SoFar g.S.Saver.saves g.S.Saver.saves_change (text_left (remaining (device_of l.fn.reader)) l.fn.self.lines) (text_left (remaining (device_of l.reader)) l.self.lines)
-          (printout (contents (device_of l.fn.writer)) l.fn.self.player.answers) (printout (contents (device_of l.writer)) l.self.player.answers) l.number
-          (kept_playing (playing_of record_of l.fn.self.player) l.fn.saver) (kept_playing (playing_of record_of l.self.player) l.saver);
+          → SoFar g.S.Saver.saves g.S.Saver.saves_change
+          (text_left (remaining (device_of l.fn.reader)) l.fn.self.lines)
+          (text_left (remaining (device_of l.reader)) l.self.lines)
+          (printout (contents (device_of l.fn.writer)) l.fn.self.player.answers)
+          (printout (contents (device_of l.writer)) l.self.player.answers) l.number
+          (kept_playing (playing_of record_of l.fn.self.player) l.fn.saver)
+          (kept_playing (playing_of record_of l.self.player) l.saver);
       agrees : Agrees (remaining (device_of l.reader)) l.self.lines;
     }
