@@ -1,7 +1,7 @@
 -- A state that absorbed a message has the message's hash value, and its block begins with the
 -- message's last bytes.
-use Rattle.std.proofs.Common.{◌≡◌, ◌≢◌, inl, inr, ℕ, zero, suc, ◌+◌, ◌*◌, ◌%◌, ◌^◌, ◌<◌, Bool, true, false, if◌then◌else◌, List, [], ◌∷◌, ◌++◌, length, take, slice_index, slice_set, nat_eq, append-nil, append_assoc, length-append, refl, sym, ap, ◌∙◌, arith}
-use Rattle.std.proofs.lemmas.List.{length-set, take_all, take_more, take_more_set}
+use Rattle.std.proofs.Common.{◌≡◌, ◌≢◌, inl, inr, ℕ, zero, suc, ◌+◌, ◌*◌, ◌%◌, ◌^◌, ◌<◌, Bool, true, false, if◌then◌else◌, List, [], ◌∷◌, ◌++◌, length, take, drop, slice_index, slice_set, nat_eq, append-nil, append_assoc, length-append, refl, sym, ap, ◌∙◌, arith}
+use Rattle.std.proofs.lemmas.List.{length-set, nil_from_length, take-append-drop, take_all, take_more_set}
 use Rattle.std.specs.Int.{to_be_bytes, w32}
 use Rattle.std.proofs.lemmas.Bool.Decides.{eqb_tells}
 use Rattle.sha1.proofs.Absorbing as one
@@ -25,15 +25,21 @@ absorbs_in_parts state [] second = refl
 absorbs_in_parts state (byte ∷ first) second =
     absorbs_in_parts (byte_absorbed state byte) first second
 
--- Absorbing the first i + 1 bytes of a list is the same as absorbing the first i bytes, and then
--- byte i.
-pub absorbed_more : (state : HashState) (bytes : List ℕ) (i : ℕ) → i < length bytes
-    → state_after_bytes state (take (i + 1) bytes)
-    ≡ byte_absorbed (state_after_bytes state (take i bytes)) (slice_index bytes i)
+-- Absorbing the first bytes of a list and then the remaining bytes is the same as absorbing the
+-- list.
+pub absorbed_rest : (state next : HashState) (bytes : List ℕ) (count : ℕ)
+    → next ≡ state_after_bytes state (take count bytes)
+    → state_after_bytes next (drop count bytes) ≡ state_after_bytes state bytes
+absorbed_rest state next bytes count is =
+    ap (λ (now : HashState). state_after_bytes now (drop count bytes)) is
+    ∙ absorbs_in_parts state (take count bytes) (drop count bytes)
+    ∙ ap (state_after_bytes state) (take-append-drop count bytes)
+
+-- Absorbing no bytes leaves the state unchanged.
+pub absorbed_none : (state : HashState) (bytes : List ℕ) → length bytes ≡ 0
+    → state_after_bytes state bytes ≡ state
 unfolding state_after_bytes
-absorbed_more state bytes i within =
-    ap (state_after_bytes state) (take_more bytes i 0 within)
-    ∙ sym (absorbs_in_parts state (take i bytes) (slice_index bytes i ∷ []))
+absorbed_none state bytes none = rw (nil_from_length bytes none) refl
 
 -- ---- the state after a message
 

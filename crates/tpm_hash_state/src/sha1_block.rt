@@ -11,7 +11,9 @@ type Words = [u32; 5];
 pub(crate) fn compress(hash: Words, block: &[u8; 64]) -> Words
     ensures { result ≡ compress hash block.now }
 {
-    let [a, b, c, d, e] = after_rounds(hash, &scheduled(block));
+    let mut schedule = [0; 80];
+    fill_schedule(&mut schedule, block);
+    let [a, b, c, d, e] = after_rounds(hash, &schedule);
     [
         hash[0].wrapping_add(a),
         hash[1].wrapping_add(b),
@@ -21,26 +23,23 @@ pub(crate) fn compress(hash: Words, block: &[u8; 64]) -> Words
     ]
 }
 
-/// The 80 words of the message schedule.
-fn scheduled(block: &[u8; 64]) -> [u32; 80]
-    ensures { result ≡ schedule block.now 64 }
+/// Fills the array with the 80 words of the message schedule.
+fn fill_schedule(words: &mut [u32; 80], block: &[u8; 64])
+    ensures { words.new ≡ schedule block.now 64 }
 {
-    let mut words = loaded(block);
+    load_block(words, block);
     for t in 16..80 {
-        words[t] = next_word(&words, t);
+        words[t] = next_word(words, t);
     }
-    words
 }
 
-/// The first 16 words of the message schedule, followed by zeros.
-fn loaded(block: &[u8; 64]) -> [u32; 80]
-    ensures { take 16 result ≡ first_words block.now 16 }
+/// Writes the 16 words of the block to the start of the message schedule.
+fn load_block(words: &mut [u32; 80], block: &[u8; 64])
+    ensures { take 16 words.new ≡ first_words block.now 16 }
 {
-    let mut words = [0; 80];
     for t in 0..16 {
         words[t] = word_at(block, 4 * t);
     }
-    words
 }
 
 /// The word at this offset in the block.

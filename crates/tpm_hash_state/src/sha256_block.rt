@@ -1,6 +1,6 @@
 //! One block of SHA-256 (FIPS 180-4, 6.2.2).
 
-ghost use Rattle.std.specs.Prelude.{◌≡◌, ◌+◌, ◌<◌, ◌≤◌, slice_index, take};
+ghost use Rattle.std.specs.Prelude.{◌≡◌, ◌+◌, ◌<◌, ◌≤◌, take};
 ghost use Rattle.sha2.specs.Sha256.{big_sigma0, big_sigma1, ch, compress, first_words, maj, next_word, round, rounds, schedule, small_sigma0, small_sigma1, word_at};
 
 /// The eight words of a hash value, or the working variables of a round.
@@ -79,7 +79,9 @@ static ROUND_CONSTANTS: [u32; 64] = [
 pub(crate) fn compress(hash: Words, block: &[u8; 64]) -> Words
     ensures { result ≡ compress hash block.now }
 {
-    let [a, b, c, d, e, f, g, h] = after_rounds(hash, &scheduled(block));
+    let mut schedule = [0; 64];
+    fill_schedule(&mut schedule, block);
+    let [a, b, c, d, e, f, g, h] = after_rounds(hash, &schedule);
     [
         hash[0].wrapping_add(a),
         hash[1].wrapping_add(b),
@@ -92,26 +94,23 @@ pub(crate) fn compress(hash: Words, block: &[u8; 64]) -> Words
     ]
 }
 
-/// The 64 words of the message schedule.
-fn scheduled(block: &[u8; 64]) -> [u32; 64]
-    ensures { result ≡ schedule block.now 48 }
+/// Fills the array with the 64 words of the message schedule.
+fn fill_schedule(words: &mut [u32; 64], block: &[u8; 64])
+    ensures { words.new ≡ schedule block.now 48 }
 {
-    let mut words = loaded(block);
+    load_block(words, block);
     for t in 16..64 {
-        words[t] = next_word(&words, t);
+        words[t] = next_word(words, t);
     }
-    words
 }
 
-/// The first 16 words of the message schedule, followed by zeros.
-fn loaded(block: &[u8; 64]) -> [u32; 64]
-    ensures { take 16 result ≡ first_words block.now 16 }
+/// Writes the 16 words of the block to the start of the message schedule.
+fn load_block(words: &mut [u32; 64], block: &[u8; 64])
+    ensures { take 16 words.new ≡ first_words block.now 16 }
 {
-    let mut words = [0; 64];
     for t in 0..16 {
         words[t] = word_at(block, 4 * t);
     }
-    words
 }
 
 /// The word at this offset in the block.

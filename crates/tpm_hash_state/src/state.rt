@@ -1,8 +1,8 @@
 //! A hash in progress.
 
-ghost use Rattle.std.specs.Prelude.{◌≡◌, length};
+ghost use Rattle.std.specs.Prelude.{◌≡◌, ◌+◌, ◌%◌, ◌≤◌, length};
 ghost use Rattle.tpm_mac.specs.Digest.{digest_size};
-ghost use Rattle.tpm_hash_state.specs.State.{byte_absorbed, empty_state, state_after_bytes, state_alg, state_digest};
+ghost use Rattle.tpm_hash_state.specs.State.{empty_state, state_after_bytes, state_alg, state_digest};
 
 use crate::chaining::ChainingValue;
 use crate::digest::padding_start;
@@ -64,23 +64,30 @@ impl HashState {
         }
     }
 
-    /// Appends the bytes to the message.
+    /// Appends the bytes to the message, a block at a time.
     pub fn absorb(&mut self, bytes: &[u8])
         ensures { self.new ≡ state_after_bytes self.old bytes.now }
     {
-        for byte in bytes {
-            self.absorb_byte(*byte);
+        let mut rest = bytes;
+        while !rest.is_empty() {
+            let free = BLOCK_SIZE - (self.length % 64) as usize;
+            let count = rest.len().min(free);
+            self.absorb_piece(&rest[..count]);
+            rest = &rest[count..];
         }
     }
 
-    /// Appends one byte to the message. If the byte fills the block, compresses the block.
-    fn absorb_byte(&mut self, byte: u8)
-        ensures { self.new ≡ byte_absorbed self.old byte }
+    /// Appends bytes to the message. They must fit into the rest of the block. If they fill the
+    /// block, compresses it.
+    fn absorb_piece(&mut self, piece: &[u8])
+        requires { self.old.length % 64 + length piece.now ≤ 64 }
+        ensures { self.new ≡ state_after_bytes self.old piece.now }
     {
-        let place = (self.length % 64) as usize;
-        self.block[place] = byte;
-        self.length = self.length.wrapping_add(1);
-        if place + 1 == BLOCK_SIZE {
+        let start = (self.length % 64) as usize;
+        let end = start + piece.len();
+        self.block[start..end].copy_from_slice(piece);
+        self.length = self.length.wrapping_add(piece.len() as u64);
+        if end == BLOCK_SIZE {
             self.chaining.compress(&self.block);
         }
     }

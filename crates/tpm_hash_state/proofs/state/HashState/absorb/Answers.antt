@@ -1,17 +1,18 @@
-use Rattle.std.proofs.Common.{◌∙◌, ap, arith, refl, slice_index, sym}
-use Rattle.tpm_hash_state.proofs.Absorbing.{absorbed_more}
+use Rattle.std.proofs.Common.{◌∙◌, ap, rules, sym}
+use Rattle.std.proofs.lemmas.List.{take_rest}
+use Rattle.tpm_hash_state.proofs.Absorbing.{absorbed_none, absorbed_rest}
 use Rattle.tpm_hash_state.proofs.state.HashState.absorb.Goals as goal
-use Rattle.tpm_hash_state.specs.State.{byte_absorbed, state_after_bytes}
-use Rattle.tpm_hash_state.specs.declared.state.HashState.{HashState}
+use Rattle.tpm_hash_state.specs.State.{state_after_bytes}
 
-pub loop-byte-init : goal.loop-byte-init
-unfolding state_after_bytes
-loop-byte-init c = refl
+pub loop-rest-preserved : goal.loop-rest-preserved
+loop-rest-preserved c =
+    let rest = c.loop-rest.rest.now in
+    let count = c.min-count.result in
+    ap (state_after_bytes c.absorb_piece.new.self) (take_rest rest count)
+    ∙ absorbed_rest c.loop-rest.self c.absorb_piece.new.self rest count c.absorb_piece.ensures
+    ∙ c.loop-rest.invariant
 
-pub loop-byte-preserved : goal.loop-byte-preserved
-loop-byte-preserved c =
-    let i = c.loop-byte.byte-index in
-    let bytes = c.args.bytes.now in
-    c.absorb_byte.ensures
-    ∙ ap (λ (state : HashState). byte_absorbed state (slice_index bytes i)) c.loop-byte.invariant
-    ∙ sym (absorbed_more c.args.self.now bytes i (omega arith))
+pub returns : goal.returns
+returns c =
+    sym (absorbed_none c.loop-rest.self c.loop-rest.rest.now (search rules))
+    ∙ c.loop-rest.invariant

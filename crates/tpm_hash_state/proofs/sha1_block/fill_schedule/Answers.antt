@@ -1,11 +1,10 @@
-use Rattle.std.proofs.Common.{rules, ◌≡◌, arith, sym, ◌∙◌}
-use Rattle.std.proofs.lemmas.List.{take_all}
-use Rattle.std.proofs.lemmas.List.{length-set}
+use Rattle.std.proofs.Common.{◌≡◌, ◌∙◌, arith, rules, sym}
+use Rattle.std.proofs.lemmas.List.{length-set, take_all}
 use Rattle.tpm_hash_state.proofs.Words1.{schedule_more, schedule_none}
-use Rattle.tpm_hash_state.proofs.sha1_block.scheduled.Goals as goal
+use Rattle.tpm_hash_state.proofs.sha1_block.fill_schedule.Goals as goal
 
 pub loop-t-init : goal.loop-t-init
-loop-t-init c = (search rules, schedule_none _ c.args.block.now c.loaded-words.ensures)
+loop-t-init c = (search rules, schedule_none _ c.args.block.now c.load_block.ensures)
 
 pub loop-t-preserved : goal.loop-t-preserved
 loop-t-preserved c =

@@ -1,6 +1,6 @@
-use Rattle.std.proofs.Common.{◌≡◌, length, ◌-◌, take}
+use Rattle.std.proofs.Common.{◌≡◌, ◌-◌, length, take}
 use Rattle.sha1.specs.Sha1.{schedule}
-use Rattle.tpm_hash_state.proofs.sha1_block.scheduled.Given as goal
+use Rattle.tpm_hash_state.proofs.sha1_block.fill_schedule.Given as goal
 
 -- The words before this index are the first words of the schedule.
 abbrev pub invariant-loop-t : goal.invariant-loop-t

@@ -1,7 +1,0 @@
-use Rattle.std.proofs.Common.{◌≡◌, length, take}
-use Rattle.sha1.specs.Sha1.{first_words}
-use Rattle.tpm_hash_state.proofs.sha1_block.loaded.Given as goal
-
--- The words before this index are the first words of the block.
-abbrev pub invariant-loop-t : goal.invariant-loop-t
-invariant-loop-t l = (length l.words ≡ 80) × (take l.t l.words ≡ first_words l.block l.t)
