@@ -7,3 +7,4 @@ pub mod Runs
 pub mod Loaded
 pub mod Sequenced
 pub mod SentEffect
+pub mod Passwords

@@ -99,7 +99,7 @@ pub record Named : Type 0 where
 abbrev pub named_of : NamedSequence → Named
 named_of named = record {
   slot = named.slot;
-  object = named.object;
+  object = named.object.now;
   entry = entry_of named.entry;
   parameters = named.parameters.now;
 }

@@ -1,17 +1,17 @@
 //! Executes one event, with or without the layer.
 
-ghost use Rattle.std.specs.Prelude.{◌≡◌, Ok, Some, List, ℕ, option_map, true, false};
+ghost use Rattle.std.specs.Prelude.{◌≡◌, Ok, Some, List, ℕ, true, false};
 ghost use Rattle.tpm_types.specs.Locality.{locality_number};
-ghost use Rattle.tpm_step.specs.step.Events.{Given, plain_event};
+ghost use Rattle.tpm_step.specs.step.Events.{plain_event};
 ghost use Rattle.tpm_machine.specs.State.{state_of};
 ghost use Rattle.tpm_completion.specs.Completed.{completed_effect};
-ghost use Rattle.tpm_completion.specs.Execution.{AsksFirst, LoadsOrSends, Completes, CompletesIf, Loads, Passes, Sends, asked_after, opened_after, seen_of, sent_after};
+ghost use Rattle.tpm_completion.specs.Execution.{AsksFirst, LoadsOrSends, Completes, CompletesIf, Loads, Passes, Sends, asked_after, effect_with_reply, opened_after, reply_after, seen_of, sent_after};
 
 use crate::answer::answer;
 use crate::codes::{MEMORY, OBJECT_MEMORY, SUCCESS};
 use crate::completion::Completion;
 use crate::loading::context_asked;
-use crate::sending::Sent;
+use crate::sending::{Sent, may_send_for};
 use tpm_containers::SlotFault;
 use tpm_machine::Machine;
 use tpm_object::Object;
@@ -150,13 +150,28 @@ fn send_or_answer<K: Keep>(
         (sent_after (seen_of K.record_of machine.old layer.old outcome.old) buffer.now)
         (seen_of K.record_of machine.new layer.new outcome.new) }
 {
+    if !may_send_for(buffer) {
+        return reply(machine, layer, buffer, outcome);
+    }
     match layer.sent_for(machine.keep(), buffer, outcome.response.as_slice()) {
         Some(sent) => send(machine, layer, &sent, locality, random, outcome),
-        None => {
-            let was_told = outcome.row.check == 0;
-            layer.reply(machine.keep(), buffer, was_told, &mut outcome.response);
-        }
+        None => reply(machine, layer, buffer, outcome),
     }
+}
+
+/// Answers a command for which the layer sends nothing to the device.
+fn reply<K: Keep>(
+    machine: &Machine<K>,
+    layer: &mut Completion,
+    buffer: &[u8],
+    outcome: &mut Outcome,
+)
+    ensures { seen_of K.record_of machine.now layer.new outcome.new
+        ≡ effect_with_reply (seen_of K.record_of machine.now layer.old outcome.old)
+        (reply_after (seen_of K.record_of machine.now layer.old outcome.old) buffer.now) }
+{
+    let was_told = outcome.row.check == 0;
+    layer.reply(machine.keep(), buffer, was_told, &mut outcome.response);
 }
 
 /// Sends a command to the device, and answers the client's command afterwards. The outcome's row

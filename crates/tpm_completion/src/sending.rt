@@ -2,10 +2,13 @@
 //! for TPM2_HMAC_Start, TPM2_PCR_Extend for TPM2_EventSequenceComplete, and TPM2_GetRandom of no
 //! bytes for TPM2_SequenceUpdate and TPM2_SequenceComplete with a session.
 
-ghost use Rattle.std.specs.Prelude.{◌≡◌, ◌≤◌, ◌++◌, length};
+ghost use Rattle.std.specs.Prelude.{◌≡◌, ◌≤◌, ◌++◌, IfOk, List, None, ℕ, false, length, true};
+ghost use Rattle.tpm_auth.specs.Entries.{is_password};
+ghost use Rattle.tpm_record.specs.Record.{Record};
 ghost use Rattle.tpm_step.specs.step.Entries.{password_answer};
-ghost use Rattle.tpm_completion.specs.Sending.{complete_sent, random_sent, sent_answer, sent_by, sent_for, sent_reply, unless_password, update_sent, work_done};
+ghost use Rattle.tpm_completion.specs.Sending.{accepted_only, complete_sent, random_sent, sent_answer, sent_by, sent_for, sent_reply, unless_password, update_sent, work_done};
 ghost use Rattle.tpm_completion.specs.SequenceRows.{named_in, named_of};
+ghost use Rattle.tpm_completion.specs.declared.completion.Completion.{Completion};
 
 use crate::answer::{answer_authorized, is_refusal};
 use crate::authorizing::is_password;
@@ -20,11 +23,11 @@ use crate::sequence_rows::{NamedSequence, PASSWORD_ANSWER};
 use crate::sequences::sequence_handle;
 use crate::session_entry::{Covered, EntryAnswer, entry_answered, first_answer, hmac_sent};
 use crate::testing::Body;
-use tpm_bytes::Sink;
+use tpm_bytes::{Cursor, Short, Sink};
 use tpm_record::Keep;
 use tpm_sequence::SequenceObject;
 use tpm_step::Response;
-use tpm_types::{Refused, trimmed};
+use tpm_types::{Handle, Refused, trimmed};
 
 /// What the layer does after the device accepted the command that the layer sent.
 #[derive(Drop)]
@@ -68,6 +71,59 @@ impl Sent {
         let mut area = self.answer_to_first(parameters, response);
         area.append(&PASSWORD_ANSWER);
         area
+    }
+}
+
+/// The session that the first entry of a command with one handle names. The bytes begin with the
+/// handle. Fails if they are too short.
+fn first_session(bytes: &[u8]) -> Result<u32, Short>
+    ensures { IfOk result (λ session. (layer : Completion)
+        → IfOk (named_in layer bytes.now) (λ named. named.entry.session.number ≡ session)) }
+{
+    let mut text = Cursor::new(bytes);
+    let _handle = text.u32()?;
+    let size = text.u32()?;
+    let area = text.take(size as usize)?;
+    Cursor::new(area).u32()
+}
+
+/// Whether the first entry of a command with one handle contains a password. The bytes begin with
+/// the handle.
+#[tactic(auto, using(crate::proofs::Passwords::by_password))]
+fn has_password(bytes: &[u8]) -> bool
+    ensures { result ≡ true → (layer : Completion)
+        → IfOk (named_in layer bytes.now) (λ named. is_password named.entry ≡ true) }
+{
+    match first_session(bytes) {
+        Ok(session) => session == Handle::PASSWORD.number,
+        Err(_) => false,
+    }
+}
+
+/// Whether the layer may send a command to the device for a client's command with sessions. If not,
+/// `sent_by`, which is slower, would also return no command.
+#[tactic(auto, using(crate::proofs::Passwords::none_sent))]
+fn may_send(command: &PlainCommand) -> bool
+    ensures { result ≡ false → (r : Record) (layer : Completion) → accepted_only
+        (sent_by r layer command.now.code command.now.parameters.now) ≡ None }
+{
+    match command.code {
+        HMAC_START | EVENT_SEQUENCE_COMPLETE => true,
+        SEQUENCE_UPDATE | SEQUENCE_COMPLETE => !has_password(command.parameters),
+        _ => false,
+    }
+}
+
+/// Whether the layer may send a command to the device for the client's command in a buffer. If not,
+/// `sent_for`, which is slower, would also return no command.
+#[tactic(auto, using(crate::proofs::Passwords::none_read))]
+pub(crate) fn may_send_for(buffer: &[u8]) -> bool
+    ensures { result ≡ false → (r : Record) (layer : Completion) (response : List ℕ)
+        → sent_for r layer buffer.now response ≡ None }
+{
+    match PlainCommand::read_authorized(buffer) {
+        Ok(command) => may_send(&command),
+        Err(_) => false,
     }
 }
 

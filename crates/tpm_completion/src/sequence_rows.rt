@@ -2,7 +2,7 @@
 //! TPM2_SequenceUpdate and TPM2_SequenceComplete with a password. [`sending`](crate::sending) uses
 //! the same functions if the commands have a session.
 
-ghost use Rattle.std.specs.Prelude.{◌≡◌, ◌≤◌, IfOk, IfSome, length};
+ghost use Rattle.std.specs.Prelude.{◌≡◌, ◌≤◌, IfOk, length};
 ghost use Rattle.tpm_bytes.specs.Reading.{Gives};
 ghost use Rattle.tpm_completion.specs.SequenceRows.{RepliesBy, complete_row, completed_in, completion_text, full_refused, hash_start_row, mode_refused, named_in, named_of, sequence_in, started_sequence, update_row, updated_in};
 
@@ -60,7 +60,7 @@ fn started_sequence(hash: Option<HashAlg>) -> Sequence
 #[derive(Drop)]
 pub struct NamedSequence<'a> {
     pub slot: u8,
-    pub object: SequenceObject,
+    pub object: &'a SequenceObject,
     pub entry: AuthEntry<'a>,
     pub parameters: &'a [u8],
 }
@@ -74,7 +74,7 @@ impl NamedSequence<'_> {
         let mut ahead = Cursor::new(self.parameters);
         let data = parameter(1, read_buffer(&mut ahead, DATA_LIMIT))?;
         end(&ahead)?;
-        let mut object = self.object;
+        let mut object = *self.object;
         object.update(data);
         Ok(object)
     }
@@ -88,7 +88,7 @@ impl NamedSequence<'_> {
         let data = parameter(1, read_buffer(&mut ahead, DATA_LIMIT))?;
         let asked = parameter(2, read_hierarchy(&mut ahead))?;
         end(&ahead)?;
-        let mut object = self.object;
+        let mut object = *self.object;
         object.update(data);
         match completion_text(hierarchies, asked, &object.sequence) {
             Some(body) => Ok(body),
@@ -149,7 +149,7 @@ impl Completion {
     /// The sequence object that the only handle of a command names, and the only entry, which is
     /// not yet compared.
     #[tactic(auto, unfolding(crate::specs::SequenceRows::named_in))]
-    pub(crate) fn named_in<'a>(&self, bytes: &'a [u8]) -> Result<NamedSequence<'a>, Refused>
+    pub(crate) fn named_in<'a>(&'a self, bytes: &'a [u8]) -> Result<NamedSequence<'a>, Refused>
         ensures value { Gives named_of (named_in self.now bytes.now) result }
         ensures small { IfOk result (λ named. (length named.entry.nonce.now ≤ 32)
             × (length named.entry.hmac.now ≤ 32)) }
@@ -164,7 +164,7 @@ impl Completion {
         let entry = only_entry(entries.as_slice())?;
         Ok(NamedSequence {
             slot,
-            object: *object,
+            object,
             entry,
             parameters: text.rest(),
         })
@@ -173,7 +173,7 @@ impl Completion {
     /// The sequence object that the only handle of a command names, authorized by the password in
     /// the only entry.
     #[tactic(auto, unfolding(crate::specs::SequenceRows::sequence_in))]
-    fn sequence_in<'a>(&self, bytes: &'a [u8]) -> Result<NamedSequence<'a>, Refused>
+    fn sequence_in<'a>(&'a self, bytes: &'a [u8]) -> Result<NamedSequence<'a>, Refused>
         ensures { Gives named_of (sequence_in self.now bytes.now) result }
     {
         let named = self.named_in(bytes)?;
@@ -190,8 +190,8 @@ impl Completion {
             text.new.items }
     {
         let named = self.sequence_in(bytes)?;
-        let object = named.updated()?;
-        self.put_sequence(named.slot, object);
+        let (slot, object) = (named.slot, named.updated()?);
+        self.put_sequence(slot, object);
         answer_authorized(&[], &[], &PASSWORD_ANSWER, text);
         Ok(())
     }
@@ -208,8 +208,8 @@ impl Completion {
             self.new text.new.items }
     {
         let named = self.sequence_in(bytes)?;
-        let body = named.completed(hierarchies)?;
-        self.remove_sequence(named.slot);
+        let (slot, body) = (named.slot, named.completed(hierarchies)?);
+        self.remove_sequence(slot);
         answer_authorized(&[], body.as_slice(), &PASSWORD_ANSWER, text);
         Ok(())
     }
