@@ -146,10 +146,10 @@ fn encrypting_nonce<'a, K: Keep>(keep: &'a K, entries: &[AuthEntry]) -> &'a [u8]
 
 /// The other entries whose session nonces are covered by an entry's HMAC: if the entry is the first
 /// one and authorizes a handle, all later entries; otherwise no entries.
-fn other_entries<'a, 'b>(command: &'a Command<'b>, number: u8) -> &'a [AuthEntry<'b>]
+fn other_entries<'a, 'b>(command: &Command<'a, 'b>, number: u8) -> &'a [AuthEntry<'b>]
     ensures { map entry_of result.now ≡ other_entries (whole_of command.now) number }
 {
-    let entries = command.entries.as_slice();
+    let entries = command.entries;
     let authorizes = number == 1 && command.code.authorized_handles() > 0;
     let first = if authorizes {
         entries.len().min(1)

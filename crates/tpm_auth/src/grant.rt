@@ -10,16 +10,15 @@ ghost use Rattle.tpm_types_command.specs.Command.{whole_of};
 ghost use Rattle.tpm_types.specs.Handle.{session_kind};
 ghost use Rattle.tpm_types.specs.Locality.{locality_number};
 ghost use Rattle.tpm_types.specs.declared.handle.SessionKind.TheVariants as kind;
-ghost use Rattle.tpm_record.specs.Record.{Record};
 ghost use Rattle.tpm_record.specs.Entity.{name_of};
 ghost use Rattle.tpm_record.specs.Resolved.{AreFound, IsFound};
-ghost use Rattle.tpm_auth.specs.Grant.{AreGranted, authorize, authorized, grant, granted_by, grants_pass, password_grant};
+ghost use Rattle.tpm_auth.specs.Grant.{authorize, authorized, grant, granted_by, grants_pass, password_grant};
 ghost use Rattle.tpm_auth.specs.SessionGrant.{hashed_command};
 ghost use Rattle.tpm_auth.specs.Entries.{session_of};
 ghost use Rattle.tpm_auth.specs.Used.{AreSessions, IsResolved, IsUsed, used_handle};
 
 use crate::cache::{Cache, LatestName};
-use crate::comparison::{check_of, failure, is_locked_out, is_password_of, lockout_refusal};
+use crate::comparison::{failure, is_locked_out, is_password_of, lockout_refusal};
 use crate::entries::{any_decrypts, check_entries, reference_of};
 use crate::session_grant::{Grant, check_session};
 use crate::used::{Sent, SentEntry, SessionEntry, used_at};
@@ -213,7 +212,7 @@ fn check_each<K: Keep>(
     let hashed = HashedParameters::Command(code, names.as_slice(), command.parameters);
     let mut hashes = ParameterHashes::new(hashed);
     let mut grants = ArrayVec::new();
-    let entries = command.entries.as_slice();
+    let entries = command.entries;
     for place in 0..entries.len() {
         let by = &SentEntry {
             place,
@@ -253,7 +252,7 @@ fn check_all<K: Keep>(
     ensures { Gives granted_by (grants_pass (K.record_of keep.now) (whole_of sent.now.command.now)
         (locality_number sent.now.locality) [] (whole_of sent.now.command.now).entries) result }
 {
-    match sent.command.entries.as_slice() {
+    match sent.command.entries {
         [] => Ok(Grants {
             grants: ArrayVec::new(),
         }),
@@ -305,7 +304,7 @@ pub fn authorize_sent<K: Keep>(keep: &K, sent: &Sent, cache: &mut Cache) -> Resu
         (locality_number sent.now.locality)) result }
 {
     let command = sent.command;
-    let entries = command.entries.as_slice();
+    let entries = command.entries;
     let mut sessions = ArrayVec::new();
     check_entries(keep, command.code, entries, &mut sessions).map_err(|rc| Refused::by(
         Check::Entries,

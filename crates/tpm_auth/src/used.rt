@@ -17,8 +17,8 @@ use tpm_types_command::{AuthEntry, Command};
 
 /// A command with its locality and the entities of its handles.
 #[derive(Clone, Copy)]
-pub struct Sent<'a, 'b> {
-    pub command: &'a Command<'b>,
+pub struct Sent<'a, 'b, 'c> {
+    pub command: &'a Command<'b, 'c>,
     /// The entity of each handle, as found in the device's state.
     pub entities: &'a [Resolved<'a>],
     pub locality: Locality,
@@ -64,7 +64,7 @@ impl Granted<'_> {
 }
 
 /// The handles of a command that need authorization, with their entities.
-fn authorized<'a>(sent: &Sent<'a, '_>) -> &'a [Resolved<'a>]
+fn authorized<'a>(sent: &Sent<'a, '_, '_>) -> &'a [Resolved<'a>]
     requires { length sent.now.entities.now ≡ length (whole_of sent.now.command.now).handles }
     ensures { result.now ≡ take (authorized_handles (whole_of sent.now.command.now).code)
         sent.now.entities.now }
@@ -75,7 +75,7 @@ fn authorized<'a>(sent: &Sent<'a, '_>) -> &'a [Resolved<'a>]
 /// The handle that the entry at a position has to authorize, or None if that entry has nothing to
 /// authorize.
 #[tactic(auto, using(crate::proofs::Resolving::used_in, crate::proofs::Resolving::nothing_in))]
-pub fn used_at<'a>(sent: &Sent<'a, '_>, place: usize) -> Option<Resolved<'a>>
+pub fn used_at<'a>(sent: &Sent<'a, '_, '_>, place: usize) -> Option<Resolved<'a>>
     requires { length sent.now.entities.now ≡ length (whole_of sent.now.command.now).handles }
     ensures { (r : Record) → IsResolved r sent.now
         → IsUsedFor r (slice_get (authorized (whole_of sent.now.command.now)) place) result }

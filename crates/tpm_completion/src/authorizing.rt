@@ -12,7 +12,7 @@ use arrayvec::ArrayVec;
 use tpm_bytes::Cursor;
 use tpm_types::{Check, Handle, Refused, ResponseCode};
 use tpm_types_command::AuthEntry;
-use tpm_types_command::auth_area::AuthArea;
+use tpm_types_command::auth_area::read_area;
 
 /// The entries of an authorization area.
 pub type Entries<'a> = ArrayVec<AuthEntry<'a>, 3>;
@@ -70,8 +70,9 @@ pub fn read_entries<'a>(text: &mut Cursor<'a>) -> Result<Entries<'a>, Refused>
     ensures { Reads (λ entries. map entry_of entries.items) (entries_at text.old) text.old
         result text.new }
 {
-    match AuthArea::read(text) {
-        Ok(area) => Ok(area.entries),
+    let mut entries = ArrayVec::new();
+    match read_area(text, &mut entries) {
+        Ok(()) => Ok(entries),
         Err(rc) => Err(Refused::by(Check::Entries, rc)),
     }
 }

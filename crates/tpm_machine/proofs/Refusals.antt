@@ -13,7 +13,7 @@ use Rattle.tpm_step.specs.step.Answer.{refusal_text}
 use Rattle.tpm_step.specs.step.Events.{PlainEvent, Given, Cycled, Placed}
 use Rattle.tpm_step.specs.step.General.{in_command}
 use Rattle.tpm_step.specs.step.Safe.{IsHarmless}
-use Rattle.tpm_step.specs.step.Step.{Accepted, Answers, RefusesOrWantsMemory, Stepped, Steps, refusal_step, acceptance_in, stepped_of, counted_in, refusal_without_memory, answer_without_memory, step, step_where, success_step}
+use Rattle.tpm_step.specs.step.Step.{Accepted, Answers, RefusesOrWantsMemory, Stepped, Steps, refusal_step, acceptance_in, stepped_of, counted_in, refusal_without_memory, answer_where, step, step_where, success_step}
 use Rattle.tpm_step.specs.declared.refused_command.RefusedCommand.{RefusedCommand}
 
 -- If the row reports a failed check, the response is the ten bytes of a refusal by this check. The
@@ -35,11 +35,11 @@ success_without_memory_leaves : (grows : Bool) (r : Record) (random : List ℕ) 
 success_without_memory_leaves true r random a refused = (refl, memory_refusal, refl, refl, refl)
 success_without_memory_leaves false r random a refused = absurd (refused refl)
 
-answer_without_memory_leaves : (r : Record) (random : List ℕ) (a : Result Accepted RefusedCommand)
-    → LeavesRecord r (answer_without_memory r random a)
-answer_without_memory_leaves r random (Ok a) refused =
+leaves_without_memory : (r : Record) (random : List ℕ) (a : Result Accepted RefusedCommand)
+    → LeavesRecord r (answer_where true r random a)
+leaves_without_memory r random (Ok a) refused =
     success_without_memory_leaves (shape_of a.command.code).grows r random a refused
-answer_without_memory_leaves r random (Err e) refused = (refl, e.refused, refl, refl, refl)
+leaves_without_memory r random (Err e) refused = (refl, e.refused, refl, refl, refl)
 
 step_harmless : (refused : Bool) (r : Record) (event : PlainEvent)
     → IsHarmless r event (step_where refused r event)
@@ -49,7 +49,7 @@ step_harmless false r (Given buffer locality elapsed random) =
 step_harmless false r Cycled = λ refused. absurd (refused refl)
 step_harmless false r (Placed object) = λ refused. absurd (refused refl)
 step_harmless true r (Given buffer locality elapsed random) =
-    answer_without_memory_leaves (after_tick r elapsed) random
+    leaves_without_memory (after_tick r elapsed) random
     (acceptance_in (after_tick r elapsed) buffer locality random)
 step_harmless true r Cycled = λ refused. absurd (refused refl)
 step_harmless true r (Placed object) = λ refused. absurd (refused refl)

@@ -1,7 +1,7 @@
 //! Decodes a command and checks whether its entries authorize it.
 
 ghost use Rattle.tpm_types.specs.Limits.{buffer_limit};
-ghost use Rattle.std.specs.Prelude.{◌≡◌, ◌≤◌, ℕ, List, Ok, Err, IfErr, IfOk, length};
+ghost use Rattle.std.specs.Prelude.{◌≡◌, ◌≤◌, ℕ, List, [], Ok, Err, IfErr, IfOk, length};
 ghost use Rattle.tpm_auth.specs.Grant.{authorize};
 ghost use Rattle.tpm_machine.specs.Authorization.{command_in, grants_in};
 ghost use Rattle.tpm_types.specs.Locality.{locality_number};
@@ -14,25 +14,28 @@ use tpm_auth::{Cache, Grants, Sent, authorize_sent};
 use tpm_record::Keep;
 use tpm_step::RefusedCommand;
 use tpm_types::Locality;
-use tpm_types_command::Command;
+use tpm_types_command::{AuthEntry, Command};
 
 /// A command that passed the general checks, and what its entries authorize. It is made once, and
 /// passed to the command's row and to the response.
 #[derive(Drop)]
-pub struct Authorization<'a> {
-    pub command: Command<'a>,
+pub struct Authorization<'a, 'b> {
+    pub command: Command<'a, 'b>,
     pub grants: Grants,
 }
 
-/// Decodes a command's buffer, and checks whether the command's entries authorize it. Returns the
-/// refusal of the first check that fails.
+/// Decodes a command's buffer, and checks whether the command's entries authorize it. The command
+/// borrows its entries from `area`, which must be empty. Returns the refusal of the first check that
+/// fails.
 #[tactic(auto, unfolding(tpm_step::specs::step::Step::acceptance_in, tpm_step::specs::step::Step::acceptance))]
-pub fn authorize_command<'a, K: Keep>(
+pub fn authorize_command<'a, 'b, K: Keep>(
     keep: &K,
-    buffer: &'a [u8],
+    buffer: &'b [u8],
     locality: Locality,
     cache: &mut Cache,
-) -> Result<Authorization<'a>, RefusedCommand>
+    area: &'a mut ArrayVec<AuthEntry<'b>, 3>,
+) -> Result<Authorization<'a, 'b>, RefusedCommand>
+    requires { area.old.items ≡ [] }
     ensures decoded { IfOk result (λ authorization. general (K.record_of keep.now) buffer.now
         ≡ Ok (command_in authorization)) }
     ensures granted { IfOk result (λ authorization. authorize (K.record_of keep.now)
@@ -45,7 +48,7 @@ pub fn authorize_command<'a, K: Keep>(
         ≡ Err refusal) }
 {
     let mut entities = ArrayVec::new();
-    let command = decode(keep, buffer, &mut entities)?;
+    let command = decode(keep, buffer, area, &mut entities)?;
     let sent = &Sent {
         command: &command,
         entities: entities.as_slice(),

@@ -17,7 +17,7 @@ use tpm_commands::{CommandCode, HandleRule};
 use tpm_record::{Keep, Resolved, absence_rc, resolve};
 use tpm_step::RefusedCommand;
 use tpm_types::{Check, Handle, Rc, Refused, ResponseCode};
-use tpm_types_command::{Command, Header, HeaderFault, Tag, read_sessions};
+use tpm_types_command::{AuthEntry, Command, Header, HeaderFault, Tag, read_sessions};
 
 fn header_check(fault: HeaderFault) -> Check
     ensures { result ≡ header_check fault }
@@ -121,13 +121,15 @@ fn read_handles<'k, K: Keep>(
 /// Decodes the bytes after a command's header, or returns the refusal of the first check that
 /// fails.
 #[tactic(auto, unfolding(tpm_step::specs::step::General::body_of))]
-fn decode_body<'a, 'k, K: Keep>(
+fn decode_body<'a, 'b, 'k, K: Keep>(
     keep: &'k K,
     header: Header,
-    mut text: Cursor<'a>,
+    mut text: Cursor<'b>,
+    area: &'a mut ArrayVec<AuthEntry<'b>, 3>,
     entities: &mut ArrayVec<Resolved<'k>, 3>,
-) -> Result<Command<'a>, RefusedCommand>
-    requires { entities.old.items ≡ [] }
+) -> Result<Command<'a, 'b>, RefusedCommand>
+    requires area { area.old.items ≡ [] }
+    requires entities { entities.old.items ≡ [] }
     ensures decoded { Gives whole_of (in_command header.code
         (body_of (K.record_of keep.now) header text.entry)) result }
     ensures found { IfOk result (λ command. AreFound (K.record_of keep.now) entities.new.items
@@ -146,11 +148,11 @@ fn decode_body<'a, 'k, K: Keep>(
     if let Err(refused) = check_tag(code, header.tag) {
         return Err(RefusedCommand::of(code, refused));
     }
-    match read_sessions(&mut text, header.tag) {
-        Ok(entries) => Ok(Command {
+    match read_sessions(&mut text, header.tag, area) {
+        Ok(()) => Ok(Command {
             code,
             handles,
-            entries,
+            entries: area.as_slice(),
             parameters: text.rest(),
         }),
         Err(rc) => Err(refusal_by(code, Check::Entries, rc)),
@@ -159,12 +161,14 @@ fn decode_body<'a, 'k, K: Keep>(
 
 #[inline(always)]
 #[tactic(auto, unfolding(tpm_step::specs::step::General::general))]
-fn decode_whole<'a, 'k, K: Keep>(
+fn decode_whole<'a, 'b, 'k, K: Keep>(
     keep: &'k K,
-    buffer: &'a [u8],
+    buffer: &'b [u8],
+    area: &'a mut ArrayVec<AuthEntry<'b>, 3>,
     entities: &mut ArrayVec<Resolved<'k>, 3>,
-) -> Result<Command<'a>, RefusedCommand>
-    requires { entities.old.items ≡ [] }
+) -> Result<Command<'a, 'b>, RefusedCommand>
+    requires area { area.old.items ≡ [] }
+    requires entities { entities.old.items ≡ [] }
     ensures decoded { Gives whole_of (general (K.record_of keep.now) buffer.now) result }
     ensures found { IfOk result (λ command. AreFound (K.record_of keep.now) entities.new.items
         (whole_of command).handles) }
@@ -172,20 +176,23 @@ fn decode_whole<'a, 'k, K: Keep>(
 {
     let mut text = Cursor::new(buffer);
     match Header::read(&mut text) {
-        Ok(header) => decode_body(keep, header, text, entities),
+        Ok(header) => decode_body(keep, header, text, area, entities),
         Err(fault) => Err(header_refusal(fault)),
     }
 }
 
-/// Decodes a command's buffer, or returns the refusal of the first general check that fails. Adds
-/// the entities of the command's handles, each of which is looked up once.
+/// Decodes a command's buffer, or returns the refusal of the first general check that fails. The
+/// command borrows its entries from `area`, which must be empty. Adds the entities of the command's
+/// handles, each of which is looked up once.
 #[tactic(auto, using(crate::proofs::DecodingLaws::decodes_reads, crate::proofs::DecodingLaws::decodes_short))]
-pub fn decode<'a, 'k, K: Keep>(
+pub fn decode<'a, 'b, 'k, K: Keep>(
     keep: &'k K,
-    buffer: &'a [u8],
+    buffer: &'b [u8],
+    area: &'a mut ArrayVec<AuthEntry<'b>, 3>,
     entities: &mut ArrayVec<Resolved<'k>, 3>,
-) -> Result<Command<'a>, RefusedCommand>
-    requires { entities.old.items ≡ [] }
+) -> Result<Command<'a, 'b>, RefusedCommand>
+    requires area { area.old.items ≡ [] }
+    requires entities { entities.old.items ≡ [] }
     ensures decoded { Gives whole_of (general (K.record_of keep.now) buffer.now) result }
     ensures found { IfOk result (λ command. AreFound (K.record_of keep.now) entities.new.items
         (whole_of command).handles) }
@@ -194,5 +201,5 @@ pub fn decode<'a, 'k, K: Keep>(
     ensures read { IfOk result (λ command. command_at buffer.now ≡ Ok (whole_of command, [])) }
     ensures short { IfOk result (λ command. length command.parameters.now ≤ buffer_limit) }
 {
-    decode_whole(keep, buffer, entities)
+    decode_whole(keep, buffer, area, entities)
 }

@@ -2,7 +2,7 @@
 //! definitions of tpm_step specify the effect of each event.
 
 ghost use Rattle.tpm_types.specs.Limits.{buffer_limit, response_limit};
-ghost use Rattle.std.specs.Prelude.{◌≡◌, ◌≤◌, ◌<◌, ◌^◌, List, [], IfOk, OnErr, false, length, map, true};
+ghost use Rattle.std.specs.Prelude.{◌≡◌, ◌≤◌, [], IfOk, OnErr, false, length, map, true};
 ghost use Rattle.std.specs.Borrow.{Lends, sem};
 ghost use Rattle.tpm_record.specs.IsRecord.{IsRecord};
 ghost use Rattle.tpm_record.specs.Record.{manufactured};
@@ -20,6 +20,7 @@ mod placing;
 use crate::authorization::{Authorization, authorize_command};
 use crate::response::{write_refusal, write_success};
 use crate::table::accept;
+use arrayvec::ArrayVec;
 use std::alloc::Global;
 use tpm_auth::Cache;
 use tpm_bytes::NoMemory;
@@ -173,11 +174,7 @@ impl<K: Keep> Machine<K> {
                 locality,
                 elapsed_ms,
                 random,
-            } => {
-                read_command(*locality, *elapsed_ms, random);
-                tick(&mut self.keep, *elapsed_ms);
-                self.command(buffer, *locality, random, text)
-            }
+            } => self.command(buffer, *locality, *elapsed_ms, random, text),
         }
     }
 
@@ -214,41 +211,41 @@ impl<K: Keep> Machine<K> {
         }
     }
 
-    ghost use Rattle.tpm_machine.specs.Drawn.{drawn_by_command};
     ghost use Rattle.tpm_types.specs.Locality.{locality_number};
-    ghost use Rattle.tpm_step.specs.step.Safe.{IsModest};
-    ghost use Rattle.tpm_step.specs.step.Step.{Answers, acceptance_in};
+    ghost use Rattle.tpm_step.specs.step.Events.{Given};
 
-    /// Executes the command in a buffer, writes the response, and returns the row. The elapsed time
-    /// has already been added to the clock.
+    /// Adds a command's elapsed time to the clock. Then executes the command in the buffer, writes
+    /// the response, and returns the row.
     #[tactic(auto, unfolding(tpm_step::specs::step::Step::acceptance_in))]
     fn command(
         &mut self,
         buffer: &[u8],
         locality: Locality,
+        elapsed_ms: u32,
         random: &[u8; 256],
         text: &mut Response,
     ) -> Row
         requires empty { text.old.items ≡ [] }
         requires none { latest_drawn self.old ≡ 0 }
-        ensures answer { Answers K.can_refuse (state_of K.record_of self.old) random.now
-            (acceptance_in (state_of K.record_of self.old) buffer.now
-            (locality_number locality) random.now)
+        ensures steps { Steps K.can_refuse (state_of K.record_of self.old)
+            (Given buffer.now (locality_number locality) elapsed_ms random.now)
             (record {
               response = text.new.items;
               row = result;
               after = state_of K.record_of self.new;
             }) }
-        ensures modest { result.check ≡ 0 → IfOk
-            (acceptance_in (state_of K.record_of self.old) buffer.now
-            (locality_number locality) random.now)
-            (IsModest random.now) }
+        ensures modest { result.check ≡ 0 → IsModestIfAccepted (state_of K.record_of self.old)
+            (Given buffer.now (locality_number locality) elapsed_ms random.now) }
         ensures fits { length text.new.items ≤ response_limit }
-        ensures drawn { latest_drawn self.new ≡ drawn_by_command random.now
-            (acceptance_in (state_of K.record_of self.old) buffer.now
-            (locality_number locality) random.now) result.check }
+        ensures drawn { latest_drawn self.new ≡ drawn_by (state_of K.record_of self.old)
+            (Given buffer.now (locality_number locality) elapsed_ms random.now) result.check }
+
+        // The event of every command can occur, because of the types of its arguments.
+        ensures event { IsEvent (Given buffer.now (locality_number locality) elapsed_ms random.now) }
     {
-        match authorize_command(&self.keep, buffer, locality, &mut self.cache) {
+        tick(&mut self.keep, elapsed_ms);
+        let mut area = ArrayVec::new();
+        match authorize_command(&self.keep, buffer, locality, &mut self.cache, &mut area) {
             Ok(authorization) => self.perform(&authorization, locality, random, text),
             Err(refusal) => refuse(&mut self.keep, refusal, text),
         }
@@ -257,8 +254,10 @@ impl<K: Keep> Machine<K> {
     ghost use Rattle.std.specs.Prelude.{Ok};
     ghost use Rattle.tpm_auth.specs.Grant.{authorize};
     ghost use Rattle.tpm_machine.specs.Authorization.{command_in, grants_in};
+    ghost use Rattle.tpm_machine.specs.Drawn.{drawn_by_command};
     ghost use Rattle.tpm_step.specs.step.General.{in_command};
-    ghost use Rattle.tpm_step.specs.step.Step.{acceptance};
+    ghost use Rattle.tpm_step.specs.step.Safe.{IsModest};
+    ghost use Rattle.tpm_step.specs.step.Step.{Answers, acceptance};
 
     /// Executes an authorized command.
     #[inline(always)]
@@ -312,18 +311,6 @@ impl<K: Keep> Machine<K> {
 ghost use Rattle.tpm_types.specs.Check.{check_number};
 ghost use Rattle.tpm_step.specs.step.Step.{counted_in, settled_record};
 ghost use Rattle.tpm_step.specs.step.Answer.{refusal_text};
-ghost use Rattle.tpm_types.specs.Locality.{locality_number};
-
-/// Does nothing. Its contract states what the argument types guarantee for the event of every
-/// command.
-#[inline(always)]
-fn read_command(locality: Locality, elapsed_ms: u32, random: &[u8; 256])
-    ensures locality { locality_number locality ≤ 4 }
-    ensures elapsed { elapsed_ms < 2 ^ 32 }
-    ensures random { length random.now ≡ 256 }
-{
-    let _first = random[0];
-}
 
 /// Discards the state that TPM2_Shutdown saved, unless this successful command preserves it.
 fn settle<K: Keep>(keep: &mut K, code: CommandCode)

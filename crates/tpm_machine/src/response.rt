@@ -143,7 +143,7 @@ fn write_with_sessions<K: Keep>(
     text: &mut Response,
 ) -> usize
     requires empty { text.old.items ≡ [] }
-    requires some { 1 ≤ length (map entry_of authorization.now.command.entries.items) }
+    requires some { 1 ≤ length (map entry_of authorization.now.command.entries.now) }
     ensures answer { record { response = text.new.items; after = K.record_of keep.new }
         ≡ answer_to (command_in authorization.now) (grants_in authorization.now)
         (text_of answer.old) (K.record_of keep.old) random.now }
@@ -155,7 +155,7 @@ fn write_with_sessions<K: Keep>(
     ensures fits { length text.new.items ≤ response_limit }
 {
     let command = &authorization.command;
-    let entries = command.entries.as_slice();
+    let entries = command.entries;
     let grants = authorization.grants.grants.as_slice();
     let mut draws = Draws::new(&random[answer.drawn..]);
     roll_entries(keep, entries, &mut draws);

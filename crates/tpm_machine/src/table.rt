@@ -212,7 +212,7 @@ pub fn accept<K: Keep>(
         (K.record_of keep.old) result answer.new (K.record_of keep.new) }
 {
     let command = &authorization.command;
-    let entries = command.entries.as_slice();
+    let entries = command.entries;
     let call = Call {
         handles: command.handles.as_slice(),
         locality,

@@ -6,7 +6,6 @@ use Rattle.std.specs.List.{flat_map}
 use Rattle.std.specs.Int.{w32, to_be_bytes}
 use Rattle.tpm_bytes.specs.Reading.{◌>>=◌, bytes_at, number_at, or_fault, refused_if}
 use Rattle.tpm_types_command.specs.declared.auth_entry.AuthEntry.{AuthEntry}
-use Rattle.arrayvec.specs.ArrayVec.{ArrayVec}
 use Rattle.tpm_types.specs.declared.rc.Rc.{Rc}
 use Rattle.tpm_types.specs.declared.rc.ResponseCode.TheVariants as code
 use Rattle.tpm_types_command.specs.AuthEntry.{Entry, entry_at, entry_of, auth_entry_text}
@@ -38,7 +37,7 @@ area_at text = do
   entries ← entries_in 3 bytes.0
   Ok (entries, bytes.1)
 
--- The result of reading these bytes: all entries in them, or the fault.
-abbrev pub AreEntries : List ℕ → Result (ArrayVec AuthEntry) Rc → Type 0
-AreEntries bytes (Ok entries) = entries_in 3 bytes ≡ Ok (map entry_of entries.items)
-AreEntries bytes (Err fault) = entries_in 3 bytes ≡ Err fault
+-- A read of these bytes returned all entries in them (`entries`), or the fault.
+abbrev pub AreEntries : List ℕ → Result (Unit {0}) Rc → List AuthEntry → Type 0
+AreEntries bytes (Ok done) entries = entries_in 3 bytes ≡ Ok (map entry_of entries)
+AreEntries bytes (Err fault) entries = entries_in 3 bytes ≡ Err fault

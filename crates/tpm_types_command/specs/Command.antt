@@ -33,7 +33,7 @@ abbrev pub whole_of : Command → Whole
 whole_of c = record {
   code = c.code;
   handles = c.handles.items;
-  entries = map entry_of c.entries.items;
+  entries = map entry_of c.entries.now;
   parameters = c.parameters.now;
 }
 

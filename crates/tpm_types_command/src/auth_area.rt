@@ -1,7 +1,7 @@
 //! The authorization area of a command: its size, then one to three entries (TPM 2.0 Library, Part
 //! 1, section 18.6).
 
-ghost use Rattle.std.specs.Prelude.{map};
+ghost use Rattle.std.specs.Prelude.{◌≡◌, [], map};
 ghost use Rattle.tpm_bytes.specs.Reading.{Reads};
 
 use crate::auth_entry::AuthEntry;
@@ -15,56 +15,50 @@ pub const ENTRY_LIMIT: usize = 3;
 /// The minimum size in bytes of an authorization area: one entry with an empty nonce and HMAC.
 pub const LEAST_AREA: usize = 9;
 
-/// The authorization area of a command with sessions: authorizationSize, then one to three entries
-/// (Part 1, section 18.6).
-#[derive(Drop)]
-pub struct AuthArea<'a> {
-    pub entries: ArrayVec<AuthEntry<'a>, 3>,
-}
+ghost use Rattle.tpm_types_command.specs.AuthEntry.{entry_of};
+ghost use Rattle.tpm_types_command.specs.AuthArea.{AreEntries, area_at};
 
-impl<'a> AuthArea<'a> {
-    ghost use Rattle.tpm_types_command.specs.AuthEntry.{entry_of};
-    ghost use Rattle.tpm_types_command.specs.AuthArea.{area_at};
-
-    /// Reads an authorization area. Fails with AUTHSIZE if its size is truncated, is less than
-    /// nine, or exceeds the number of bytes that follow; if an entry is truncated; or if there is a
-    /// fourth entry.
-    #[tactic(auto, unfolding(crate::specs::AuthArea::area_at))]
-    pub fn read(text: &mut Cursor<'a>) -> Result<AuthArea<'a>, Rc>
-        ensures { Reads (λ area. map entry_of area.entries.items) (area_at text.old)
-            text.old result text.new }
-    {
-        let mut ahead = Cursor::new(text.rest());
-        let Ok(size) = ahead.u32() else {
-            return Err(ResponseCode::Authsize.anywhere());
-        };
-        let size = size as usize;
-        if size < LEAST_AREA {
-            return Err(ResponseCode::Authsize.anywhere());
-        }
-        let Ok(bytes) = ahead.take(size) else {
-            return Err(ResponseCode::Authsize.anywhere());
-        };
-        let entries = read_entries(bytes)?;
-        *text = ahead;
-        Ok(AuthArea { entries })
+/// Reads an authorization area: authorizationSize, then one to three entries (Part 1, section
+/// 18.6). Adds the entries to an empty array. Fails with AUTHSIZE if its size is truncated, is less
+/// than nine, or exceeds the number of bytes that follow; if an entry is truncated; or if there is a
+/// fourth entry. The contents of the array are then unspecified.
+#[tactic(auto, unfolding(crate::specs::AuthArea::area_at))]
+pub fn read_area<'a>(
+    text: &mut Cursor<'a>,
+    entries: &mut ArrayVec<AuthEntry<'a>, 3>,
+) -> Result<(), Rc>
+    requires { entries.old.items ≡ [] }
+    ensures { Reads (λ done. map entry_of entries.new.items) (area_at text.old)
+        text.old result text.new }
+{
+    let mut ahead = Cursor::new(text.rest());
+    let Ok(size) = ahead.u32() else {
+        return Err(ResponseCode::Authsize.anywhere());
+    };
+    let size = size as usize;
+    if size < LEAST_AREA {
+        return Err(ResponseCode::Authsize.anywhere());
     }
+    let Ok(bytes) = ahead.take(size) else {
+        return Err(ResponseCode::Authsize.anywhere());
+    };
+    read_entries(bytes, entries)?;
+    *text = ahead;
+    Ok(())
 }
 
-ghost use Rattle.tpm_types_command.specs.AuthArea.{AreEntries};
-
-fn read_entries<'a>(bytes: &'a [u8]) -> Result<ArrayVec<AuthEntry<'a>, 3>, Rc>
-    ensures { AreEntries bytes.now result }
+fn read_entries<'a>(bytes: &'a [u8], entries: &mut ArrayVec<AuthEntry<'a>, 3>) -> Result<(), Rc>
+    requires { entries.old.items ≡ [] }
+    ensures { AreEntries bytes.now result entries.new.items }
 {
     let mut left = Cursor::new(bytes);
-    let mut entries = ArrayVec::new();
     for _ in 0..ENTRY_LIMIT {
         if !left.is_empty() {
             entries.push(AuthEntry::read(&mut left)?);
         }
     }
     if left.is_empty() {
-        Ok(entries)
+        Ok(())
     } else {
         Err(ResponseCode::Authsize.anywhere())
     }

@@ -5,8 +5,10 @@
 //!
 //! The crate uses `tpm_commands` for the supported commands, and `tpm_types` for handles and
 //! response codes. A read returns the value, or the standard's response code for the first fault. A
-//! read or write that fails changes nothing. Each entry and each command has exactly one encoding,
-//! and no other bytes decode to it. No function of this crate allocates memory.
+//! read that fails leaves the input unchanged, and a write that fails writes nothing. Entries are
+//! read into an array of the caller, whose contents are unspecified after a read that fails. Each
+//! entry and each command has exactly one encoding, and no other bytes decode to it. No function of
+//! this crate allocates memory.
 
 pub mod auth_area;
 pub mod auth_entry;

@@ -45,7 +45,7 @@ use Rattle.tpm_auth.specs.declared.session_grant.Grant.{Grant}
 use Rattle.tpm_step.specs.step.Events.{PlainEvent, Given, Cycled, Placed}
 use Rattle.tpm_step.specs.step.Execution.{Executes}
 use Rattle.tpm_step.specs.step.General.{general}
-use Rattle.tpm_step.specs.step.Step.{Accepted, Stepped, acceptance, acceptance_in, answer_where, answer_without_memory, refusal_step, request_in, stepped_of}
+use Rattle.tpm_step.specs.step.Step.{Accepted, Stepped, acceptance, acceptance_in, answer_where, refusal_step, request_in, stepped_of}
 use Rattle.tpm_step.specs.step.Table.{row_of}
 use Rattle.tpm_step.specs.declared.refused_command.RefusedCommand.{RefusedCommand}
 use Rattle.tpm_step.proofs.rows.Binding.{err_bind, err_bind_is, err_if}
@@ -409,7 +409,7 @@ answer_refused : (refused : Bool) (r : Record) (random : List ℕ)
     (x : Result Accepted RefusedCommand) (e : RefusedCommand) → x ≡ Err e
     → answer_where refused r random x ≡ refusal_step r e
 answer_refused false r random x e is = ap (λ y. stepped_of r random y) is
-answer_refused true r random x e is = ap (λ y. answer_without_memory r random y) is
+answer_refused true r random x e is = ap (answer_where true r random) is
 
 pub execution_tells : (can : Bool) (old : Record) (event : PlainEvent) (x : Stepped)
     → Executes can old event x → fails_try old event ≡ true → IsAnsweredTry old event x

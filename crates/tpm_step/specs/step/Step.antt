@@ -150,15 +150,12 @@ success_without_memory r random a =
     if (shape_of a.command.code).grows then refusal_without_memory r a.command
     else success_step a random
 
--- the step of a command when allocations fail; a refused command allocates nothing
-abbrev pub answer_without_memory : Record → List ℕ → Result Accepted RefusedCommand → Stepped
-answer_without_memory r random (Ok a) = success_without_memory r random a
-answer_without_memory r random (Err e) = refusal_step r e
-
--- the step of a command, when allocations fail (true) or succeed (false)
+-- the step of a command, when allocations fail (true) or succeed (false). A refused command
+-- allocates nothing
 abbrev pub answer_where : Bool → Record → List ℕ → Result Accepted RefusedCommand → Stepped
 answer_where false r random a = stepped_of r random a
-answer_where true r random a = answer_without_memory r random a
+answer_where true r random (Ok a) = success_without_memory r random a
+answer_where true r random (Err e) = refusal_step r e
 
 -- the step of an event, when allocations fail (true) or succeed (false). The elapsed time of a
 -- command is added first. A placed object has no response, and it changes nothing if all slots are

@@ -6,7 +6,7 @@ ghost use Rattle.tpm_types_command.specs.AuthEntry.{entry_of};
 ghost use Rattle.tpm_types_command.specs.Command.{IsCommand, Whole, command_at, command_text};
 ghost use Rattle.tpm_types_command.specs.Command.{handles_at, sessions_at, whole_of};
 
-use crate::auth_area::AuthArea;
+use crate::auth_area::read_area;
 use crate::auth_entry::AuthEntry;
 use crate::command::Command;
 use crate::header::Header;
@@ -15,11 +15,16 @@ use arrayvec::ArrayVec;
 use tpm_bytes::Cursor;
 use tpm_types::{Handle, Rc, ResponseCode};
 
-impl<'a> Command<'a> {
-    /// Reads a command, which must fill the rest of the input and fit in a command buffer. Fails
-    /// with the first fault of its header, with INSUFFICIENT for the first truncated handle, or
-    /// with AUTHSIZE for any fault in its authorization area.
-    pub fn read(text: &mut Cursor<'a>) -> Result<Command<'a>, Rc>
+impl<'a, 'b> Command<'a, 'b> {
+    /// Reads a command, which must fill the rest of the input and fit in a command buffer. The
+    /// command borrows its entries from `area`, which must be empty. Fails with the first fault of
+    /// the header, with INSUFFICIENT for the first truncated handle, or with AUTHSIZE for any fault
+    /// in the authorization area.
+    pub fn read(
+        text: &mut Cursor<'b>,
+        area: &'a mut ArrayVec<AuthEntry<'b>, 3>,
+    ) -> Result<Command<'a, 'b>, Rc>
+        requires { area.old.items ≡ [] }
         // The result is the decoded command, or the first fault.
         ensures exact { Reads whole_of (command_at text.old) text.old result text.new }
         // If decoding succeeds, the input is exactly the encoding of the returned command.
@@ -29,11 +34,15 @@ impl<'a> Command<'a> {
         ensures only { (command : Whole) → IsCommand command → text.old ≡ command_text command
             → Reads whole_of (Ok (command, [])) text.old result text.new }
     {
-        Command::read_fields(text)
+        Command::read_fields(text, area)
     }
 
     #[tactic(auto, unfolding(crate::specs::Command::command_at))]
-    fn read_fields(text: &mut Cursor<'a>) -> Result<Command<'a>, Rc>
+    fn read_fields(
+        text: &mut Cursor<'b>,
+        area: &'a mut ArrayVec<AuthEntry<'b>, 3>,
+    ) -> Result<Command<'a, 'b>, Rc>
+        requires { area.old.items ≡ [] }
         ensures exact { Reads whole_of (command_at text.old) text.old result text.new }
         ensures bytes { AreBytes text.old }
     {
@@ -43,12 +52,12 @@ impl<'a> Command<'a> {
             Err(fault) => return Err(fault.rc()),
         };
         let handles = read_handles(&mut ahead, header.code.handle_count())?;
-        let entries = read_sessions(&mut ahead, header.tag)?;
+        read_sessions(&mut ahead, header.tag, area)?;
         *text = Cursor::new(&[]);
         Ok(Command {
             code: header.code,
             handles,
-            entries,
+            entries: area.as_slice(),
             parameters: ahead.rest(),
         })
     }
@@ -73,14 +82,19 @@ fn read_handles(text: &mut Cursor, count: usize) -> Result<ArrayVec<Handle, 3>, 
     Ok(handles)
 }
 
-/// Reads the entries of the authorization area, which is present if the tag is TPM_ST_SESSIONS.
-#[inline(always)]
-pub fn read_sessions<'a>(text: &mut Cursor<'a>, tag: Tag) -> Result<ArrayVec<AuthEntry<'a>, 3>, Rc>
-    ensures { Reads (λ entries. map entry_of entries.items) (sessions_at tag text.old)
+/// Reads the authorization area, which is present if the tag is TPM_ST_SESSIONS. Adds its entries
+/// to an empty array. Fails as [`read_area`] does.
+pub fn read_sessions<'a>(
+    text: &mut Cursor<'a>,
+    tag: Tag,
+    entries: &mut ArrayVec<AuthEntry<'a>, 3>,
+) -> Result<(), Rc>
+    requires { entries.old.items ≡ [] }
+    ensures { Reads (λ done. map entry_of entries.new.items) (sessions_at tag text.old)
         text.old result text.new }
 {
     match tag {
-        Tag::NoSessions => Ok(ArrayVec::new()),
-        Tag::Sessions => Ok(AuthArea::read(text)?.entries),
+        Tag::NoSessions => Ok(()),
+        Tag::Sessions => read_area(text, entries),
     }
 }

@@ -18,10 +18,10 @@ use tpm_bytes::{Full, Sink};
 use tpm_commands::CommandCode;
 use tpm_types::Handle;
 
-impl Command<'_> {
+impl Command<'_, '_> {
     /// The tag of the command: TPM_ST_SESSIONS if it has entries, and TPM_ST_NO_SESSIONS if not.
     pub fn tag(&self) -> Tag
-        ensures { result ≡ tag_for (map entry_of self.now.entries.items) }
+        ensures { result ≡ tag_for (map entry_of self.now.entries.now) }
     {
         if self.entries.is_empty() {
             Tag::NoSessions
@@ -34,7 +34,7 @@ impl Command<'_> {
     pub fn text_len(&self) -> Option<usize>
         ensures { SomeIff result (HasText (whole_of self.now)) (command_size (whole_of self.now)) }
     {
-        let sessions = sessions_len(self.entries.as_slice())?;
+        let sessions = sessions_len(self.entries)?;
         let handles = 4 * self.handles.as_slice().len();
         let size = HEADER_SIZE + handles + sessions + self.parameters.len();
         if size > 0xffff_ffff {
@@ -57,7 +57,7 @@ impl Command<'_> {
         }
         write_header(self.tag(), size as u32, self.code, sink);
         write_handles(self.handles.as_slice(), sink);
-        write_sessions(self.entries.as_slice(), sink);
+        write_sessions(self.entries, sink);
         sink.append(self.parameters);
         Ok(())
     }

@@ -1,8 +1,5 @@
-use Rattle.std.proofs.Common.{◌≡◌, ◌+◌, ◌*◌, ◌≤◌, ◌∙◌, ◌++◌, List, length, map, ap, sym, subst, refl, arith, rules, length-append}
-use Rattle.std.specs.List.{AllByRecursion}
-use Rattle.tpm_types_command.specs.declared.auth_entry.AuthEntry.{AuthEntry}
+use Rattle.std.proofs.Common.{◌≡◌, ◌+◌, ◌*◌, ◌≤◌, ◌∙◌, ◌++◌, List, length, ap, refl, arith, rules, length-append}
 use Rattle.tpm_types.specs.declared.handle.Handle.{Handle}
-use Rattle.tpm_types_command.specs.AuthEntry.{HasSizes, entry_of}
 use Rattle.tpm_types_command.specs.Command.{command_size, handles_text, sessions_text, whole_of}
 use Rattle.tpm_types_command.proofs.CommandLaws.{command_size-is, command_written, length-handles_text, room_behind_header}
 use Rattle.tpm_types_command.proofs.command.Command.write.Goals as goal
@@ -41,20 +38,7 @@ write_sessions-requires g c =
     ∙ ap (λ n. length c.write_header.new.sink + n)
     (length-handles_text c.as_slice.result.now
     ∙ ap (λ (l : List Handle). 4 * length l) c.as_slice.ensures.value) in
-    let same = c.as_slice-2.ensures.value in
-    let bytes : length (sessions_text (map entry_of c.as_slice-2.result.now))
-    ≡ length (sessions_text whole.entries) =
-    ap (λ (l : List AuthEntry). length (sessions_text (map entry_of l))) same in (
-      search rules,
-      (
-        c.as_slice-2.ensures.fits,
-        (
-          subst (λ (l : List AuthEntry). AllByRecursion HasSizes (map entry_of l)) (sym same)
-              has.entries,
-          omega arith,
-        ),
-      ),
-    )
+    (search rules, (search rules, (has.entries, omega arith)))
 
 pub append-requires : goal.append-requires
 append-requires g c =
@@ -69,10 +53,7 @@ append-requires g c =
     ∙ ap (λ (l : List Handle). c.write_header.new.sink ++ handles_text l)
     c.as_slice.ensures.value in
     let three : c.write_sessions.new.sink ≡ c.write_handles.new.sink
-    ++ sessions_text whole.entries =
-    c.write_sessions.ensures
-    ∙ ap (λ (l : List AuthEntry). c.write_handles.new.sink ++ sessions_text (map entry_of l))
-    c.as_slice-2.ensures.value in
+    ++ sessions_text whole.entries = c.write_sessions.ensures in
     let handles : length c.write_handles.new.sink
     ≡ length c.write_header.new.sink + 4 * length whole.handles =
     ap length two ∙ length-append c.write_header.new.sink (handles_text whole.handles)
@@ -94,10 +75,7 @@ returns g c =
     ∙ ap (λ (l : List Handle). c.write_header.new.sink ++ handles_text l)
     c.as_slice.ensures.value in
     let three : c.write_sessions.new.sink ≡ c.write_handles.new.sink
-    ++ sessions_text whole.entries =
-    c.write_sessions.ensures
-    ∙ ap (λ (l : List AuthEntry). c.write_handles.new.sink ++ sessions_text (map entry_of l))
-    c.as_slice-2.ensures.value in
+    ++ sessions_text whole.entries = c.write_sessions.ensures in
     let written = command_written whole c.in-Some.size c.tag.result c.args.sink.now
     c.write_header.new.sink c.write_handles.new.sink c.write_sessions.new.sink c.append.new.self
     size c.tag.ensures c.write_header.ensures two three c.append.ensures in
