@@ -27,7 +27,7 @@ CASE = re.compile(r"^    (\w+)", re.M)
 MODULE = re.compile(r"^pub mod (\w+);", re.M)
 USE = re.compile(r"^pub use ([^;]+);", re.M)
 CLAUSE = re.compile(r"\s*(requires|ensures)\*?(?: \w+)? (?=\{)")
-LIFETIME = re.compile(r"'\w+ ?")
+LIFETIME = re.compile(r"'\w+(?:, | )?")
 PAIRS = {"(": ")", "{": "}", "[": "]", "<": ">"}
 
 
