@@ -194,8 +194,8 @@ fn value_in_key<'a, K: Keep>(
 }
 
 /// Whether the HMAC field of an entry is correct. If the session's policy requires a password, the
-/// field must contain the password; otherwise, it must contain the HMAC. `granted` is the handle that
-/// the entry has to authorize, if any.
+/// field must contain the password; otherwise, it must contain the HMAC. `granted` is the handle
+/// that the entry has to authorize, if any.
 #[tactic(auto, unfolding(crate::specs::SessionGrant::comparison_holds, crate::specs::SessionGrant::is_authentic, crate::specs::SessionGrant::entry_parts, tpm_record::specs::Entity::auth_value_of))]
 pub fn comparison_holds<K: Keep>(
     keep: &K,

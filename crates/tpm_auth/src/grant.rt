@@ -295,8 +295,8 @@ pub fn authorize<K: Keep>(
     authorize_sent(keep, sent, &mut Cache::new())
 }
 
-/// Checks the entries of a command as [`authorize`] does. The entities of the command's handles have
-/// already been looked up. Caches what the response and the next command may need again.
+/// Checks the entries of a command as [`authorize`] does. The entities of the command's handles
+/// have already been looked up. Caches what the response and the next command may need again.
 #[tactic(auto, unfolding(crate::specs::Grant::authorize))]
 pub fn authorize_sent<K: Keep>(keep: &K, sent: &Sent, cache: &mut Cache) -> Result<Grants, Refused>
     requires { IsResolved (K.record_of keep.now) sent.now }

@@ -24,8 +24,8 @@ pub struct Sent<'a, 'b, 'c> {
     pub locality: Locality,
 }
 
-/// An entry of a command, with its position, counted from 0, and the session that it names, if there
-/// is one.
+/// An entry of a command, with its position, counted from 0, and the session that it names, if
+/// there is one.
 #[derive(Clone, Copy)]
 pub struct SentEntry<'a, 'b> {
     pub place: usize,

@@ -124,7 +124,7 @@ names_session c text entries area behind rest after handle size session first si
     ok_at (λ x. x.session.number ≡ session) (only_entry all.0) entry
     (only_names session all.0 starts) f)))))
 
--- the same, for the result of reading the session
+-- the same as `names_session`, for the result of reading the session
 pub session_read : (text entries area behind rest after : List ℕ) (handle size : ℕ)
     (read : Result ℕ Short) → number_at w32 text ≡ Ok (handle, entries)
     → number_at w32 entries ≡ Ok (size, behind) → bytes_at size behind ≡ Ok (area, rest)
@@ -132,7 +132,8 @@ pub session_read : (text entries area behind rest after : List ℕ) (handle size
     → IfOk read (λ session. (c : Completion)
     → IfOk (named_in c text) (λ named. named.entry.session.number ≡ session))
 session_read text entries area behind rest after handle size (Ok session) first sized taken is =
-    λ c. names_session c text entries area behind rest after handle size session first sized taken is
+    λ c.
+    names_session c text entries area behind rest after handle size session first sized taken is
 session_read text entries area behind rest after handle size (Err fault) first sized taken is = tt
 
 -- an entry that names TPM_RS_PW contains a password
@@ -149,7 +150,7 @@ pub none_sent : (sends : Named → Result Sent Refused) (x : Result Named Refuse
 none_sent sends (Ok named) is = rw is refl
 none_sent sends (Err refused) is = refl
 
--- a choice between nothing and nothing
+-- if one of two options is None, and the other is None too, the chosen option is None
 none_if : (b : Bool) (x : Option Sent) → x ≡ None → cond b x None ≡ None
 none_if true x is = is
 none_if false x is = refl

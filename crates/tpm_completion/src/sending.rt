@@ -75,7 +75,7 @@ impl Sent {
 }
 
 /// The session that the first entry of a command with one handle names. The bytes begin with the
-/// handle. Fails if they are too short.
+/// handle. Fails if they, or the authorization area, are too short.
 fn first_session(bytes: &[u8]) -> Result<u32, Short>
     ensures { IfOk result (λ session. (layer : Completion)
         → IfOk (named_in layer bytes.now) (λ named. named.entry.session.number ≡ session)) }
@@ -87,8 +87,8 @@ fn first_session(bytes: &[u8]) -> Result<u32, Short>
     Cursor::new(area).u32()
 }
 
-/// Whether the first entry of a command with one handle contains a password. The bytes begin with
-/// the handle.
+/// Returns true only if the entry of a command with one handle contains a password. The bytes begin
+/// with the handle.
 #[tactic(auto, using(crate::proofs::Passwords::by_password))]
 fn has_password(bytes: &[u8]) -> bool
     ensures { result ≡ true → (layer : Completion)
@@ -100,8 +100,8 @@ fn has_password(bytes: &[u8]) -> bool
     }
 }
 
-/// Whether the layer may send a command to the device for a client's command with sessions. If not,
-/// `sent_by`, which is slower, would also return no command.
+/// Returns false only if the layer sends no command to the device for a client's command with
+/// sessions. If the result is true, `sent_by` decides.
 #[tactic(auto, using(crate::proofs::Passwords::none_sent))]
 fn may_send(command: &PlainCommand) -> bool
     ensures { result ≡ false → (r : Record) (layer : Completion) → accepted_only
@@ -114,8 +114,8 @@ fn may_send(command: &PlainCommand) -> bool
     }
 }
 
-/// Whether the layer may send a command to the device for the client's command in a buffer. If not,
-/// `sent_for`, which is slower, would also return no command.
+/// Returns false only if the layer sends no command to the device for the client's command in a
+/// buffer. If the result is true, `sent_for` decides.
 #[tactic(auto, using(crate::proofs::Passwords::none_read))]
 pub(crate) fn may_send_for(buffer: &[u8]) -> bool
     ensures { result ≡ false → (r : Record) (layer : Completion) (response : List ℕ)

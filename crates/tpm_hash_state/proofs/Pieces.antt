@@ -35,8 +35,8 @@ block_with-cons block bytes start byte within =
     )
     (append_assoc (take start block) (byte ∷ []) (bytes ++ drop (suc size) (drop start block)))
 
--- If a byte is written after `count` bytes of the message, and the bytes after it at the next
--- offset, all of them are written after `count` bytes.
+-- The offset of a byte in the block is the number of bytes before it, modulo 64. Writing a byte at
+-- its offset, and then the bytes after it at the next offset, writes all of them at the first one.
 block_with-next : (block bytes : List ℕ) (count byte : ℕ) → length block ≡ 64 → count < 2 ^ 64
     → count % 64 < 63
     → block_with ((count + 1) % 2 ^ 64 % 64) bytes (slice_set block (count % 64) byte)

@@ -25,17 +25,17 @@ pub struct Authorization<'a, 'b> {
 }
 
 /// Decodes a command's buffer, and checks whether the command's entries authorize it. The command
-/// borrows its entries from `area`, which must be empty. Returns the refusal of the first check that
-/// fails.
+/// borrows its entries from the array `entries`, which must be empty. Returns the refusal of the
+/// first check that fails.
 #[tactic(auto, unfolding(tpm_step::specs::step::Step::acceptance_in, tpm_step::specs::step::Step::acceptance))]
 pub fn authorize_command<'a, 'b, K: Keep>(
     keep: &K,
     buffer: &'b [u8],
     locality: Locality,
     cache: &mut Cache,
-    area: &'a mut ArrayVec<AuthEntry<'b>, 3>,
+    entries: &'a mut ArrayVec<AuthEntry<'b>, 3>,
 ) -> Result<Authorization<'a, 'b>, RefusedCommand>
-    requires { area.old.items ≡ [] }
+    requires { entries.old.items ≡ [] }
     ensures decoded { IfOk result (λ authorization. general (K.record_of keep.now) buffer.now
         ≡ Ok (command_in authorization)) }
     ensures granted { IfOk result (λ authorization. authorize (K.record_of keep.now)
@@ -48,7 +48,7 @@ pub fn authorize_command<'a, 'b, K: Keep>(
         ≡ Err refusal) }
 {
     let mut entities = ArrayVec::new();
-    let command = decode(keep, buffer, area, &mut entities)?;
+    let command = decode(keep, buffer, entries, &mut entities)?;
     let sent = &Sent {
         command: &command,
         entities: entities.as_slice(),

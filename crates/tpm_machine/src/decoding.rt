@@ -125,10 +125,10 @@ fn decode_body<'a, 'b, 'k, K: Keep>(
     keep: &'k K,
     header: Header,
     mut text: Cursor<'b>,
-    area: &'a mut ArrayVec<AuthEntry<'b>, 3>,
+    entries: &'a mut ArrayVec<AuthEntry<'b>, 3>,
     entities: &mut ArrayVec<Resolved<'k>, 3>,
 ) -> Result<Command<'a, 'b>, RefusedCommand>
-    requires area { area.old.items ≡ [] }
+    requires entries { entries.old.items ≡ [] }
     requires entities { entities.old.items ≡ [] }
     ensures decoded { Gives whole_of (in_command header.code
         (body_of (K.record_of keep.now) header text.entry)) result }
@@ -148,11 +148,11 @@ fn decode_body<'a, 'b, 'k, K: Keep>(
     if let Err(refused) = check_tag(code, header.tag) {
         return Err(RefusedCommand::of(code, refused));
     }
-    match read_sessions(&mut text, header.tag, area) {
+    match read_sessions(&mut text, header.tag, entries) {
         Ok(()) => Ok(Command {
             code,
             handles,
-            entries: area.as_slice(),
+            entries: entries.as_slice(),
             parameters: text.rest(),
         }),
         Err(rc) => Err(refusal_by(code, Check::Entries, rc)),
@@ -164,10 +164,10 @@ fn decode_body<'a, 'b, 'k, K: Keep>(
 fn decode_whole<'a, 'b, 'k, K: Keep>(
     keep: &'k K,
     buffer: &'b [u8],
-    area: &'a mut ArrayVec<AuthEntry<'b>, 3>,
+    entries: &'a mut ArrayVec<AuthEntry<'b>, 3>,
     entities: &mut ArrayVec<Resolved<'k>, 3>,
 ) -> Result<Command<'a, 'b>, RefusedCommand>
-    requires area { area.old.items ≡ [] }
+    requires entries { entries.old.items ≡ [] }
     requires entities { entities.old.items ≡ [] }
     ensures decoded { Gives whole_of (general (K.record_of keep.now) buffer.now) result }
     ensures found { IfOk result (λ command. AreFound (K.record_of keep.now) entities.new.items
@@ -176,22 +176,22 @@ fn decode_whole<'a, 'b, 'k, K: Keep>(
 {
     let mut text = Cursor::new(buffer);
     match Header::read(&mut text) {
-        Ok(header) => decode_body(keep, header, text, area, entities),
+        Ok(header) => decode_body(keep, header, text, entries, entities),
         Err(fault) => Err(header_refusal(fault)),
     }
 }
 
 /// Decodes a command's buffer, or returns the refusal of the first general check that fails. The
-/// command borrows its entries from `area`, which must be empty. Adds the entities of the command's
-/// handles, each of which is looked up once.
+/// command borrows its entries from the array `entries`, which must be empty. Adds the entities of
+/// the command's handles, each of which is looked up once.
 #[tactic(auto, using(crate::proofs::DecodingLaws::decodes_reads, crate::proofs::DecodingLaws::decodes_short))]
 pub fn decode<'a, 'b, 'k, K: Keep>(
     keep: &'k K,
     buffer: &'b [u8],
-    area: &'a mut ArrayVec<AuthEntry<'b>, 3>,
+    entries: &'a mut ArrayVec<AuthEntry<'b>, 3>,
     entities: &mut ArrayVec<Resolved<'k>, 3>,
 ) -> Result<Command<'a, 'b>, RefusedCommand>
-    requires area { area.old.items ≡ [] }
+    requires entries { entries.old.items ≡ [] }
     requires entities { entities.old.items ≡ [] }
     ensures decoded { Gives whole_of (general (K.record_of keep.now) buffer.now) result }
     ensures found { IfOk result (λ command. AreFound (K.record_of keep.now) entities.new.items
@@ -201,5 +201,5 @@ pub fn decode<'a, 'b, 'k, K: Keep>(
     ensures read { IfOk result (λ command. command_at buffer.now ≡ Ok (whole_of command, [])) }
     ensures short { IfOk result (λ command. length command.parameters.now ≤ buffer_limit) }
 {
-    decode_whole(keep, buffer, area, entities)
+    decode_whole(keep, buffer, entries, entities)
 }

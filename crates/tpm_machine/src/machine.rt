@@ -241,11 +241,12 @@ impl<K: Keep> Machine<K> {
             (Given buffer.now (locality_number locality) elapsed_ms random.now) result.check }
 
         // The event of every command can occur, because of the types of its arguments.
-        ensures event { IsEvent (Given buffer.now (locality_number locality) elapsed_ms random.now) }
+        ensures event { IsEvent
+            (Given buffer.now (locality_number locality) elapsed_ms random.now) }
     {
         tick(&mut self.keep, elapsed_ms);
-        let mut area = ArrayVec::new();
-        match authorize_command(&self.keep, buffer, locality, &mut self.cache, &mut area) {
+        let mut entries = ArrayVec::new();
+        match authorize_command(&self.keep, buffer, locality, &mut self.cache, &mut entries) {
             Ok(authorization) => self.perform(&authorization, locality, random, text),
             Err(refusal) => refuse(&mut self.keep, refusal, text),
         }

@@ -37,7 +37,8 @@ area_at text = do
   entries ← entries_in 3 bytes.0
   Ok (entries, bytes.1)
 
--- A read of these bytes returned all entries in them (`entries`), or the fault.
+-- A read of these bytes added all entries in them to an empty array (`entries`), or returned the
+-- fault.
 abbrev pub AreEntries : List ℕ → Result (Unit {0}) Rc → List AuthEntry → Type 0
 AreEntries bytes (Ok done) entries = entries_in 3 bytes ≡ Ok (map entry_of entries)
 AreEntries bytes (Err fault) entries = entries_in 3 bytes ≡ Err fault

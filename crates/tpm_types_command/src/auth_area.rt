@@ -19,9 +19,10 @@ ghost use Rattle.tpm_types_command.specs.AuthEntry.{entry_of};
 ghost use Rattle.tpm_types_command.specs.AuthArea.{AreEntries, area_at};
 
 /// Reads an authorization area: authorizationSize, then one to three entries (Part 1, section
-/// 18.6). Adds the entries to an empty array. Fails with AUTHSIZE if its size is truncated, is less
-/// than nine, or exceeds the number of bytes that follow; if an entry is truncated; or if there is a
-/// fourth entry. The contents of the array are then unspecified.
+/// 18.6). Adds the entries to an empty array. Fails with AUTHSIZE if authorizationSize is
+/// truncated, is less than nine, or exceeds the number of bytes that follow. Fails with AUTHSIZE
+/// too if an entry is truncated, or if there is a fourth entry. After a fault, the contents of the
+/// array are unspecified.
 #[tactic(auto, unfolding(crate::specs::AuthArea::area_at))]
 pub fn read_area<'a>(
     text: &mut Cursor<'a>,

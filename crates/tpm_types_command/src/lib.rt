@@ -6,9 +6,9 @@
 //! The crate uses `tpm_commands` for the supported commands, and `tpm_types` for handles and
 //! response codes. A read returns the value, or the standard's response code for the first fault. A
 //! read that fails leaves the input unchanged, and a write that fails writes nothing. Entries are
-//! read into an array of the caller, whose contents are unspecified after a read that fails. Each
-//! entry and each command has exactly one encoding, and no other bytes decode to it. No function of
-//! this crate allocates memory.
+//! read into an array that the caller passes. After a read that fails, the contents of this array
+//! are unspecified. Each entry and each command has exactly one encoding, and no other bytes decode
+//! to it. No function of this crate allocates memory.
 
 pub mod auth_area;
 pub mod auth_entry;

@@ -17,14 +17,14 @@ use tpm_types::{Handle, Rc, ResponseCode};
 
 impl<'a, 'b> Command<'a, 'b> {
     /// Reads a command, which must fill the rest of the input and fit in a command buffer. The
-    /// command borrows its entries from `area`, which must be empty. Fails with the first fault of
-    /// the header, with INSUFFICIENT for the first truncated handle, or with AUTHSIZE for any fault
-    /// in the authorization area.
+    /// command borrows its entries from the array `entries`, which must be empty. Fails with the
+    /// first fault of the header, with INSUFFICIENT for the first truncated handle, or with
+    /// AUTHSIZE for any fault in the authorization area.
     pub fn read(
         text: &mut Cursor<'b>,
-        area: &'a mut ArrayVec<AuthEntry<'b>, 3>,
+        entries: &'a mut ArrayVec<AuthEntry<'b>, 3>,
     ) -> Result<Command<'a, 'b>, Rc>
-        requires { area.old.items ≡ [] }
+        requires { entries.old.items ≡ [] }
         // The result is the decoded command, or the first fault.
         ensures exact { Reads whole_of (command_at text.old) text.old result text.new }
         // If decoding succeeds, the input is exactly the encoding of the returned command.
@@ -34,15 +34,15 @@ impl<'a, 'b> Command<'a, 'b> {
         ensures only { (command : Whole) → IsCommand command → text.old ≡ command_text command
             → Reads whole_of (Ok (command, [])) text.old result text.new }
     {
-        Command::read_fields(text, area)
+        Command::read_fields(text, entries)
     }
 
     #[tactic(auto, unfolding(crate::specs::Command::command_at))]
     fn read_fields(
         text: &mut Cursor<'b>,
-        area: &'a mut ArrayVec<AuthEntry<'b>, 3>,
+        entries: &'a mut ArrayVec<AuthEntry<'b>, 3>,
     ) -> Result<Command<'a, 'b>, Rc>
-        requires { area.old.items ≡ [] }
+        requires { entries.old.items ≡ [] }
         ensures exact { Reads whole_of (command_at text.old) text.old result text.new }
         ensures bytes { AreBytes text.old }
     {
@@ -52,12 +52,12 @@ impl<'a, 'b> Command<'a, 'b> {
             Err(fault) => return Err(fault.rc()),
         };
         let handles = read_handles(&mut ahead, header.code.handle_count())?;
-        read_sessions(&mut ahead, header.tag, area)?;
+        read_sessions(&mut ahead, header.tag, entries)?;
         *text = Cursor::new(&[]);
         Ok(Command {
             code: header.code,
             handles,
-            entries: area.as_slice(),
+            entries: entries.as_slice(),
             parameters: ahead.rest(),
         })
     }

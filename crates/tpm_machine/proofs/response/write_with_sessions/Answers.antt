@@ -24,7 +24,8 @@ returns-clause-drawn g c =
     let record_of = g.K.Keep.record_of in
     let entries = (whole_of c.args.authorization.now.command).entries in
     drawn_few (record_of c.args.keep.now) (record_of c.roll_entries.new.keep)
-    entries entries c.new-draws.result c.roll_entries.new.draws c.args.random.now c.args.answer.now.drawn
+    entries entries c.new-draws.result c.roll_entries.new.draws c.args.random.now
+    c.args.answer.now.drawn
     (search rules) (grind (arith, common_steps)) c.roll_entries.ensures.rolled
     c.roll_entries.ensures.drawn (grind (arith, common_steps))
 
@@ -33,5 +34,6 @@ returns-clause-count g c =
     let record_of = g.K.Keep.record_of in
     let entries = (whole_of c.args.authorization.now.command).entries in
     search rules ∙ drawn_in_all (record_of c.args.keep.now) (record_of c.roll_entries.new.keep)
-    entries entries c.new-draws.result c.roll_entries.new.draws c.args.random.now c.args.answer.now.drawn
+    entries entries c.new-draws.result c.roll_entries.new.draws c.args.random.now
+    c.args.answer.now.drawn
     (search rules) (grind (arith, common_steps)) c.roll_entries.ensures.rolled
