@@ -1,7 +1,7 @@
 -- The code's encoding of a list of handles matches the definition.
 use Rattle.std.proofs.Common.{◌≡◌, ℕ, List, Result, Ok, Err, ap, ◌∙◌}
 use Rattle.tpm_bytes.specs.Reading.{◌>>=◌}
-use Rattle.tpm_types.specs.declared.refused.Refused.{Refused}
+use Rattle.tpm_types_common.specs.declared.refused.Refused.{Refused}
 use Rattle.tpm_actions_capability.specs.GetCapability.{Tells}
 use Rattle.tpm_actions_capability.specs.declared.element.Element.{Element}
 

@@ -2,7 +2,7 @@
 //! elements, starting at a given number (TPM 2.0 Library, Part 3, section 30.2).
 
 ghost use Rattle.std.specs.Prelude.{◌≡◌, ◌≤◌, ◌+◌, ◌*◌, ◌++◌, List, [], ◌∷◌, length};
-ghost use Rattle.tpm_types.specs.Limits.{answer_limit};
+ghost use Rattle.tpm_types_common.specs.Limits.{answer_limit};
 ghost use Rattle.tpm_actions_capability.specs.Element.{by_itself, found_count, is_from, listing, text_of, told_text};
 ghost use Rattle.tpm_actions_capability.specs.declared.element.Element.{Element as ListedElement};
 

@@ -1,7 +1,7 @@
 //! The elements that each capability of the device lists, in ascending order: PCRs, handles,
 //! commands and properties.
 
-ghost use Rattle.tpm_types.specs.Limits.{object_limit, session_limit};
+ghost use Rattle.tpm_types_common.specs.Limits.{object_limit, session_limit};
 ghost use Rattle.std.specs.Prelude.{◌≡◌, ◌≤◌, ◌<◌, ◌+◌, ◌++◌, [], length, map};
 ghost use Rattle.tpm_actions_capability.specs.Element.{by_itself};
 ghost use Rattle.tpm_actions_capability.specs.Elements.{command_attributes, command_element, command_elements};
@@ -15,7 +15,7 @@ use tpm_lockout::Lockout;
 use tpm_nv::Indices;
 use tpm_record::{Keep, PersistentObjects};
 use tpm_session::handle_of;
-use tpm_types::{Handle, OBJECT_LIMIT, PCR_COUNT, SESSION_LIMIT};
+use tpm_types_common::{Handle, OBJECT_LIMIT, PCR_COUNT, SESSION_LIMIT};
 
 /// Lists the PCRs.
 #[tactic(auto, using(crate::proofs::Listing::one_more))]

@@ -24,7 +24,9 @@ use tpm_record::rows::answer::{Answer, Parameters};
 use tpm_record::rows::call::Call;
 use tpm_record::rows::reading::{end, number};
 use tpm_record::rows::refusals::parameter_refusal;
-use tpm_types::{ActionCheck, BankSelection, PcrSelect, PcrSelection, Refused, ResponseCode};
+use tpm_types_common::{
+    ActionCheck, BankSelection, PcrSelect, PcrSelection, Refused, ResponseCode,
+};
 
 /// The parameters of TPM2_GetCapability.
 #[derive(Clone, Copy)]

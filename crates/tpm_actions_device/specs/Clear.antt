@@ -1,6 +1,6 @@
 -- TPM2_Clear. TPM 2.0 Library, Part 3, section 24.6. The command prepares the computer for a new
 -- owner.
-use Rattle.tpm_types.specs.declared.action_check.ActionCheck.TheVariants as action
+use Rattle.tpm_types_common.specs.declared.action_check.ActionCheck.TheVariants as action
 use Rattle.std.specs.Prelude.{ℕ, false, List, Result, Ok}
 use Rattle.tpm_bytes.specs.Reading.{◌>>=◌, refused_if}
 use Rattle.tpm_lockout.specs.Lockout.{LockoutState}
@@ -9,9 +9,9 @@ use Rattle.tpm_lockout.specs.Tries.{with_tries}
 use Rattle.tpm_nv.specs.Clear.{contents_after_clear}
 use Rattle.tpm_pcr.specs.Changes.{clear_counted}
 use Rattle.tpm_pcr.specs.Values.{BankValues}
-use Rattle.tpm_types.specs.Rc.{plain}
-use Rattle.tpm_types.specs.declared.rc.ResponseCode.TheVariants as code
-use Rattle.tpm_types.specs.declared.refused.Refused.{Refused}
+use Rattle.tpm_types_common.specs.Rc.{plain}
+use Rattle.tpm_types_common.specs.declared.rc.ResponseCode.TheVariants as code
+use Rattle.tpm_types_common.specs.declared.refused.Refused.{Refused}
 use Rattle.tpm_record.specs.Clear.{cleared_objects, cleared_persistent}
 use Rattle.tpm_record.specs.Hierarchy.{cleared_hierarchies}
 use Rattle.tpm_record.specs.Record.{Record}

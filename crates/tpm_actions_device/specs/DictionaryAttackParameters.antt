@@ -3,9 +3,9 @@ use Rattle.std.specs.Prelude.{ℕ, List, Result, Ok}
 use Rattle.std.specs.Int.{w32}
 use Rattle.tpm_bytes.specs.Reading.{◌>>=◌, number_at, or_fault}
 use Rattle.tpm_lockout.specs.Lockout.{with_parameters}
-use Rattle.tpm_types.specs.Rc.{plain}
-use Rattle.tpm_types.specs.declared.rc.ResponseCode.TheVariants as code
-use Rattle.tpm_types.specs.declared.refused.Refused.{Refused}
+use Rattle.tpm_types_common.specs.Rc.{plain}
+use Rattle.tpm_types_common.specs.declared.rc.ResponseCode.TheVariants as code
+use Rattle.tpm_types_common.specs.declared.refused.Refused.{Refused}
 use Rattle.tpm_record.specs.Record.{Record, with_lockout}
 use Rattle.tpm_record.specs.rows.Answer.{nothing}
 use Rattle.tpm_record.specs.rows.Request.{Request}

@@ -2,13 +2,13 @@
 use Rattle.std.specs.Prelude.{List, ℕ, Result, Ok}
 use Rattle.std.specs.Option.{option_map_or}
 use Rattle.tpm_bytes.specs.Reading.{◌>>=◌}
-use Rattle.tpm_types.specs.declared.handle.Handle.{Handle}
-use Rattle.tpm_types.specs.AuthValue.{auth_value_at}
-use Rattle.tpm_types.specs.Handle.{hierarchy_auth_of}
+use Rattle.tpm_types_common.specs.declared.handle.Handle.{Handle}
+use Rattle.tpm_types_common.specs.AuthValue.{auth_value_at}
+use Rattle.tpm_types_common.specs.Handle.{hierarchy_auth_of}
 use Rattle.tpm_record.specs.declared.hierarchy.Hierarchies.{Hierarchies}
 use Rattle.tpm_record.specs.Entity.{with_hierarchy_auth}
 use Rattle.tpm_record.specs.Record.{Record}
-use Rattle.tpm_types.specs.declared.refused.Refused.{Refused}
+use Rattle.tpm_types_common.specs.declared.refused.Refused.{Refused}
 use Rattle.tpm_record.specs.rows.Request.{Request, first_handle}
 use Rattle.tpm_record.specs.rows.Answer.{nothing}
 use Rattle.tpm_record.specs.rows.Rows.{Success, only}

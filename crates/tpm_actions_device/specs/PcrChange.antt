@@ -1,14 +1,14 @@
 -- The common part of the commands that change a PCR. With TPM_RH_NULL instead of a PCR, these
 -- commands neither check nor change any PCR.
-use Rattle.tpm_types.specs.declared.action_check.ActionCheck.TheVariants as action
+use Rattle.tpm_types_common.specs.declared.action_check.ActionCheck.TheVariants as action
 use Rattle.std.specs.Prelude.{ℕ, Option, Some, None, Result, Ok, Err}
 use Rattle.tpm_pcr.specs.Values.{BankValues}
 use Rattle.tpm_pcr.specs.declared.changes.ChangeFault.{ChangeFault}
 use Rattle.tpm_pcr.specs.declared.changes.ChangeFault.TheVariants.{Locality, Failure}
-use Rattle.tpm_types.specs.declared.rc.ResponseCode.TheVariants as code
-use Rattle.tpm_types.specs.Rc.{plain}
+use Rattle.tpm_types_common.specs.declared.rc.ResponseCode.TheVariants as code
+use Rattle.tpm_types_common.specs.Rc.{plain}
 use Rattle.tpm_record.specs.Record.{Record}
-use Rattle.tpm_types.specs.declared.refused.Refused.{Refused}
+use Rattle.tpm_types_common.specs.declared.refused.Refused.{Refused}
 use Rattle.tpm_record.specs.rows.Refusals.{action_refusal}
 
 -- the refusal of a command that changes a PCR: by check A1 if the PCR does not allow this change

@@ -1,12 +1,12 @@
 -- TPM2_PCR_Event. TPM 2.0 Library, Part 3, section 22.3.
-use Rattle.tpm_types.specs.Limits.{data_limit}
+use Rattle.tpm_types_common.specs.Limits.{data_limit}
 use Rattle.std.specs.Prelude.{Result, Ok}
 use Rattle.tpm_bytes.specs.Reading.{◌>>=◌}
 use Rattle.tpm_pcr.specs.Changes.{event_digests}
-use Rattle.tpm_types.specs.Buffer.{buffer_at}
-use Rattle.tpm_types.specs.DigestValues.{digest_values_text}
+use Rattle.tpm_types_common.specs.Buffer.{buffer_at}
+use Rattle.tpm_types_common.specs.DigestValues.{digest_values_text}
 use Rattle.tpm_record.specs.Record.{Record}
-use Rattle.tpm_types.specs.declared.refused.Refused.{Refused}
+use Rattle.tpm_types_common.specs.declared.refused.Refused.{Refused}
 use Rattle.tpm_record.specs.rows.Request.{Request, first_handle}
 use Rattle.tpm_actions_device.specs.PcrChange.{with_banks}
 use Rattle.tpm_actions_device.specs.PcrExtend.{extended_banks}

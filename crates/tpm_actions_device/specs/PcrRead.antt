@@ -2,13 +2,13 @@
 use Rattle.std.specs.Prelude.{ℕ, ◌++◌, ◌%◌, ◌^◌, List, Result, Ok}
 use Rattle.std.specs.Int.{w32, to_be_bytes}
 use Rattle.tpm_bytes.specs.Reading.{◌>>=◌}
-use Rattle.tpm_types.specs.DigestList.{digest_list_text}
-use Rattle.tpm_types.specs.PcrSelection.{selection_at, selection_text}
-use Rattle.tpm_types.specs.declared.pcr_selection.BankSelection.{BankSelection}
+use Rattle.tpm_types_common.specs.DigestList.{digest_list_text}
+use Rattle.tpm_types_common.specs.PcrSelection.{selection_at, selection_text}
+use Rattle.tpm_types_common.specs.declared.pcr_selection.BankSelection.{BankSelection}
 use Rattle.tpm_pcr.specs.Banks.{answer_selection, read_values}
 use Rattle.tpm_pcr.specs.Values.{BankValues}
 use Rattle.tpm_record.specs.Record.{Record}
-use Rattle.tpm_types.specs.declared.refused.Refused.{Refused}
+use Rattle.tpm_types_common.specs.declared.refused.Refused.{Refused}
 use Rattle.tpm_record.specs.rows.Request.{Request}
 use Rattle.tpm_record.specs.rows.Answer.{Plain, answer_of}
 use Rattle.tpm_record.specs.rows.Rows.{Success, only, unchanged_success}

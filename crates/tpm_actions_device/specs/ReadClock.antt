@@ -3,7 +3,7 @@
 use Rattle.std.specs.Prelude.{ℕ, ◌++◌, List, [], ◌∷◌, Result, Ok}
 use Rattle.std.specs.Int.{w32, w64, to_be_bytes}
 use Rattle.tpm_bytes.specs.Reading.{◌>>=◌}
-use Rattle.tpm_types.specs.declared.refused.Refused.{Refused}
+use Rattle.tpm_types_common.specs.declared.refused.Refused.{Refused}
 use Rattle.tpm_record.specs.Record.{Record}
 use Rattle.tpm_record.specs.declared.fixed.Fixed.{Fixed}
 use Rattle.tpm_record.specs.rows.Answer.{Plain, answer_of}

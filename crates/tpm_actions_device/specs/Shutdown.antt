@@ -1,8 +1,8 @@
 -- TPM2_Shutdown. TPM 2.0 Library, Part 3, section 9.4.
 use Rattle.std.specs.Prelude.{Result, Ok}
 use Rattle.tpm_bytes.specs.Reading.{◌>>=◌}
-use Rattle.tpm_types.specs.StartupType.{startup_type_at}
-use Rattle.tpm_types.specs.declared.refused.Refused.{Refused}
+use Rattle.tpm_types_common.specs.StartupType.{startup_type_at}
+use Rattle.tpm_types_common.specs.declared.refused.Refused.{Refused}
 use Rattle.tpm_record.specs.Record.{Record, with_saved}
 use Rattle.tpm_record.specs.Saved.{saved_by}
 use Rattle.tpm_record.specs.rows.Answer.{nothing}

@@ -1,27 +1,27 @@
 -- TPM2_StartAuthSession. TPM 2.0 Library, Part 3, section 11.1, and Part 1, section 19.6.
-use Rattle.tpm_types.specs.declared.action_check.ActionCheck.TheVariants as action
+use Rattle.tpm_types_common.specs.declared.action_check.ActionCheck.TheVariants as action
 use Rattle.std.specs.Prelude.{◌≡◌, ℕ, ◌==◌, not, Bool, false, List, length, take, Option, Some, None, if◌then◌else◌, Result, Ok, Err, ok_or, slice_set}
 use Rattle.tpm_bytes.specs.Reading.{◌>>=◌, refused_if}
 use Rattle.tpm_mac.specs.declared.algorithm.HashAlg.{HashAlg}
 use Rattle.tpm_containers.specs.Slots.{lowest_free}
 use Rattle.tpm_session.specs.declared.session.Binding.{Binding}
 use Rattle.tpm_session.specs.declared.session.Session.{Session}
-use Rattle.tpm_types.specs.declared.session_type.SessionType.{SessionType}
+use Rattle.tpm_types_common.specs.declared.session_type.SessionType.{SessionType}
 use Rattle.tpm_session.specs.Key.{is_nonce_size}
 use Rattle.tpm_session.specs.Sessions.{handle_of, new_session}
-use Rattle.tpm_types.specs.declared.handle.Handle.{Handle}
-use Rattle.tpm_types.specs.declared.rc.ResponseCode.TheVariants as code
-use Rattle.tpm_types.specs.declared.symmetric.SymmetricDefinition.{SymmetricDefinition}
-use Rattle.tpm_types.specs.Buffer.{buffer_at}
-use Rattle.tpm_types.specs.Handle.{null_handle}
-use Rattle.tpm_types.specs.Rc.{plain}
-use Rattle.tpm_types.specs.SessionType.{session_type_at}
-use Rattle.tpm_types.specs.Algorithm.{hash_at, hash_number}
-use Rattle.tpm_types.specs.Symmetric.{symmetric_at}
-use Rattle.tpm_types.specs.declared.symmetric.SymmetricDefinition.TheVariants as symmetric
+use Rattle.tpm_types_common.specs.declared.handle.Handle.{Handle}
+use Rattle.tpm_types_common.specs.declared.rc.ResponseCode.TheVariants as code
+use Rattle.tpm_types_common.specs.declared.symmetric.SymmetricDefinition.{SymmetricDefinition}
+use Rattle.tpm_types_common.specs.Buffer.{buffer_at}
+use Rattle.tpm_types_common.specs.Handle.{null_handle}
+use Rattle.tpm_types_common.specs.Rc.{plain}
+use Rattle.tpm_types_common.specs.SessionType.{session_type_at}
+use Rattle.tpm_types_common.specs.Algorithm.{hash_at, hash_number}
+use Rattle.tpm_types_common.specs.Symmetric.{symmetric_at}
+use Rattle.tpm_types_common.specs.declared.symmetric.SymmetricDefinition.TheVariants as symmetric
 use Rattle.tpm_record.specs.Entity.{auth_value_of, name_of, protection_of}
 use Rattle.tpm_record.specs.Record.{Record}
-use Rattle.tpm_types.specs.declared.refused.Refused.{Refused}
+use Rattle.tpm_types_common.specs.declared.refused.Refused.{Refused}
 use Rattle.tpm_actions_device.specs.declared.start_auth_session.SessionParameters.{SessionParameters}
 use Rattle.tpm_record.specs.rows.Request.{Request, second_handle}
 use Rattle.tpm_record.specs.rows.Answer.{AnswerParts, Sized}

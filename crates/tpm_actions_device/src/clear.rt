@@ -14,7 +14,7 @@ use tpm_record::rows::call::Call;
 use tpm_record::rows::reading::end;
 use tpm_record::rows::refusals::action_refusal;
 use tpm_record::{Fixed, Keep, PersistentObjects};
-use tpm_types::{ActionCheck, Refused, ResponseCode};
+use tpm_types_common::{ActionCheck, Refused, ResponseCode};
 
 /// The number of random bytes that TPM2_Clear draws: for the owner's seed and proof, and for the
 /// endorsement hierarchy's proof.

@@ -12,7 +12,7 @@ use tpm_record::rows::answer::Answer;
 use tpm_record::rows::call::Call;
 use tpm_record::rows::reading::{end, parameter};
 use tpm_record::rows::refusals::action_refusal;
-use tpm_types::{ActionCheck, Handle, Refused, ResponseCode, read_yes_no};
+use tpm_types_common::{ActionCheck, Handle, Refused, ResponseCode, read_yes_no};
 
 /// TPM2_ClearControl: disables or enables TPM2_Clear. Returns AUTH_FAIL if TPM_RH_LOCKOUT is used
 /// to enable TPM2_Clear.

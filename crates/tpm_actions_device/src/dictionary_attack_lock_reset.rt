@@ -11,7 +11,7 @@ use tpm_record::Keep;
 use tpm_record::rows::answer::Answer;
 use tpm_record::rows::call::Call;
 use tpm_record::rows::reading::end;
-use tpm_types::Refused;
+use tpm_types_common::Refused;
 
 /// TPM2_DictionaryAttackLockReset: resets the number of failed tries.
 #[tactic(auto, unfolding(crate::specs::DictionaryAttackLockReset::dictionary_attack_lock_reset_row))]

@@ -12,7 +12,7 @@ use tpm_record::Keep;
 use tpm_record::rows::answer::Answer;
 use tpm_record::rows::call::Call;
 use tpm_record::rows::reading::{end, number};
-use tpm_types::Refused;
+use tpm_types_common::Refused;
 
 /// The parameters of TPM2_DictionaryAttackParameters; the times are in seconds.
 #[derive(Clone, Copy)]

@@ -3,7 +3,7 @@
 
 ghost use Rattle.std.specs.Prelude.{◌≡◌};
 ghost use Rattle.tpm_actions_device.specs.FlushContext.{can_be_flushed, flush_context_row, flushed_from, is_loaded};
-ghost use Rattle.tpm_types.specs.Handle.{is_session};
+ghost use Rattle.tpm_types_common.specs.Handle.{is_session};
 ghost use Rattle.tpm_record.specs.rows.Answer.{IsEmpty};
 ghost use Rattle.tpm_record.specs.rows.Request.{request_of};
 ghost use Rattle.tpm_record.specs.rows.Rows.{Acts};
@@ -14,7 +14,7 @@ use tpm_record::rows::answer::Answer;
 use tpm_record::rows::call::Call;
 use tpm_record::rows::reading::{end, number};
 use tpm_record::rows::refusals::parameter_refusal;
-use tpm_types::{ActionCheck, Handle, Refused, ResponseCode};
+use tpm_types_common::{ActionCheck, Handle, Refused, ResponseCode};
 
 fn can_be_flushed(handle: Handle) -> bool
     ensures { result ≡ can_be_flushed handle }

@@ -10,7 +10,7 @@ use tpm_record::Keep;
 use tpm_record::rows::answer::Answer;
 use tpm_record::rows::call::Call;
 use tpm_record::rows::reading::{end, number};
-use tpm_types::Refused;
+use tpm_types_common::Refused;
 
 /// The maximum number of bytes that one TPM2_GetRandom returns.
 const RANDOM_LIMIT: usize = 32;

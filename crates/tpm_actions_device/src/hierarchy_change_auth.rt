@@ -12,7 +12,7 @@ use tpm_record::Keep;
 use tpm_record::rows::answer::Answer;
 use tpm_record::rows::call::Call;
 use tpm_record::rows::reading::{end, parameter};
-use tpm_types::{AuthValue, Refused};
+use tpm_types_common::{AuthValue, Refused};
 
 /// TPM2_HierarchyChangeAuth: sets the authorization value of a hierarchy, or lockoutAuth.
 #[tactic(auto, unfolding(crate::specs::HierarchyChangeAuth::hierarchy_change_auth_row))]

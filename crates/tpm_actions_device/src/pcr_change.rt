@@ -5,7 +5,7 @@ ghost use Rattle.tpm_actions_device.specs.PcrChange.{change_refusal};
 
 use tpm_pcr::ChangeFault;
 use tpm_record::rows::refusals::action_refusal;
-use tpm_types::{ActionCheck, Refused, ResponseCode};
+use tpm_types_common::{ActionCheck, Refused, ResponseCode};
 
 /// The refusal of a command that could not change a PCR because of this fault.
 pub fn change_refusal(fault: ChangeFault) -> Refused

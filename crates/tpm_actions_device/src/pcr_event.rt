@@ -13,7 +13,7 @@ use tpm_record::Keep;
 use tpm_record::rows::answer::Answer;
 use tpm_record::rows::call::Call;
 use tpm_record::rows::reading::{end, parameter};
-use tpm_types::{DATA_LIMIT, Refused, read_buffer};
+use tpm_types_common::{DATA_LIMIT, Refused, read_buffer};
 
 /// TPM2_PCR_Event: extends a PCR with the digests of the data, and returns the digests. With
 /// TPM_RH_NULL, the command checks and changes no PCR, but still returns the digests.

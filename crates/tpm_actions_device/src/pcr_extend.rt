@@ -13,7 +13,7 @@ use tpm_record::Keep;
 use tpm_record::rows::answer::Answer;
 use tpm_record::rows::call::Call;
 use tpm_record::rows::reading::{end, parameter};
-use tpm_types::{DigestValues, Refused};
+use tpm_types_common::{DigestValues, Refused};
 
 /// TPM2_PCR_Extend: extends a PCR with each digest in turn. With TPM_RH_NULL, the command checks
 /// and changes no PCR.

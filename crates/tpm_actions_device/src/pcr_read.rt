@@ -3,8 +3,8 @@
 
 ghost use Rattle.std.specs.Prelude.{◌≡◌, ◌++◌, ◌%◌, ◌^◌, []};
 ghost use Rattle.std.specs.Int.{w32, to_be_bytes};
-ghost use Rattle.tpm_types.specs.DigestList.{digest_list_text, digests_of};
-ghost use Rattle.tpm_types.specs.PcrSelection.{selection_text};
+ghost use Rattle.tpm_types_common.specs.DigestList.{digest_list_text, digests_of};
+ghost use Rattle.tpm_types_common.specs.PcrSelection.{selection_text};
 ghost use Rattle.tpm_actions_device.specs.PcrRead.{pcr_read_row};
 ghost use Rattle.tpm_record.specs.rows.Answer.{IsEmpty};
 ghost use Rattle.tpm_record.specs.rows.Request.{request_of};
@@ -16,7 +16,7 @@ use tpm_record::Keep;
 use tpm_record::rows::answer::{Answer, Parameters};
 use tpm_record::rows::call::Call;
 use tpm_record::rows::reading::{end, parameter};
-use tpm_types::{PcrSelection, Refused};
+use tpm_types_common::{PcrSelection, Refused};
 
 /// Writes the low 32 bits of the update counter, the selection, and the values.
 fn write_reading(update_count: u64, reading: &PcrReading, answer: &mut Parameters)

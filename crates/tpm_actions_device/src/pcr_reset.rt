@@ -12,7 +12,7 @@ use tpm_record::Keep;
 use tpm_record::rows::answer::Answer;
 use tpm_record::rows::call::Call;
 use tpm_record::rows::reading::end;
-use tpm_types::Refused;
+use tpm_types_common::Refused;
 
 /// TPM2_PCR_Reset: resets a PCR to zeros in both banks.
 #[tactic(auto, unfolding(crate::specs::PcrReset::pcr_reset_row))]

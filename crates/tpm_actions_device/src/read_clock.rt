@@ -12,7 +12,7 @@ use tpm_record::Keep;
 use tpm_record::rows::answer::Answer;
 use tpm_record::rows::call::Call;
 use tpm_record::rows::reading::end;
-use tpm_types::Refused;
+use tpm_types_common::Refused;
 
 /// TPM2_ReadClock: returns Time, Clock, and the numbers of resets and restarts. Clock never goes
 /// back.

@@ -12,7 +12,7 @@ use tpm_record::Keep;
 use tpm_record::rows::answer::Answer;
 use tpm_record::rows::call::Call;
 use tpm_record::rows::reading::{end, parameter};
-use tpm_types::{Refused, read_yes_no};
+use tpm_types_common::{Refused, read_yes_no};
 
 /// TPM2_SelfTest: does nothing, because all tests have already passed.
 #[tactic(auto, unfolding(crate::specs::SelfTest::self_test_row))]

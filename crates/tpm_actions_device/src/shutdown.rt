@@ -11,7 +11,7 @@ use tpm_record::Keep;
 use tpm_record::rows::answer::Answer;
 use tpm_record::rows::call::Call;
 use tpm_record::rows::reading::{end, parameter};
-use tpm_types::{Refused, StartupType};
+use tpm_types_common::{Refused, StartupType};
 
 /// TPM2_Shutdown: saves the state that the next TPM2_Startup uses. With STATE, this state includes
 /// the values of PCRs 0 to 15.

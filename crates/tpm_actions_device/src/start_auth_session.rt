@@ -17,7 +17,7 @@ use tpm_record::rows::reading::{end, parameter};
 use tpm_record::rows::refusals::{action_refusal, memory_refusal, parameter_refusal};
 use tpm_record::{Keep, resolve};
 use tpm_session::{Binding, Nonce, Start, StartFault, is_nonce_size};
-use tpm_types::{
+use tpm_types_common::{
     ActionCheck, AuthValue, DIGEST_LIMIT, Handle, Rc, Refused, ResponseCode, SessionType,
     SymmetricDefinition, hash_number, read_buffer, read_hash,
 };

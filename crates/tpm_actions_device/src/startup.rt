@@ -16,7 +16,7 @@ use tpm_record::rows::call::Call;
 use tpm_record::rows::reading::{end, parameter};
 use tpm_record::rows::refusals::parameter_refusal;
 use tpm_record::{Fixed, Hierarchies, Keep, SavedKind, Secrets};
-use tpm_types::{ActionCheck, AuthValue, HierarchyAuth, Refused, ResponseCode, StartupType};
+use tpm_types_common::{ActionCheck, AuthValue, HierarchyAuth, Refused, ResponseCode, StartupType};
 
 /// The number of random bytes that a TPM Reset draws, for a seed and a proof.
 const RESET_DRAWS: usize = 64;

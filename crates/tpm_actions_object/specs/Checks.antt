@@ -1,7 +1,7 @@
 -- The checks of a template and of inSensitive, as part of a command's own checks. TPM 2.0 Library,
 -- Part 3, section 12 (object commands). The response codes and the order of the checks are choices
 -- of this implementation.
-use Rattle.tpm_types.specs.ActionCheck.{action_named}
+use Rattle.tpm_types_common.specs.ActionCheck.{action_named}
 use Rattle.std.specs.Prelude.{ℕ, ◌+◌, Bool, Result}
 use Rattle.tpm_object.specs.declared.creation.CreationFault.{CreationFault}
 use Rattle.tpm_object.specs.declared.creation.CreationFault.TheVariants as creation
@@ -11,8 +11,8 @@ use Rattle.tpm_object.specs.Creation.{creation_passes}
 use Rattle.tpm_object.specs.Template.{template_passes}
 use Rattle.tpm_types_object.specs.declared.public.Public.{Public}
 use Rattle.tpm_types_object.specs.SensitiveCreate.{SensitiveValues}
-use Rattle.tpm_types.specs.declared.rc.ResponseCode.TheVariants as code
-use Rattle.tpm_types.specs.declared.refused.Refused.{Refused}
+use Rattle.tpm_types_common.specs.declared.rc.ResponseCode.TheVariants as code
+use Rattle.tpm_types_common.specs.declared.refused.Refused.{Refused}
 use Rattle.tpm_record.specs.rows.Refusals.{or_refusal, parameter_refusal}
 
 -- the refusal if a template, or a public area to be loaded, fails a check; `before` is the number

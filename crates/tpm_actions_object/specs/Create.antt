@@ -8,7 +8,7 @@ use Rattle.tpm_object.specs.Areas.{created_areas}
 use Rattle.tpm_object.specs.Creation.{drawn_by}
 use Rattle.tpm_object.specs.PrivateArea.{private_text}
 use Rattle.tpm_record.specs.Record.{Record}
-use Rattle.tpm_types.specs.declared.refused.Refused.{Refused}
+use Rattle.tpm_types_common.specs.declared.refused.Refused.{Refused}
 use Rattle.tpm_record.specs.rows.Request.{Request, first_handle}
 use Rattle.tpm_record.specs.rows.Answer.{AnswerParts, SizedFirst}
 use Rattle.tpm_record.specs.rows.Rows.{Success, unchanged_success}

@@ -13,19 +13,19 @@ use Rattle.tpm_name.specs.ObjectName.{object_name}
 use Rattle.tpm_object.specs.declared.object.Object.{Object}
 use Rattle.tpm_pcr.specs.Banks.{select_digest_of}
 use Rattle.tpm_types_object.specs.declared.creation_data.CreationData.{CreationData}
-use Rattle.tpm_types.specs.declared.handle.HierarchyHandle.{HierarchyHandle}
-use Rattle.tpm_types.specs.declared.pcr_selection.BankSelection.{BankSelection}
+use Rattle.tpm_types_common.specs.declared.handle.HierarchyHandle.{HierarchyHandle}
+use Rattle.tpm_types_common.specs.declared.pcr_selection.BankSelection.{BankSelection}
 use Rattle.tpm_types_object.specs.declared.public.Public.{Public}
-use Rattle.tpm_types.specs.Buffer.{buffer_at}
+use Rattle.tpm_types_common.specs.Buffer.{buffer_at}
 use Rattle.tpm_types_object.specs.CreationData.{creation_data_text}
-use Rattle.tpm_types.specs.Filled.{filled_by}
-use Rattle.tpm_types.specs.Handle.{hierarchy_handle}
-use Rattle.tpm_types.specs.PcrSelection.{selection_at}
+use Rattle.tpm_types_common.specs.Filled.{filled_by}
+use Rattle.tpm_types_common.specs.Handle.{hierarchy_handle}
+use Rattle.tpm_types_common.specs.PcrSelection.{selection_at}
 use Rattle.tpm_types_object.specs.Public.{public_at, public_text}
 use Rattle.tpm_types_object.specs.SensitiveCreate.{SensitiveValues, sensitive_create_at, sensitive_values_of}
 use Rattle.tpm_record.specs.Hierarchy.{secrets_of}
 use Rattle.tpm_record.specs.Record.{Record}
-use Rattle.tpm_types.specs.declared.refused.Refused.{Refused}
+use Rattle.tpm_types_common.specs.declared.refused.Refused.{Refused}
 use Rattle.tpm_record.specs.rows.Rows.{all_read, parameter}
 use Rattle.tpm_actions_object.specs.declared.creation.CreationParameters.{CreationParameters}
 use Rattle.tpm_actions_object.specs.declared.creation.Parent.{Parent}

@@ -1,20 +1,20 @@
 -- TPM2_EvictControl. TPM 2.0 Library, Part 3, section 28.5, and Part 2, section 7.5 (TPM_HC: the
 -- persistent handles of the platform start at 81800000).
-use Rattle.tpm_types.specs.Limits.{persistent_limit}
-use Rattle.tpm_types.specs.declared.action_check.ActionCheck.TheVariants as action
+use Rattle.tpm_types_common.specs.Limits.{persistent_limit}
+use Rattle.tpm_types_common.specs.declared.action_check.ActionCheck.TheVariants as action
 use Rattle.std.specs.Prelude.{◌≡◌, ◌==◌, nat_le, not, Bool, true, false, length, is_some, if◌then◌else◌, Result, Ok, Err}
 use Rattle.tpm_containers.specs.SortedMap.{Entries}
 use Rattle.tpm_bytes.specs.Reading.{◌>>=◌, refused_if}
 use Rattle.tpm_object.specs.declared.object.Object.{Object}
-use Rattle.tpm_types.specs.Handle.{is_persistent, platform_handle}
-use Rattle.tpm_types.specs.PersistentHandle.{persistent_handle_at}
-use Rattle.tpm_types.specs.Rc.{at, plain}
-use Rattle.tpm_types.specs.declared.handle.Handle.{Handle}
-use Rattle.tpm_types.specs.declared.handle.HierarchyHandle.{HierarchyHandle}
-use Rattle.tpm_types.specs.declared.handle.HierarchyHandle.TheVariants as hierarchy
-use Rattle.tpm_types.specs.declared.rc.Place.TheVariants as place
-use Rattle.tpm_types.specs.declared.rc.ResponseCode.TheVariants as code
-use Rattle.tpm_types.specs.declared.refused.Refused.{Refused}
+use Rattle.tpm_types_common.specs.Handle.{is_persistent, platform_handle}
+use Rattle.tpm_types_common.specs.PersistentHandle.{persistent_handle_at}
+use Rattle.tpm_types_common.specs.Rc.{at, plain}
+use Rattle.tpm_types_common.specs.declared.handle.Handle.{Handle}
+use Rattle.tpm_types_common.specs.declared.handle.HierarchyHandle.{HierarchyHandle}
+use Rattle.tpm_types_common.specs.declared.handle.HierarchyHandle.TheVariants as hierarchy
+use Rattle.tpm_types_common.specs.declared.rc.Place.TheVariants as place
+use Rattle.tpm_types_common.specs.declared.rc.ResponseCode.TheVariants as code
+use Rattle.tpm_types_common.specs.declared.refused.Refused.{Refused}
 use Rattle.tpm_types_object.specs.ObjectAttributes.{has}
 use Rattle.tpm_types_object.specs.declared.object_attributes.ObjectAttribute.TheVariants as attribute
 use Rattle.tpm_record.specs.Persistent.{persistent_at, with_persistent, without_persistent}

@@ -1,6 +1,6 @@
 -- TPM2_HMAC. TPM 2.0 Library, Part 3, section 15.5.
-use Rattle.tpm_types.specs.declared.action_check.ActionCheck.TheVariants as action
-use Rattle.tpm_types.specs.Limits.{data_limit}
+use Rattle.tpm_types_common.specs.declared.action_check.ActionCheck.TheVariants as action
+use Rattle.tpm_types_common.specs.Limits.{data_limit}
 use Rattle.std.specs.Prelude.{ℕ, ◌==◌, List, Option, Some, None, if◌then◌else◌, not, Result, Ok, Err, ok_or}
 use Rattle.tpm_bytes.specs.Reading.{◌>>=◌, refused_if}
 use Rattle.tpm_mac.specs.declared.algorithm.HashAlg.{HashAlg}
@@ -10,14 +10,14 @@ use Rattle.tpm_types_object.specs.declared.public.KeyedHashScheme.{KeyedHashSche
 use Rattle.tpm_types_object.specs.declared.public.KeyedHashScheme.TheVariants as scheme
 use Rattle.tpm_types_object.specs.declared.public.PublicParameters.{PublicParameters}
 use Rattle.tpm_types_object.specs.declared.public.PublicParameters.TheVariants.{KeyedHash, SymCipher}
-use Rattle.tpm_types.specs.declared.rc.Place.TheVariants as place
-use Rattle.tpm_types.specs.declared.rc.ResponseCode.TheVariants as code
-use Rattle.tpm_types.specs.Algorithm.{hash_number, hash_or_null_at}
-use Rattle.tpm_types.specs.Buffer.{buffer_at}
+use Rattle.tpm_types_common.specs.declared.rc.Place.TheVariants as place
+use Rattle.tpm_types_common.specs.declared.rc.ResponseCode.TheVariants as code
+use Rattle.tpm_types_common.specs.Algorithm.{hash_number, hash_or_null_at}
+use Rattle.tpm_types_common.specs.Buffer.{buffer_at}
 use Rattle.tpm_types_object.specs.ObjectAttributes.{has}
-use Rattle.tpm_types.specs.Rc.{at, plain}
+use Rattle.tpm_types_common.specs.Rc.{at, plain}
 use Rattle.tpm_record.specs.Record.{Record}
-use Rattle.tpm_types.specs.declared.refused.Refused.{Refused}
+use Rattle.tpm_types_common.specs.declared.refused.Refused.{Refused}
 use Rattle.tpm_record.specs.rows.Request.{Request, first_handle}
 use Rattle.tpm_record.specs.rows.Answer.{Sized, answer_of}
 use Rattle.tpm_record.specs.rows.Rows.{Success, all_read, parameter, unchanged_success}

@@ -1,5 +1,5 @@
 -- TPM2_Load. TPM 2.0 Library, Part 3, section 12.2.
-use Rattle.tpm_types.specs.declared.action_check.ActionCheck.TheVariants as action
+use Rattle.tpm_types_common.specs.declared.action_check.ActionCheck.TheVariants as action
 use Rattle.std.specs.Prelude.{ℕ, List, Some, Result, Ok}
 use Rattle.tpm_bytes.specs.Reading.{◌>>=◌, or_fault}
 use Rattle.tpm_name.specs.ObjectName.{object_name}
@@ -7,14 +7,14 @@ use Rattle.tpm_object.specs.declared.object.Object.{Object}
 use Rattle.tpm_object.specs.Object.{loaded_object}
 use Rattle.tpm_object.specs.PrivateArea.{unwrapped_sensitive}
 use Rattle.tpm_types_object.specs.declared.public.Public.{Public}
-use Rattle.tpm_types.specs.declared.rc.ResponseCode.TheVariants as code
+use Rattle.tpm_types_common.specs.declared.rc.ResponseCode.TheVariants as code
 use Rattle.tpm_types_object.specs.declared.sensitive.Sensitive.{Sensitive}
-use Rattle.tpm_types.specs.Buffer.{buffer_at}
-use Rattle.tpm_types.specs.Filled.{filled_by}
+use Rattle.tpm_types_common.specs.Buffer.{buffer_at}
+use Rattle.tpm_types_common.specs.Filled.{filled_by}
 use Rattle.tpm_types_object.specs.Public.{public_at}
 use Rattle.tpm_record.specs.Objects.{object_handle, with_object}
 use Rattle.tpm_record.specs.Record.{Record}
-use Rattle.tpm_types.specs.declared.refused.Refused.{Refused}
+use Rattle.tpm_types_common.specs.declared.refused.Refused.{Refused}
 use Rattle.tpm_record.specs.rows.Request.{Request, first_handle}
 use Rattle.tpm_record.specs.rows.Answer.{AnswerParts, Sized}
 use Rattle.tpm_record.specs.rows.Rows.{Success, all_read, parameter}

@@ -6,7 +6,7 @@ use Rattle.tpm_name.specs.ObjectName.{object_name}
 use Rattle.tpm_object.specs.declared.object.Object.{Object}
 use Rattle.tpm_types_object.specs.Public.{public_text}
 use Rattle.tpm_record.specs.Record.{Record}
-use Rattle.tpm_types.specs.declared.refused.Refused.{Refused}
+use Rattle.tpm_types_common.specs.declared.refused.Refused.{Refused}
 use Rattle.tpm_record.specs.rows.Request.{Request, first_handle}
 use Rattle.tpm_record.specs.rows.Answer.{Body, SizedFirst, answer_of}
 use Rattle.tpm_record.specs.rows.Rows.{Success, all_read, unchanged_success}

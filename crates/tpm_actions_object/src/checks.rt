@@ -7,7 +7,7 @@ ghost use Rattle.tpm_actions_object.specs.Checks.{creation_refusal, given_passes
 
 use tpm_object::{CreationFault, TemplateFault, check_creation, check_template};
 use tpm_record::rows::refusals::parameter_refusal;
-use tpm_types::{ActionCheck, Refused, ResponseCode};
+use tpm_types_common::{ActionCheck, Refused, ResponseCode};
 use tpm_types_object::{Public, SensitiveCreate};
 
 /// The refusal if a template fails a check. `before` is the number of the command's own checks

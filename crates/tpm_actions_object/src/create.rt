@@ -15,7 +15,7 @@ use tpm_object::{create as create_areas, drawn_by, wrap_named};
 use tpm_record::Keep;
 use tpm_record::rows::answer::Answer;
 use tpm_record::rows::call::Call;
-use tpm_types::Refused;
+use tpm_types_common::Refused;
 
 /// The number of random bytes in the IV of a private area.
 const VECTOR_SIZE: usize = 16;

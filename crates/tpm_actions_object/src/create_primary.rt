@@ -4,7 +4,7 @@
 ghost use Rattle.std.specs.Prelude.{◌≡◌, ◌++◌, []};
 ghost use Rattle.tpm_bytes.specs.Writing.{sized_text};
 ghost use Rattle.tpm_name.specs.ObjectName.{object_name};
-ghost use Rattle.tpm_types.specs.Locality.{locality_number};
+ghost use Rattle.tpm_types_common.specs.Locality.{locality_number};
 ghost use Rattle.tpm_types_object.specs.Public.{public_text};
 ghost use Rattle.tpm_record.specs.rows.Answer.{IsEmpty};
 ghost use Rattle.tpm_record.specs.rows.Request.{request_of};
@@ -20,7 +20,7 @@ use tpm_record::Keep;
 use tpm_record::rows::answer::{Answer, Parameters};
 use tpm_record::rows::call::Call;
 use tpm_record::rows::refusals::handle_refusal;
-use tpm_types::{ActionCheck, Handle, HierarchyHandle, Locality, Refused};
+use tpm_types_common::{ActionCheck, Handle, HierarchyHandle, Locality, Refused};
 
 fn named_hierarchy(handle: Handle) -> Result<HierarchyHandle, Refused>
     ensures { result ≡ named_hierarchy handle }

@@ -5,7 +5,7 @@ ghost use Rattle.tpm_bytes.specs.Reading.{Gives};
 ghost use Rattle.std.specs.Prelude.{◌≡◌, ◌+◌, ◌≤◌, ◌++◌, length};
 ghost use Rattle.tpm_bytes.specs.Writing.{sized_text};
 ghost use Rattle.tpm_name.specs.ObjectName.{object_name};
-ghost use Rattle.tpm_types.specs.Locality.{locality_number};
+ghost use Rattle.tpm_types_common.specs.Locality.{locality_number};
 ghost use Rattle.tpm_actions_object.specs.Creation.{creation_data, creation_text, hierarchy_parent, object_parent, parameters_in, parameters_of, ticket_text};
 
 use tpm_bytes::{Cursor, Sink};
@@ -15,7 +15,7 @@ use tpm_object::Object;
 use tpm_record::Keep;
 use tpm_record::rows::answer::Parameters;
 use tpm_record::rows::reading::{end, number, parameter};
-use tpm_types::{HierarchyHandle, Locality, Octets, PcrSelection, Refused, read_filled};
+use tpm_types_common::{HierarchyHandle, Locality, Octets, PcrSelection, Refused, read_filled};
 use tpm_types_object::{CreationData, Public, SensitiveCreate};
 
 /// The tag of a creation ticket: TPM_ST_CREATION.

@@ -3,8 +3,8 @@
 
 ghost use Rattle.std.specs.Prelude.{◌≡◌, IfOk, OnOk, false, true};
 ghost use Rattle.tpm_record.specs.Persistent.{can_persist};
-ghost use Rattle.tpm_types.specs.Handle.{is_persistent};
-ghost use Rattle.tpm_types.specs.PersistentHandle.{persistent_handle_at};
+ghost use Rattle.tpm_types_common.specs.Handle.{is_persistent};
+ghost use Rattle.tpm_types_common.specs.PersistentHandle.{persistent_handle_at};
 ghost use Rattle.tpm_record.specs.rows.Answer.{IsEmpty};
 ghost use Rattle.tpm_record.specs.rows.Request.{request_of, second_handle};
 ghost use Rattle.tpm_record.specs.rows.Rows.{Acts, ActsIfRoom, only};
@@ -19,7 +19,7 @@ use tpm_record::rows::call::Call;
 use tpm_record::rows::reading::{end, parameter};
 use tpm_record::rows::refusals::{action_refusal, memory_refusal, parameter_refusal};
 use tpm_record::{Keep, PersistentObjects};
-use tpm_types::{
+use tpm_types_common::{
     ActionCheck, Handle, HierarchyHandle, Refused, ResponseCode, read_persistent_handle,
 };
 use tpm_types_object::ObjectAttribute;
@@ -27,7 +27,7 @@ use tpm_types_object::ObjectAttribute;
 /// The lowest persistent handle of the platform.
 const PLATFORM_PERSISTENT: u32 = 0x8180_0000;
 
-#[tactic(auto, unfolding(tpm_types::specs::PersistentHandle::persistent_handle_at))]
+#[tactic(auto, unfolding(tpm_types_common::specs::PersistentHandle::persistent_handle_at))]
 fn read_parameters(parameters: &[u8]) -> Result<Handle, Refused>
     ensures read { result ≡ only (persistent_handle_at parameters.now) }
     ensures named { IfOk result (λ handle. is_persistent handle ≡ true) }

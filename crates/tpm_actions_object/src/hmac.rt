@@ -14,7 +14,7 @@ use tpm_record::rows::answer::Answer;
 use tpm_record::rows::call::Call;
 use tpm_record::rows::reading::{end, parameter};
 use tpm_record::rows::refusals::action_refusal;
-use tpm_types::{
+use tpm_types_common::{
     ActionCheck, DATA_LIMIT, Refused, ResponseCode, hash_number, read_buffer, read_hash_or_null,
 };
 use tpm_types_object::{KeyedHashScheme, ObjectAttribute, PublicParameters};

@@ -18,7 +18,7 @@ use tpm_record::rows::answer::Answer;
 use tpm_record::rows::call::Call;
 use tpm_record::rows::reading::{end, parameter};
 use tpm_record::rows::refusals::parameter_refusal;
-use tpm_types::{ActionCheck, Refused, ResponseCode, read_buffer, read_filled};
+use tpm_types_common::{ActionCheck, Refused, ResponseCode, read_buffer, read_filled};
 use tpm_types_object::{Public, Sensitive};
 
 /// The maximum size of inPrivate, in bytes.

@@ -9,7 +9,7 @@ use tpm_containers::SlotFault;
 use tpm_object::{Object, is_storage_parent};
 use tpm_record::rows::refusals::{action_refusal, handle_refusal, memory_refusal};
 use tpm_record::{Keep, object_of};
-use tpm_types::{ActionCheck, Handle, Refused, ResponseCode};
+use tpm_types_common::{ActionCheck, Handle, Refused, ResponseCode};
 use tpm_types_object::ObjectAttribute;
 
 /// The object with this handle, transient or persistent.

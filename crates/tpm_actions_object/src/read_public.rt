@@ -13,7 +13,7 @@ use tpm_record::Keep;
 use tpm_record::rows::answer::Answer;
 use tpm_record::rows::call::Call;
 use tpm_record::rows::reading::end;
-use tpm_types::Refused;
+use tpm_types_common::Refused;
 
 /// TPM2_ReadPublic: returns the public area of an object, its Name and its qualified Name.
 #[tactic(auto, unfolding(crate::specs::ReadPublic::read_public_row))]

@@ -14,7 +14,7 @@ use tpm_record::rows::answer::Answer;
 use tpm_record::rows::call::Call;
 use tpm_record::rows::reading::end;
 use tpm_record::rows::refusals::action_refusal;
-use tpm_types::{ActionCheck, Refused, ResponseCode};
+use tpm_types_common::{ActionCheck, Refused, ResponseCode};
 use tpm_types_object::ObjectAttribute;
 
 /// TPM2_Unseal: returns the data that an object seals.

@@ -6,7 +6,7 @@ use Rattle.std.proofs.lemmas.List.{length-drop, length-take}
 use Rattle.tpm_bytes.proofs.Fields.{bind_ok, ok_is, ok_or_ok, or_fault_ok, passed}
 use Rattle.tpm_bytes.specs.Reading.{refused_if}
 use Rattle.tpm_containers.specs.SortedMap.{Entries, at_key}
-use Rattle.tpm_types.specs.declared.handle.Handle.{Handle}
+use Rattle.tpm_types_common.specs.declared.handle.Handle.{Handle}
 use Rattle.tpm_types_nv.specs.NvAttributes.{has}
 use Rattle.tpm_types_nv.specs.declared.nv_attributes.NvAttribute.TheVariants as attribute
 use Rattle.tpm_nv.specs.Access.{index_has, index_or_fault, read_at, readable}

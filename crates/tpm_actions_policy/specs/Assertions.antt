@@ -6,14 +6,14 @@ use Rattle.std.specs.Borrow.{Bor}
 use Rattle.tpm_bytes.specs.Reading.{◌>>=◌}
 use Rattle.tpm_policy.specs.Assertion.{Assertion, asserted_policy}
 use Rattle.tpm_policy.specs.State.{Policy}
-use Rattle.tpm_types.specs.SessionType.{is_trial}
+use Rattle.tpm_types_common.specs.SessionType.{is_trial}
 use Rattle.tpm_session.specs.declared.session.Session.{Session}
 use Rattle.tpm_session.specs.Sessions.{session_at, with_session_policy}
 use Rattle.tpm_commands.specs.declared.command_code.CommandCode.{CommandCode}
 use Rattle.tpm_commands.specs.declared.command_code.CommandCode.TheVariants as command
-use Rattle.tpm_types.specs.declared.handle.Handle.{Handle}
+use Rattle.tpm_types_common.specs.declared.handle.Handle.{Handle}
 use Rattle.tpm_record.specs.Record.{Record}
-use Rattle.tpm_types.specs.declared.refused.Refused.{Refused}
+use Rattle.tpm_types_common.specs.declared.refused.Refused.{Refused}
 use Rattle.tpm_record.specs.rows.Answer.{Body, Plain, answer_of}
 use Rattle.tpm_record.specs.rows.Refusals.{fault_refusal, handle_refusal, or_refusal}
 use Rattle.tpm_record.specs.rows.Request.{Request, first_handle, second_handle, third_handle}

@@ -6,15 +6,15 @@ use Rattle.tpm_bytes.specs.Reading.{◌>>=◌, number_at, or_fault}
 use Rattle.tpm_nv.specs.Access.{read_at}
 use Rattle.tpm_policy.specs.Assertion.{Assertion, Nv, NvParts}
 use Rattle.tpm_session.specs.declared.session.Session.{Session}
-use Rattle.tpm_types.specs.ActionFault.{plain_fault}
-use Rattle.tpm_types.specs.declared.action_fault.ActionFault.{ActionFault}
-use Rattle.tpm_types.specs.Buffer.{buffer_at}
-use Rattle.tpm_types.specs.Operation.{operation_at}
-use Rattle.tpm_types.specs.Rc.{plain}
-use Rattle.tpm_types.specs.declared.action_check.ActionCheck.TheVariants as action
-use Rattle.tpm_types.specs.declared.operation.Operation.{Operation}
-use Rattle.tpm_types.specs.declared.rc.ResponseCode.TheVariants as code
-use Rattle.tpm_types.specs.declared.refused.Refused.{Refused}
+use Rattle.tpm_types_common.specs.ActionFault.{plain_fault}
+use Rattle.tpm_types_common.specs.declared.action_fault.ActionFault.{ActionFault}
+use Rattle.tpm_types_common.specs.Buffer.{buffer_at}
+use Rattle.tpm_types_common.specs.Operation.{operation_at}
+use Rattle.tpm_types_common.specs.Rc.{plain}
+use Rattle.tpm_types_common.specs.declared.action_check.ActionCheck.TheVariants as action
+use Rattle.tpm_types_common.specs.declared.operation.Operation.{Operation}
+use Rattle.tpm_types_common.specs.declared.rc.ResponseCode.TheVariants as code
+use Rattle.tpm_types_common.specs.declared.refused.Refused.{Refused}
 use Rattle.tpm_record.specs.Entity.{name_of}
 use Rattle.tpm_record.specs.Record.{Record}
 use Rattle.tpm_record.specs.rows.Request.{Request}

@@ -3,8 +3,8 @@ use Rattle.std.specs.Prelude.{List, Result, Ok, ℕ}
 use Rattle.tpm_bytes.specs.Reading.{◌>>=◌}
 use Rattle.tpm_policy.specs.Assertion.{Assertion, NvWritten}
 use Rattle.tpm_session.specs.declared.session.Session.{Session}
-use Rattle.tpm_types.specs.YesNo.{yes_no_at}
-use Rattle.tpm_types.specs.declared.refused.Refused.{Refused}
+use Rattle.tpm_types_common.specs.YesNo.{yes_no_at}
+use Rattle.tpm_types_common.specs.declared.refused.Refused.{Refused}
 use Rattle.tpm_record.specs.rows.Rows.{only}
 
 -- the assertion of TPM2_PolicyNvWritten. Parameter: writtenSet

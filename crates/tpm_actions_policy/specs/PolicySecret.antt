@@ -5,13 +5,13 @@ use Rattle.std.specs.Int.{w16, w32, to_be_bytes}
 use Rattle.tpm_bytes.specs.Reading.{◌>>=◌, number_at, or_fault}
 use Rattle.tpm_policy.specs.Assertion.{Assertion, Secret, SecretParts}
 use Rattle.tpm_session.specs.declared.session.Session.{Session}
-use Rattle.tpm_types.specs.Handle.{null_handle}
-use Rattle.tpm_types.specs.declared.rc.ResponseCode.TheVariants as code
-use Rattle.tpm_types.specs.Buffer.{buffer_at}
-use Rattle.tpm_types.specs.Rc.{plain}
+use Rattle.tpm_types_common.specs.Handle.{null_handle}
+use Rattle.tpm_types_common.specs.declared.rc.ResponseCode.TheVariants as code
+use Rattle.tpm_types_common.specs.Buffer.{buffer_at}
+use Rattle.tpm_types_common.specs.Rc.{plain}
 use Rattle.tpm_record.specs.Entity.{name_of}
 use Rattle.tpm_record.specs.Record.{Record}
-use Rattle.tpm_types.specs.declared.refused.Refused.{Refused}
+use Rattle.tpm_types_common.specs.declared.refused.Refused.{Refused}
 use Rattle.tpm_record.specs.rows.Answer.{Body, SizedFirst}
 use Rattle.tpm_record.specs.rows.Request.{Request, first_handle}
 use Rattle.tpm_record.specs.rows.Rows.{all_read, parameter}

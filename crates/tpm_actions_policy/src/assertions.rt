@@ -4,7 +4,7 @@
 ghost use Rattle.tpm_bytes.specs.Reading.{Gives};
 ghost use Rattle.std.specs.Prelude.{◌≡◌, Err};
 ghost use Rattle.tpm_policy.specs.Assertion.{Asserts, asserted_policy};
-ghost use Rattle.tpm_types.specs.SessionType.{is_trial};
+ghost use Rattle.tpm_types_common.specs.SessionType.{is_trial};
 ghost use Rattle.tpm_actions_policy.specs.AssertionParameters.{assertion_of};
 ghost use Rattle.tpm_actions_policy.specs.Assertions.{IsMade};
 ghost use Rattle.tpm_actions_policy.specs.Assertions.{policy_session, with_assertion};
@@ -16,7 +16,7 @@ use tpm_policy::PolicyState;
 use tpm_record::Keep;
 use tpm_record::rows::refusals::{fault_refusal, handle_refusal};
 use tpm_session::Session;
-use tpm_types::{ActionFault, DigestList, Handle, Refused};
+use tpm_types_common::{ActionFault, DigestList, Handle, Refused};
 
 /// The assertion that a command requests.
 #[derive(Clone, Copy)]

@@ -4,7 +4,7 @@
 ghost use Rattle.std.specs.Prelude.{◌≡◌, ◌≤◌, length};
 ghost use Rattle.tpm_policy.specs.Assertion as assertion;
 ghost use Rattle.tpm_policy.specs.Assertion.{Asserts, asserted_policy, compared_bytes};
-ghost use Rattle.tpm_types.specs.SessionType.{is_trial};
+ghost use Rattle.tpm_types_common.specs.SessionType.{is_trial};
 ghost use Rattle.tpm_actions_policy.specs.PolicyNv.{compared, nv_parts_of};
 
 use tpm_nv::Indices;
@@ -12,7 +12,7 @@ use tpm_policy::{NvAssertion, PolicyState};
 use tpm_record::rows::target::Target;
 use tpm_record::{Keep, name_of};
 use tpm_session::Session;
-use tpm_types::{ActionCheck, ActionFault, Operation, ResponseCode};
+use tpm_types_common::{ActionCheck, ActionFault, Operation, ResponseCode};
 
 /// The comparison that TPM2_PolicyNV asserts: the index, the operand, the offset and the operation.
 #[derive(Clone, Copy)]

@@ -13,7 +13,7 @@ use tpm_record::Keep;
 use tpm_record::rows::answer::Answer;
 use tpm_record::rows::call::Call;
 use tpm_record::rows::reading::{end, parameter};
-use tpm_types::{DIGEST_LIMIT, Refused, read_buffer};
+use tpm_types_common::{DIGEST_LIMIT, Refused, read_buffer};
 
 /// TPM2_PolicyCpHash: allows only the command with this cpHash.
 #[tactic(auto, unfolding(crate::specs::Assertions::assertion_row))]

@@ -13,7 +13,7 @@ use tpm_record::Keep;
 use tpm_record::rows::answer::Answer;
 use tpm_record::rows::call::Call;
 use tpm_record::rows::reading::end;
-use tpm_types::Refused;
+use tpm_types_common::Refused;
 
 /// TPM2_PolicyGetDigest: returns the policy digest of a session.
 #[tactic(auto, unfolding(crate::specs::PolicyGetDigest::policy_get_digest_row))]

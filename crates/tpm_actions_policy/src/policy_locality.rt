@@ -14,7 +14,7 @@ use tpm_record::Keep;
 use tpm_record::rows::answer::Answer;
 use tpm_record::rows::call::Call;
 use tpm_record::rows::reading::{end, number};
-use tpm_types::Refused;
+use tpm_types_common::Refused;
 
 /// TPM2_PolicyLocality: restricts the session to a subset of the localities that it still allows.
 #[tactic(auto, unfolding(crate::specs::Assertions::assertion_row))]

@@ -21,7 +21,7 @@ use tpm_record::rows::answer::Answer;
 use tpm_record::rows::call::Call;
 use tpm_record::rows::reading::{end, number, parameter};
 use tpm_record::rows::target::{Target, target_of};
-use tpm_types::{DIGEST_LIMIT, Operation, Refused, read_buffer};
+use tpm_types_common::{DIGEST_LIMIT, Operation, Refused, read_buffer};
 
 #[tactic(auto, unfolding(crate::specs::PolicyNv::nv_parameters))]
 fn read_compared<'a>(target: Target, parameters: &'a [u8]) -> Result<ComparedIndex<'a>, Refused>

@@ -14,7 +14,7 @@ use tpm_record::Keep;
 use tpm_record::rows::answer::Answer;
 use tpm_record::rows::call::Call;
 use tpm_record::rows::reading::{end, parameter};
-use tpm_types::{Refused, read_yes_no};
+use tpm_types_common::{Refused, read_yes_no};
 
 /// TPM2_PolicyNvWritten: allows only written NV indices, or only unwritten NV indices.
 #[tactic(auto, unfolding(crate::specs::Assertions::assertion_row))]

@@ -13,7 +13,7 @@ use tpm_record::Keep;
 use tpm_record::rows::answer::Answer;
 use tpm_record::rows::call::Call;
 use tpm_record::rows::reading::{end, parameter};
-use tpm_types::{DigestList, Refused};
+use tpm_types_common::{DigestList, Refused};
 
 /// TPM2_PolicyOR: continues a policy after any of several branches.
 #[tactic(auto, unfolding(crate::specs::Assertions::assertion_row))]

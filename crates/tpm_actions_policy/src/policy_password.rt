@@ -14,7 +14,7 @@ use tpm_record::Keep;
 use tpm_record::rows::answer::Answer;
 use tpm_record::rows::call::Call;
 use tpm_record::rows::reading::end;
-use tpm_types::Refused;
+use tpm_types_common::Refused;
 
 /// TPM2_PolicyPassword: requires the entity's authorization value as a password.
 #[tactic(auto, unfolding(crate::specs::Assertions::assertion_row))]

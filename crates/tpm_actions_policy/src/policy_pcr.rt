@@ -8,7 +8,7 @@ ghost use Rattle.tpm_record.specs.rows.Request.{request_of};
 ghost use Rattle.tpm_record.specs.rows.Rows.{Acts};
 ghost use Rattle.tpm_policy.specs.Assertion as assertion;
 ghost use Rattle.tpm_policy.specs.Assertion.{Asserts, asserted_policy};
-ghost use Rattle.tpm_types.specs.SessionType.{is_trial};
+ghost use Rattle.tpm_types_common.specs.SessionType.{is_trial};
 ghost use Rattle.tpm_actions_policy.specs.AssertionParameters.{pcrs_of};
 ghost use Rattle.tpm_actions_policy.specs.Assertions.{assertion_row};
 ghost use Rattle.tpm_actions_policy.specs.PolicyPcr.{pcr_parts_of};
@@ -21,7 +21,7 @@ use tpm_record::rows::answer::Answer;
 use tpm_record::rows::call::Call;
 use tpm_record::rows::reading::{end, parameter};
 use tpm_session::Session;
-use tpm_types::{ActionFault, DIGEST_LIMIT, PcrSelection, Refused, read_buffer};
+use tpm_types_common::{ActionFault, DIGEST_LIMIT, PcrSelection, Refused, read_buffer};
 
 /// The PCRs to compare, and the expected digest of their values, as given in the command.
 #[derive(Clone, Copy)]

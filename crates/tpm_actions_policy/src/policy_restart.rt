@@ -14,7 +14,7 @@ use tpm_record::Keep;
 use tpm_record::rows::answer::Answer;
 use tpm_record::rows::call::Call;
 use tpm_record::rows::reading::end;
-use tpm_types::Refused;
+use tpm_types_common::Refused;
 
 /// TPM2_PolicyRestart: resets the policy of a session to its initial state.
 #[tactic(auto, unfolding(crate::specs::PolicyRestart::policy_restart_row), using(tpm_policy::proofs::Sizes::starting_sized))]

@@ -9,7 +9,7 @@ ghost use Rattle.tpm_record.specs.rows.Request.{request_of};
 ghost use Rattle.tpm_record.specs.rows.Rows.{Acts};
 ghost use Rattle.tpm_policy.specs.Assertion as assertion;
 ghost use Rattle.tpm_policy.specs.Assertion.{Asserts, asserted_policy};
-ghost use Rattle.tpm_types.specs.SessionType.{is_trial};
+ghost use Rattle.tpm_types_common.specs.SessionType.{is_trial};
 ghost use Rattle.tpm_record.specs.Entity.{name_of};
 ghost use Rattle.tpm_actions_policy.specs.AssertionParameters.{secret_asked};
 ghost use Rattle.tpm_actions_policy.specs.Assertions.{assertion_row};
@@ -23,7 +23,7 @@ use tpm_record::rows::call::Call;
 use tpm_record::rows::reading::{end, number, parameter};
 use tpm_record::{Keep, name_of};
 use tpm_session::Session;
-use tpm_types::{ActionFault, DIGEST_LIMIT, Handle, Refused, read_buffer};
+use tpm_types_common::{ActionFault, DIGEST_LIMIT, Handle, Refused, read_buffer};
 
 /// An empty timeout, and the null ticket: TPM_ST_AUTH_SECRET, TPM_RH_NULL, an empty digest.
 const NO_TICKET: [u8; 10] = [0, 0, 0x80, 0x23, 0x40, 0, 0, 7, 0, 0];

@@ -14,7 +14,7 @@ use Rattle.tpm_session.specs.EntryText.{EntryParts, command_mac_of, command_text
 use Rattle.tpm_session.specs.declared.session.Session.{Session}
 use Rattle.tpm_types_command.specs.AuthEntry.{Entry}
 use Rattle.tpm_types_command.specs.Command.{Whole}
-use Rattle.tpm_types.specs.AuthValue.{trimmed}
+use Rattle.tpm_types_common.specs.AuthValue.{trimmed}
 use Rattle.tpm_record.specs.Record.{Record}
 use Rattle.tpm_auth.specs.Comparison.{check_of, failure, is_password_of, may_be_tried}
 use Rattle.tpm_auth.specs.EmptyHmac.{EmptyHmacHasNoKey}

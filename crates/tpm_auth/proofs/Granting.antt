@@ -7,10 +7,10 @@ use Rattle.std.specs.Prelude.{◌&&◌, not, nat_lt}
 use Rattle.tpm_bytes.specs.Reading.{◌>>=◌, refused_if}
 use Rattle.tpm_bytes.proofs.Fields.{passed}
 use Rattle.tpm_session.specs.FirstBuffer.{has_first_buffer}
-use Rattle.tpm_types.specs.Refused.{checked_result}
-use Rattle.tpm_types.specs.declared.check.Check.{Check}
-use Rattle.tpm_types.specs.declared.check.Check.TheVariants as check
-use Rattle.tpm_types.specs.declared.rc.Rc.{Rc}
+use Rattle.tpm_types_common.specs.Refused.{checked_result}
+use Rattle.tpm_types_common.specs.declared.check.Check.{Check}
+use Rattle.tpm_types_common.specs.declared.check.Check.TheVariants as check
+use Rattle.tpm_types_common.specs.declared.rc.Rc.{Rc}
 use Rattle.tpm_types_command.specs.AuthEntry.{Entry}
 use Rattle.tpm_types_command.specs.Command.{Whole}
 use Rattle.tpm_commands.specs.CommandCode.{authorized_handles}

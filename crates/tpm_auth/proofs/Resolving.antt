@@ -5,7 +5,7 @@ use Rattle.std.specs.Borrow.{Bor}
 use Rattle.std.specs.Option.{ForSome}
 use Rattle.std.specs.Prelude.{option_copied}
 use Rattle.tpm_session.specs.declared.session.Session.{Session}
-use Rattle.tpm_types.specs.declared.handle.Handle.{Handle}
+use Rattle.tpm_types_common.specs.declared.handle.Handle.{Handle}
 use Rattle.tpm_types_command.specs.AuthEntry.{entry_of}
 use Rattle.tpm_types_command.specs.declared.auth_entry.AuthEntry.{AuthEntry}
 use Rattle.tpm_record.specs.Entity.{entity_at, entity_name, entity_seen, name_of}

@@ -7,14 +7,14 @@ use Rattle.tpm_lockout.specs.Lockout.{LockoutState}
 use Rattle.tpm_lockout.specs.Tries.{is_locked}
 use Rattle.tpm_session.specs.declared.session.Protection.{Protection}
 use Rattle.tpm_session.specs.declared.session.Protection.TheVariants as protection
-use Rattle.tpm_types.specs.AuthValue.{trimmed}
-use Rattle.tpm_types.specs.declared.rc.ResponseCode.TheVariants as code
-use Rattle.tpm_types.specs.Rc.{entry_fault, plain}
-use Rattle.tpm_types.specs.Refused.{refusal}
-use Rattle.tpm_types.specs.declared.check.Check.{Check}
-use Rattle.tpm_types.specs.declared.check.Check.TheVariants as check
-use Rattle.tpm_types.specs.declared.refused.Counted.TheVariants as counted
-use Rattle.tpm_types.specs.declared.refused.Refused.{Refused}
+use Rattle.tpm_types_common.specs.AuthValue.{trimmed}
+use Rattle.tpm_types_common.specs.declared.rc.ResponseCode.TheVariants as code
+use Rattle.tpm_types_common.specs.Rc.{entry_fault, plain}
+use Rattle.tpm_types_common.specs.Refused.{refusal}
+use Rattle.tpm_types_common.specs.declared.check.Check.{Check}
+use Rattle.tpm_types_common.specs.declared.check.Check.TheVariants as check
+use Rattle.tpm_types_common.specs.declared.refused.Counted.TheVariants as counted
+use Rattle.tpm_types_common.specs.declared.refused.Refused.{Refused}
 use Rattle.tpm_auth.specs.declared.session_grant.Grant.{Grant}
 
 -- whether a password equals an authorization value, apart from trailing zeros

@@ -7,17 +7,17 @@ use Rattle.tpm_bytes.specs.Reading.{◌>>=◌, refused_if}
 use Rattle.tpm_session.specs.declared.session.Session.{Session}
 use Rattle.tpm_session.specs.Sessions.{session_at}
 use Rattle.tpm_commands.specs.declared.command_code.CommandCode.{CommandCode}
-use Rattle.tpm_types.specs.declared.handle.SessionKind.{SessionKind}
-use Rattle.tpm_types.specs.declared.handle.SessionKind.TheVariants as kind
-use Rattle.tpm_types.specs.declared.rc.Rc.{Rc}
-use Rattle.tpm_types.specs.declared.rc.ResponseCode.TheVariants as code
-use Rattle.tpm_types.specs.Symmetric.{is_null}
+use Rattle.tpm_types_common.specs.declared.handle.SessionKind.{SessionKind}
+use Rattle.tpm_types_common.specs.declared.handle.SessionKind.TheVariants as kind
+use Rattle.tpm_types_common.specs.declared.rc.Rc.{Rc}
+use Rattle.tpm_types_common.specs.declared.rc.ResponseCode.TheVariants as code
+use Rattle.tpm_types_common.specs.Symmetric.{is_null}
 use Rattle.tpm_types_command.specs.AuthEntry.{Entry}
-use Rattle.tpm_types.specs.SessionAttributes as of_session
-use Rattle.tpm_types.specs.SessionAttributes.{audits, has_reserved_bits, uses_cipher}
+use Rattle.tpm_types_common.specs.SessionAttributes as of_session
+use Rattle.tpm_types_common.specs.SessionAttributes.{audits, has_reserved_bits, uses_cipher}
 use Rattle.tpm_commands.specs.CommandCode.{authorized_handles, has_sized_parameter, shape_of}
-use Rattle.tpm_types.specs.Handle.{password_handle, session_kind}
-use Rattle.tpm_types.specs.Rc.{entry_fault, plain}
+use Rattle.tpm_types_common.specs.Handle.{password_handle, session_kind}
+use Rattle.tpm_types_common.specs.Rc.{entry_fault, plain}
 use Rattle.tpm_record.specs.Record.{Record}
 
 -- the session that an entry names

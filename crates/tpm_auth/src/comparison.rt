@@ -2,15 +2,15 @@
 //! locked out (TPM 2.0 Library, Part 1, section 19.4).
 
 ghost use Rattle.std.specs.Prelude.{◌≡◌};
-ghost use Rattle.tpm_types.specs.Rc.{plain};
-ghost use Rattle.tpm_types.specs.Refused.{refusal};
-ghost use Rattle.tpm_types.specs.declared.rc.ResponseCode.TheVariants as code;
+ghost use Rattle.tpm_types_common.specs.Rc.{plain};
+ghost use Rattle.tpm_types_common.specs.Refused.{refusal};
+ghost use Rattle.tpm_types_common.specs.declared.rc.ResponseCode.TheVariants as code;
 ghost use Rattle.tpm_auth.specs.Comparison.{check_of, failure, is_locked_out, is_password_of};
 
 use crate::session_grant::Grant;
 use tpm_lockout::Lockout;
 use tpm_session::Protection;
-use tpm_types::{Check, Counted, Refused, ResponseCode, trimmed};
+use tpm_types_common::{Check, Counted, Refused, ResponseCode, trimmed};
 
 /// Whether a password equals this authorization value, apart from trailing zeros.
 pub fn is_password_of(value: &[u8], password: &[u8]) -> bool

@@ -4,7 +4,7 @@
 ghost use Rattle.std.specs.Prelude.{◌≡◌, ◌+◌, ◌≤◌, ◌==◌, [], OnOk, length, map, option_copied};
 ghost use Rattle.std.specs.List.{list_any};
 ghost use Rattle.tpm_types_command.specs.AuthEntry.{entry_of};
-ghost use Rattle.tpm_types.specs.Handle.{session_kind};
+ghost use Rattle.tpm_types_common.specs.Handle.{session_kind};
 ghost use Rattle.tpm_auth.specs.Entries.{decrypts, encrypts, entries_pass, entry_passes, has_wrong_attributes, is_misplaced, kind_passes, lacks_cipher, reference_of, session_of};
 ghost use Rattle.tpm_record.specs.Record.{Record};
 ghost use Rattle.tpm_auth.specs.Used.{AreSessions};
@@ -13,8 +13,8 @@ use arrayvec::ArrayVec;
 use tpm_commands::CommandCode;
 use tpm_record::Keep;
 use tpm_session::Session;
-use tpm_types::{DIGEST_LIMIT, Handle, Rc, ResponseCode, SessionKind, SymmetricDefinition};
 use tpm_types_command::AuthEntry;
+use tpm_types_common::{DIGEST_LIMIT, Handle, Rc, ResponseCode, SessionKind, SymmetricDefinition};
 
 /// Whether the entry's session decrypts the command's first parameter.
 pub fn decrypts(entry: &AuthEntry) -> bool

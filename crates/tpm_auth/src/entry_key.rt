@@ -20,8 +20,8 @@ use tpm_mac::KeyedMac;
 use tpm_policy::Demand;
 use tpm_record::{Keep, Resolved, resolve};
 use tpm_session::{CommandText, ParameterHashes, Session};
-use tpm_types::SessionType;
 use tpm_types_command::{AuthEntry, Command};
+use tpm_types_common::SessionType;
 
 /// Whether a session is bound to an entity that still has the Name and the authorization value from
 /// the session's start. If the authorization value has changed, the Name is not looked up.

@@ -7,9 +7,9 @@ ghost use Rattle.std.specs.Option.{ForSome};
 ghost use Rattle.tpm_session.specs.FirstBuffer.{has_first_buffer};
 ghost use Rattle.tpm_types_command.specs.AuthEntry.{entry_of};
 ghost use Rattle.tpm_types_command.specs.Command.{whole_of};
-ghost use Rattle.tpm_types.specs.Handle.{session_kind};
-ghost use Rattle.tpm_types.specs.Locality.{locality_number};
-ghost use Rattle.tpm_types.specs.declared.handle.SessionKind.TheVariants as kind;
+ghost use Rattle.tpm_types_common.specs.Handle.{session_kind};
+ghost use Rattle.tpm_types_common.specs.Locality.{locality_number};
+ghost use Rattle.tpm_types_common.specs.declared.handle.SessionKind.TheVariants as kind;
 ghost use Rattle.tpm_record.specs.Entity.{name_of};
 ghost use Rattle.tpm_record.specs.Resolved.{AreFound, IsFound};
 ghost use Rattle.tpm_auth.specs.Grant.{authorize, authorized, grant, granted_by, grants_pass, password_grant};
@@ -27,8 +27,8 @@ use tpm_commands::CommandCode;
 use tpm_policy::Demand;
 use tpm_record::{Keep, Means, Resolved, resolve};
 use tpm_session::{HashedParameters, ParameterHashes, Protection, Session, first_size};
-use tpm_types::{Check, Handle, Locality, Refused, ResponseCode, SessionKind};
 use tpm_types_command::{AuthEntry, Command};
+use tpm_types_common::{Check, Handle, Locality, Refused, ResponseCode, SessionKind};
 use tpm_types_name::Name;
 
 /// The grants of a command's entries. Each entry authorizes one handle or nothing.

@@ -7,7 +7,7 @@ ghost use Rattle.tpm_bytes.specs.Reading.{Gives};
 ghost use Rattle.std.specs.Option.{ForSome};
 ghost use Rattle.tpm_types_command.specs.AuthEntry.{entry_of};
 ghost use Rattle.tpm_types_command.specs.Command.{whole_of};
-ghost use Rattle.tpm_types.specs.Locality.{locality_number};
+ghost use Rattle.tpm_types_common.specs.Locality.{locality_number};
 ghost use Rattle.tpm_policy.specs.Use.{entity_parts, parts_of};
 ghost use Rattle.tpm_record.specs.Entity.{entity_policy, entity_seen};
 ghost use Rattle.tpm_session.specs.ParameterHash.{parameter_hash_of};
@@ -24,7 +24,7 @@ use crate::used::{Granted, Sent, SessionEntry};
 use tpm_policy::{Demand, EntityPolicy, Use};
 use tpm_record::{Keep, Means, Resolved, auth_value_of};
 use tpm_session::{ParameterHashes, Protection, Session};
-use tpm_types::{Check, Handle, Refused, ResponseCode, SessionType};
+use tpm_types_common::{Check, Handle, Refused, ResponseCode, SessionType};
 
 /// A handle that an entry authorizes, and what the policy requires in that entry.
 #[derive(Clone, Copy, PartialEq, Eq)]

@@ -12,8 +12,8 @@ use crate::session_grant::Grant;
 use tpm_policy::Demand;
 use tpm_record::Resolved;
 use tpm_session::Session;
-use tpm_types::Locality;
 use tpm_types_command::{AuthEntry, Command};
+use tpm_types_common::Locality;
 
 /// A command with its locality and the entities of its handles.
 #[derive(Clone, Copy)]

@@ -7,10 +7,10 @@ use Rattle.std.specs.Option.{option_map_or, unwrap_or}
 use Rattle.tpm_commands.specs.declared.command_code.CommandCode.{CommandCode}
 use Rattle.tpm_commands.specs.declared.shape.HandleRule.{HandleRule}
 use Rattle.tpm_commands.specs.declared.shape.ParameterKind.{ParameterKind}
-use Rattle.tpm_types.specs.declared.nv_use.NvUse.{NvUse}
-use Rattle.tpm_types.specs.declared.nv_use.NvUse.TheVariants as does
-use Rattle.tpm_types.specs.declared.role.Role.{Role}
-use Rattle.tpm_types.specs.declared.role.Role.TheVariants as role
+use Rattle.tpm_types_common.specs.declared.nv_use.NvUse.{NvUse}
+use Rattle.tpm_types_common.specs.declared.nv_use.NvUse.TheVariants as does
+use Rattle.tpm_types_common.specs.declared.role.Role.{Role}
+use Rattle.tpm_types_common.specs.declared.role.Role.TheVariants as role
 use Rattle.tpm_commands.specs.CommandFacts.{all_codes, command_facts}
 use Rattle.tpm_commands.specs.Part.{Part}
 use Rattle.tpm_commands.specs.Shape.{Facts, is_sized}

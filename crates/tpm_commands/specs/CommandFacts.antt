@@ -1,7 +1,7 @@
 -- The facts about each supported command: its number (TPM 2.0 Library, Part 2, section 6.5.2:
 -- TPM_CC), its name, the part of the device's state that it may change if it succeeds, and its
 -- shape (the command's section in Part 3).
-use Rattle.tpm_types.specs.Limits.{data_limit}
+use Rattle.tpm_types_common.specs.Limits.{data_limit}
 use Rattle.std.specs.Prelude.{ℕ, true, List, [], ◌∷◌, codes}
 use Prim.Native.String.{String}
 use Rattle.tpm_commands.specs.declared.command_code.CommandCode.{CommandCode}

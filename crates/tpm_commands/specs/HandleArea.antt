@@ -5,14 +5,14 @@ use Rattle.std.specs.Int.{w32}
 use Rattle.tpm_bytes.specs.Many.{each_at}
 use Rattle.tpm_bytes.specs.Reading.{◌>>=◌, number_at, or_fault, refused_if}
 use Rattle.tpm_commands.specs.declared.command_code.CommandCode.{CommandCode}
-use Rattle.tpm_types.specs.declared.handle.Handle.{Handle}
-use Rattle.tpm_types.specs.declared.rc.Place.TheVariants as place
-use Rattle.tpm_types.specs.declared.rc.Rc.{Rc}
-use Rattle.tpm_types.specs.declared.rc.ResponseCode.{ResponseCode}
-use Rattle.tpm_types.specs.declared.rc.ResponseCode.TheVariants as code
+use Rattle.tpm_types_common.specs.declared.handle.Handle.{Handle}
+use Rattle.tpm_types_common.specs.declared.rc.Place.TheVariants as place
+use Rattle.tpm_types_common.specs.declared.rc.Rc.{Rc}
+use Rattle.tpm_types_common.specs.declared.rc.ResponseCode.{ResponseCode}
+use Rattle.tpm_types_common.specs.declared.rc.ResponseCode.TheVariants as code
 use Rattle.tpm_commands.specs.declared.shape.HandleRule.{HandleRule}
-use Rattle.tpm_types.specs.Handle.{numbered_handle}
-use Rattle.tpm_types.specs.Rc.{at, plain}
+use Rattle.tpm_types_common.specs.Handle.{numbered_handle}
+use Rattle.tpm_types_common.specs.Rc.{at, plain}
 use Rattle.tpm_commands.specs.CommandCode.{shape_of}
 use Rattle.tpm_commands.specs.Shape.{is_of_kind}
 

@@ -4,4 +4,4 @@ pub mod CommandFacts
 pub mod CommandCode
 pub mod HandleArea
 pub use Rattle.tpm_bytes.specs.Reading
-pub use Rattle.tpm_types.specs.Handle
+pub use Rattle.tpm_types_common.specs.Handle

@@ -2,15 +2,15 @@
 -- Library, Part 3, the tables in each command's section: its handles and how they are authorized,
 -- its parameters, and whether it allows sessions.
 use Rattle.std.specs.Prelude.{◌==◌, ◌||◌, ◌&&◌, not, is_some, Bool, true, false, List, Some, None}
-use Rattle.tpm_types.specs.declared.handle.Handle.{Handle}
+use Rattle.tpm_types_common.specs.declared.handle.Handle.{Handle}
 use Rattle.tpm_commands.specs.declared.shape.HandleKind.{HandleKind}
 use Rattle.tpm_commands.specs.declared.shape.HandleKind.TheVariants as kind
 use Rattle.tpm_commands.specs.declared.shape.HandleRule.{HandleRule}
 use Rattle.tpm_commands.specs.declared.shape.ParameterKind.{ParameterKind}
 use Rattle.tpm_commands.specs.declared.shape.ParameterKind.TheVariants as parameter
-use Rattle.tpm_types.specs.declared.role.Role.TheVariants as role
+use Rattle.tpm_types_common.specs.declared.role.Role.TheVariants as role
 use Rattle.tpm_commands.specs.declared.shape.Shape.{Shape}
-use Rattle.tpm_types.specs.Handle.{hierarchy_auth_of, hierarchy_of, is_nv_index, is_persistent, is_policy_session, is_transient, lockout_handle, null_handle, owner_handle, pcr_of, platform_handle}
+use Rattle.tpm_types_common.specs.Handle.{hierarchy_auth_of, hierarchy_of, is_nv_index, is_persistent, is_policy_session, is_transient, lockout_handle, null_handle, owner_handle, pcr_of, platform_handle}
 
 -- whether a handle is TPM_RH_NULL or has the type of an entity with an authorization value
 -- (TPMI_DH_ENTITY): a hierarchy or lockout, a PCR, an NV index (01), a transient object (80) or a

@@ -8,7 +8,7 @@ use crate::shape::ParameterKind::{
     Selection, SensitiveCreate, SessionType, StartupType, Symmetric, U8, U16, U32, U64, YesNo,
 };
 use crate::shape::{HandleKind, HandleRule, ParameterKind, Shape};
-use tpm_types::{DATA_LIMIT, NvUse, Role};
+use tpm_types_common::{DATA_LIMIT, NvUse, Role};
 
 /// The supported commands, in ascending order of number. Each line of `facts!` contains all facts
 /// about one command.

@@ -10,10 +10,10 @@ use crate::command_code::CommandCode;
 use crate::shape::HandleRule;
 use arrayvec::ArrayVec;
 use tpm_bytes::{Cursor, ReadableBy, read_each};
-use tpm_types::{Handle, Rc, ResponseCode};
+use tpm_types_common::{Handle, Rc, ResponseCode};
 
 impl<'a> ReadableBy<'a, HandleRule> for Handle {
-    ghost use Rattle.tpm_types.specs.declared.handle.Handle.{Handle};
+    ghost use Rattle.tpm_types_common.specs.declared.handle.Handle.{Handle};
 
     type Fault = Rc;
 

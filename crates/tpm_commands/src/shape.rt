@@ -4,7 +4,7 @@
 ghost use Rattle.std.specs.Prelude.{◌≡◌};
 ghost use Rattle.tpm_commands.specs.Shape.{is_entity, is_provision};
 
-use tpm_types::{Handle, Role};
+use tpm_types_common::{Handle, Role};
 
 /// The kind of a handle. The kinds follow the types of TPM 2.0 Library, Part 2, section 9.
 #[derive(Clone, Copy, PartialEq, Eq)]

@@ -8,13 +8,13 @@ use Rattle.tpm_bytes.specs.Reading.{◌>>=◌, Reads, bytes_at, number_at, or_fa
 use Rattle.tpm_bytes.specs.declared.cursor.Short.{Short}
 use Rattle.tpm_record.specs.Record.{Record}
 use Rattle.tpm_step.proofs.rows.Binding.{ok_at, ok_bind, ok_bind_is}
-use Rattle.tpm_types.specs.Handle.{numbered_handle, password_handle}
-use Rattle.tpm_types.specs.Refused.{checked_result}
-use Rattle.tpm_types.specs.Rc.{plain}
-use Rattle.tpm_types.specs.declared.check.Check.TheVariants as check
-use Rattle.tpm_types.specs.declared.rc.Rc.{Rc}
-use Rattle.tpm_types.specs.declared.rc.ResponseCode.TheVariants as code
-use Rattle.tpm_types.specs.declared.refused.Refused.{Refused}
+use Rattle.tpm_types_common.specs.Handle.{numbered_handle, password_handle}
+use Rattle.tpm_types_common.specs.Refused.{checked_result}
+use Rattle.tpm_types_common.specs.Rc.{plain}
+use Rattle.tpm_types_common.specs.declared.check.Check.TheVariants as check
+use Rattle.tpm_types_common.specs.declared.rc.Rc.{Rc}
+use Rattle.tpm_types_common.specs.declared.rc.ResponseCode.TheVariants as code
+use Rattle.tpm_types_common.specs.declared.refused.Refused.{Refused}
 use Rattle.tpm_types_command.specs.AuthArea.{area_at, entries_in}
 use Rattle.tpm_types_command.specs.AuthEntry.{Entry, entry_at}
 use Rattle.tpm_completion.specs.Authorizing.{absent_refused, entries_at, first_passes, handle_at, handle_refused, only_entry, sequence_named}

@@ -8,9 +8,9 @@ use Rattle.tpm_sequence.proofs.BeginningLaws.{records_generated}
 use Rattle.tpm_sequence.proofs.SequenceLaws.{hash_sequence_records_beginning, updates_in_parts}
 use Rattle.tpm_sequence.specs.Meaning.{joined_parts}
 use Rattle.tpm_sequence.specs.Sequence.{event_sequence, hmac_sequence}
-use Rattle.tpm_types.specs.DigestValues.{digest_values_text}
-use Rattle.tpm_types.specs.declared.digest_values.DigestValue.TheVariants.{Sha1, Sha256}
-use Rattle.tpm_types.specs.declared.handle.HierarchyHandle.TheVariants as kind
+use Rattle.tpm_types_common.specs.DigestValues.{digest_values_text}
+use Rattle.tpm_types_common.specs.declared.digest_values.DigestValue.TheVariants.{Sha1, Sha256}
+use Rattle.tpm_types_common.specs.declared.handle.HierarchyHandle.TheVariants as kind
 use Rattle.tpm_completion.specs.Hashing.{ticketed_text}
 use Rattle.tpm_completion.specs.Sending.{digests_text}
 use Rattle.tpm_completion.specs.SequenceRows.{completion_text}

@@ -6,16 +6,16 @@ use Rattle.std.specs.Prelude.{ℕ, ◌==◌, ◌&&◌, ◌||◌, nat_lt, not, Bo
 use Rattle.std.specs.Int.{w32}
 use Rattle.tpm_bytes.specs.Reading.{◌>>=◌, number_at, or_fault, refused_if}
 use Rattle.tpm_auth.specs.Entries.{is_password}
-use Rattle.tpm_types.specs.Handle.{is_policy_session, is_session, is_transient, numbered_handle}
-use Rattle.tpm_types.specs.Rc.{at, entry_fault, plain}
-use Rattle.tpm_types.specs.Refused.{checked_result, refusal}
-use Rattle.tpm_types.specs.SessionAttributes.{audits, has_reserved_bits, uses_cipher}
-use Rattle.tpm_types.specs.declared.check.Check.TheVariants as check
-use Rattle.tpm_types.specs.declared.handle.Handle.{Handle}
-use Rattle.tpm_types.specs.declared.rc.Place.TheVariants as place
-use Rattle.tpm_types.specs.declared.rc.ResponseCode.{ResponseCode}
-use Rattle.tpm_types.specs.declared.rc.ResponseCode.TheVariants as code
-use Rattle.tpm_types.specs.declared.refused.Refused.{Refused}
+use Rattle.tpm_types_common.specs.Handle.{is_policy_session, is_session, is_transient, numbered_handle}
+use Rattle.tpm_types_common.specs.Rc.{at, entry_fault, plain}
+use Rattle.tpm_types_common.specs.Refused.{checked_result, refusal}
+use Rattle.tpm_types_common.specs.SessionAttributes.{audits, has_reserved_bits, uses_cipher}
+use Rattle.tpm_types_common.specs.declared.check.Check.TheVariants as check
+use Rattle.tpm_types_common.specs.declared.handle.Handle.{Handle}
+use Rattle.tpm_types_common.specs.declared.rc.Place.TheVariants as place
+use Rattle.tpm_types_common.specs.declared.rc.ResponseCode.{ResponseCode}
+use Rattle.tpm_types_common.specs.declared.rc.ResponseCode.TheVariants as code
+use Rattle.tpm_types_common.specs.declared.refused.Refused.{Refused}
 use Rattle.tpm_types_command.specs.AuthArea.{area_at}
 use Rattle.tpm_types_command.specs.AuthEntry.{Entry}
 use Rattle.tpm_completion.specs.Sequences.{slot_of}

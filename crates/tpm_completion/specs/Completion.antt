@@ -3,7 +3,7 @@
 use Rattle.std.specs.Prelude.{ℕ, List, Option, get_or, is_some, map, replicate, if◌then◌else◌}
 use Rattle.tpm_bytes.specs.Numbers.{numbers_below}
 use Rattle.tpm_containers.specs.Slots.{at_place}
-use Rattle.tpm_types.specs.Limits.{session_limit}
+use Rattle.tpm_types_common.specs.Limits.{session_limit}
 use Rattle.tpm_record.specs.Record.{Record}
 use Rattle.tpm_sequence.specs.declared.object.SequenceObject.{SequenceObject}
 use Rattle.tpm_completion.specs.Sequences.{no_sequences}

@@ -9,8 +9,8 @@ use Rattle.tpm_bytes.specs.Writing.{sized_text}
 use Rattle.tpm_bytes.specs.declared.cursor.Short.{Short}
 use Rattle.tpm_context.specs.Head.{saved_number}
 use Rattle.tpm_context.specs.declared.head.SavedHandle.TheVariants as saved
-use Rattle.tpm_types.specs.declared.handle.Handle.{Handle}
-use Rattle.tpm_types.specs.Handle.{is_session, null_handle, numbered_handle}
+use Rattle.tpm_types_common.specs.declared.handle.Handle.{Handle}
+use Rattle.tpm_types_common.specs.Handle.{is_session, null_handle, numbered_handle}
 use Rattle.tpm_completion.specs.declared.context.Token.{Token}
 
 -- the size of a session's context, in bytes

@@ -3,7 +3,7 @@
 use Rattle.std.specs.Prelude.{true, false, ℕ, ◌==◌, not, Bool, List, [], if◌then◌else◌}
 use Rattle.std.specs.List.{flat_map}
 use Rattle.tpm_bytes.specs.Numbers.{numbers_below}
-use Rattle.tpm_types.specs.Limits.{session_limit}
+use Rattle.tpm_types_common.specs.Limits.{session_limit}
 use Rattle.tpm_record.specs.Record.{Record}
 use Rattle.tpm_actions_capability.specs.Elements.{session_element}
 use Rattle.tpm_actions_capability.specs.declared.element.Element.{Element}

@@ -6,7 +6,7 @@ use Rattle.tpm_lockout.specs.Tries.{is_locked}
 use Rattle.tpm_nv.specs.Head.{heads_of}
 use Rattle.tpm_nv.specs.Index.{NvContents}
 use Rattle.tpm_nv.specs.declared.head.Head.{Head}
-use Rattle.tpm_types.specs.Limits.{buffer_limit, data_limit, nv_data_limit, nv_index_limit, object_limit, persistent_limit, session_limit}
+use Rattle.tpm_types_common.specs.Limits.{buffer_limit, data_limit, nv_data_limit, nv_index_limit, object_limit, persistent_limit, session_limit}
 use Rattle.tpm_types_nv.specs.NvAttributes.{is_of}
 use Rattle.tpm_types_nv.specs.declared.nv_type.NvType.TheVariants as type
 use Rattle.tpm_commands.specs.CommandFacts.{all_codes}

@@ -7,8 +7,8 @@ use Rattle.tpm_containers.specs.Numbered.{place_of}
 use Rattle.tpm_object.specs.declared.object.Object.{Object}
 use Rattle.tpm_sequence.specs.declared.object.SequenceObject.{SequenceObject}
 use Rattle.tpm_session.specs.Sessions.{session_at}
-use Rattle.tpm_types.specs.declared.handle.Handle.{Handle}
-use Rattle.tpm_types.specs.Handle.{is_session, is_transient}
+use Rattle.tpm_types_common.specs.declared.handle.Handle.{Handle}
+use Rattle.tpm_types_common.specs.Handle.{is_session, is_transient}
 use Rattle.tpm_record.specs.Objects.{object_at}
 use Rattle.tpm_record.specs.Record.{Record}
 use Rattle.tpm_context.specs.Context.{context_text as object_context_text}

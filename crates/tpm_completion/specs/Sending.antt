@@ -25,15 +25,15 @@ use Rattle.tpm_sequence.specs.declared.sequence.Sequence.{Sequence}
 use Rattle.tpm_sequence.specs.declared.sequence.Sequence.TheVariants.{Event, Hash, Hmac}
 use Rattle.tpm_step.specs.step.Answer.{framed_message}
 use Rattle.tpm_step.specs.step.Entries.{password_answer}
-use Rattle.tpm_types.specs.Algorithm.{hash_or_null_at, hash_or_null_number}
-use Rattle.tpm_types.specs.AuthValue.{trimmed}
-use Rattle.tpm_types.specs.Buffer.{buffer_at}
-use Rattle.tpm_types.specs.DigestValues.{digest_values_text}
-use Rattle.tpm_types.specs.Limits.{data_limit}
-use Rattle.tpm_types.specs.declared.digest_values.DigestValue.TheVariants.{Sha1, Sha256}
-use Rattle.tpm_types.specs.declared.handle.Handle.{Handle}
-use Rattle.tpm_types.specs.declared.rc.ResponseCode.TheVariants as code
-use Rattle.tpm_types.specs.declared.refused.Refused.{Refused}
+use Rattle.tpm_types_common.specs.Algorithm.{hash_or_null_at, hash_or_null_number}
+use Rattle.tpm_types_common.specs.AuthValue.{trimmed}
+use Rattle.tpm_types_common.specs.Buffer.{buffer_at}
+use Rattle.tpm_types_common.specs.DigestValues.{digest_values_text}
+use Rattle.tpm_types_common.specs.Limits.{data_limit}
+use Rattle.tpm_types_common.specs.declared.digest_values.DigestValue.TheVariants.{Sha1, Sha256}
+use Rattle.tpm_types_common.specs.declared.handle.Handle.{Handle}
+use Rattle.tpm_types_common.specs.declared.rc.ResponseCode.TheVariants as code
+use Rattle.tpm_types_common.specs.declared.refused.Refused.{Refused}
 use Rattle.tpm_types_command.specs.AuthEntry.{Entry, auth_entry_text, entry_of}
 use Rattle.tpm_types_object.specs.declared.public.KeyedHashScheme.TheVariants as scheme
 use Rattle.tpm_types_object.specs.declared.public.PublicParameters.{PublicParameters}

@@ -2,7 +2,7 @@
 use Rattle.std.specs.Prelude.{ℕ, List, Option, Some, None, Result, Ok, Err}
 use Rattle.tpm_record.specs.Record.{Record}
 use Rattle.tpm_sequence.specs.declared.object.SequenceObject.{SequenceObject}
-use Rattle.tpm_types.specs.Rc.{rc_number}
+use Rattle.tpm_types_common.specs.Rc.{rc_number}
 use Rattle.tpm_context.specs.Head.{fault_rc}
 use Rattle.tpm_context.specs.Sequences.{opened_sequence}
 use Rattle.tpm_context.specs.declared.fault.ContextFault.{ContextFault}

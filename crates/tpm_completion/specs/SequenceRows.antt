@@ -20,16 +20,16 @@ use Rattle.tpm_sequence.specs.declared.sequence.Sequence.{Sequence}
 use Rattle.tpm_sequence.specs.declared.sequence.Sequence.TheVariants.{Event, Hash, Hmac}
 use Rattle.tpm_step.specs.step.Answer.{framed_message}
 use Rattle.tpm_step.specs.step.Entries.{password_answer}
-use Rattle.tpm_types.specs.Algorithm.{hash_or_null_at}
-use Rattle.tpm_types.specs.Buffer.{buffer_at}
-use Rattle.tpm_types.specs.Limits.{data_limit}
-use Rattle.tpm_types.specs.Rc.{at, plain}
-use Rattle.tpm_types.specs.declared.action_check.ActionCheck.TheVariants as action
-use Rattle.tpm_types.specs.declared.handle.HierarchyHandle.{HierarchyHandle}
-use Rattle.tpm_types.specs.declared.handle.HierarchyHandle.TheVariants as kind
-use Rattle.tpm_types.specs.declared.rc.Place.TheVariants as place
-use Rattle.tpm_types.specs.declared.rc.ResponseCode.TheVariants as code
-use Rattle.tpm_types.specs.declared.refused.Refused.{Refused}
+use Rattle.tpm_types_common.specs.Algorithm.{hash_or_null_at}
+use Rattle.tpm_types_common.specs.Buffer.{buffer_at}
+use Rattle.tpm_types_common.specs.Limits.{data_limit}
+use Rattle.tpm_types_common.specs.Rc.{at, plain}
+use Rattle.tpm_types_common.specs.declared.action_check.ActionCheck.TheVariants as action
+use Rattle.tpm_types_common.specs.declared.handle.HierarchyHandle.{HierarchyHandle}
+use Rattle.tpm_types_common.specs.declared.handle.HierarchyHandle.TheVariants as kind
+use Rattle.tpm_types_common.specs.declared.rc.Place.TheVariants as place
+use Rattle.tpm_types_common.specs.declared.rc.ResponseCode.TheVariants as code
+use Rattle.tpm_types_common.specs.declared.refused.Refused.{Refused}
 use Rattle.tpm_completion.specs.Answer.{success}
 use Rattle.tpm_completion.specs.Authorizing.{absent_refused, entries_at, handle_at, only_entry, password_refused, sequence_named}
 use Rattle.tpm_completion.specs.Hashing.{hierarchy_at, ticketed_text}

@@ -9,10 +9,10 @@ use Rattle.tpm_mac.specs.declared.algorithm.HashAlg.TheVariants as alg
 use Rattle.tpm_record.specs.declared.hierarchy.Hierarchies.{Hierarchies}
 use Rattle.tpm_sequence.specs.Meaning.{joined_parts}
 use Rattle.tpm_sequence.specs.Sequence.{event_sequence, hash_sequence, hmac_sequence, updates}
-use Rattle.tpm_types.specs.DigestValues.{digest_values_text}
-use Rattle.tpm_types.specs.declared.digest_values.DigestValue.TheVariants.{Sha1, Sha256}
-use Rattle.tpm_types.specs.declared.handle.HierarchyHandle.{HierarchyHandle}
-use Rattle.tpm_types.specs.declared.handle.HierarchyHandle.TheVariants as kind
+use Rattle.tpm_types_common.specs.DigestValues.{digest_values_text}
+use Rattle.tpm_types_common.specs.declared.digest_values.DigestValue.TheVariants.{Sha1, Sha256}
+use Rattle.tpm_types_common.specs.declared.handle.HierarchyHandle.{HierarchyHandle}
+use Rattle.tpm_types_common.specs.declared.handle.HierarchyHandle.TheVariants as kind
 use Rattle.tpm_completion.specs.Hashing.{hash_text, ticketed_text}
 use Rattle.tpm_completion.specs.Sending.{digests_text}
 use Rattle.tpm_completion.specs.SequenceRows.{completion_text}

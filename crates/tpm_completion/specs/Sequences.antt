@@ -5,9 +5,9 @@ use Rattle.std.specs.List.{flat_map}
 use Rattle.tpm_bytes.specs.Numbers.{numbers_below}
 use Rattle.tpm_containers.specs.Numbered.{number_of, place_of}
 use Rattle.tpm_sequence.specs.declared.object.SequenceObject.{SequenceObject}
-use Rattle.tpm_types.specs.Handle.{is_transient, numbered_handle}
-use Rattle.tpm_types.specs.Limits.{object_limit}
-use Rattle.tpm_types.specs.declared.handle.Handle.{Handle}
+use Rattle.tpm_types_common.specs.Handle.{is_transient, numbered_handle}
+use Rattle.tpm_types_common.specs.Limits.{object_limit}
+use Rattle.tpm_types_common.specs.declared.handle.Handle.{Handle}
 use Rattle.tpm_actions_capability.specs.Element.{by_itself, if_there}
 use Rattle.tpm_actions_capability.specs.declared.element.Element.{Element}
 use Rattle.tpm_completion.specs.declared.completion.Completion.{Completion}

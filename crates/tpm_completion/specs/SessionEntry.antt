@@ -23,7 +23,7 @@ use Rattle.tpm_session.specs.EntryText.{EntryParts, command_mac_of, entry_key, e
 use Rattle.tpm_session.specs.ParameterHash.{response_hash_of}
 use Rattle.tpm_session.specs.declared.session.Session.{Session}
 use Rattle.tpm_step.specs.step.Entries.{password_answer}
-use Rattle.tpm_types.specs.declared.handle.Handle.{Handle}
+use Rattle.tpm_types_common.specs.declared.handle.Handle.{Handle}
 use Rattle.tpm_types_command.specs.AuthEntry.{Entry}
 use Rattle.tpm_completion.specs.declared.session_entry.Covered as declared
 use Rattle.tpm_completion.specs.declared.session_entry.EntryAnswer.{EntryAnswer}

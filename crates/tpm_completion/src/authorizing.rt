@@ -10,9 +10,9 @@ ghost use Rattle.tpm_completion.specs.Authorizing.{absent_refused, entries_at, e
 use crate::completion::Completion;
 use arrayvec::ArrayVec;
 use tpm_bytes::Cursor;
-use tpm_types::{Check, Handle, Refused, ResponseCode};
 use tpm_types_command::AuthEntry;
 use tpm_types_command::auth_area::read_area;
+use tpm_types_common::{Check, Handle, Refused, ResponseCode};
 
 /// The entries of an authorization area.
 pub type Entries<'a> = ArrayVec<AuthEntry<'a>, 3>;

@@ -2,14 +2,14 @@
 //! the sequence objects.
 
 ghost use Rattle.std.specs.Prelude.{◌≡◌, ◌<◌, map};
-ghost use Rattle.tpm_types.specs.Limits.{session_limit};
+ghost use Rattle.tpm_types_common.specs.Limits.{session_limit};
 ghost use Rattle.tpm_bytes.specs.Numbers.{numbers_below};
 ghost use Rattle.tpm_completion.specs.Completion.{forgotten, new_completion, session_context, session_kept};
 
 use crate::sequences::no_sequences;
 use tpm_record::Keep;
 use tpm_sequence::SequenceObject;
-use tpm_types::SESSION_LIMIT;
+use tpm_types_common::SESSION_LIMIT;
 
 /// The state of the layer.
 #[derive(Clone, Copy, PartialEq, Eq)]

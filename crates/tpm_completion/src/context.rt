@@ -5,7 +5,7 @@ ghost use Rattle.tpm_completion.specs.Context.{context_text, mark, names_sequenc
 
 use tpm_bytes::{Cursor, Short, Sink, is_equal};
 use tpm_context::SavedHandle;
-use tpm_types::Handle;
+use tpm_types_common::Handle;
 
 /// The size of a token's contextBlob, in bytes.
 const TOKEN_SIZE: usize = 20;

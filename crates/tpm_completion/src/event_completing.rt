@@ -17,8 +17,8 @@ use tpm_bytes::{Cursor, Sink};
 use tpm_record::rows::reading::{end, parameter};
 use tpm_record::{Keep, name_of};
 use tpm_sequence::Sequence;
-use tpm_types::{DATA_LIMIT, Handle, Refused, ResponseCode, read_buffer};
 use tpm_types_command::AuthEntry;
+use tpm_types_common::{DATA_LIMIT, Handle, Refused, ResponseCode, read_buffer};
 
 /// What TPM2_EventSequenceComplete asks for: a PCR or TPM_RH_NULL, the entry that authorizes it,
 /// the command's parameters, the slot of the event sequence, and its encoded digests.
@@ -32,7 +32,7 @@ pub struct EventComplete<'a> {
 }
 
 /// The encoding of the digests of an event sequence's data.
-#[tactic(auto, unfolding(tpm_types::specs::DigestValues::digest_values_text, tpm_types::specs::DigestValues::values_text, tpm_types::specs::DigestValues::digest_value_text))]
+#[tactic(auto, unfolding(tpm_types_common::specs::DigestValues::digest_values_text, tpm_types_common::specs::DigestValues::values_text, tpm_types_common::specs::DigestValues::digest_value_text))]
 fn digests_text(sequence: &Sequence) -> Option<Sink<80>>
     ensures { result ≡ digests_text sequence.now }
 {

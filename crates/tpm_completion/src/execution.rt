@@ -1,7 +1,7 @@
 //! Executes one event, with or without the layer.
 
 ghost use Rattle.std.specs.Prelude.{◌≡◌, Ok, Some, List, ℕ, true, false};
-ghost use Rattle.tpm_types.specs.Locality.{locality_number};
+ghost use Rattle.tpm_types_common.specs.Locality.{locality_number};
 ghost use Rattle.tpm_step.specs.step.Events.{plain_event};
 ghost use Rattle.tpm_machine.specs.State.{state_of};
 ghost use Rattle.tpm_completion.specs.Completed.{completed_effect};
@@ -17,7 +17,7 @@ use tpm_machine::Machine;
 use tpm_object::Object;
 use tpm_record::Keep;
 use tpm_step::{Event, Outcome};
-use tpm_types::Locality;
+use tpm_types_common::Locality;
 
 /// Executes one event, and overwrites `outcome`. If `completes` is true, the layer may answer after
 /// the device; otherwise the device alone executes the event. The outcome's row is always the

@@ -1,7 +1,7 @@
 //! The handles of sessions that the layer lists, and of the transient objects that it counts.
 
 ghost use Rattle.std.specs.Prelude.{◌≡◌, ◌≤◌, ◌<◌, ◌+◌, ◌++◌, [], length};
-ghost use Rattle.tpm_types.specs.Limits.{object_limit, session_limit};
+ghost use Rattle.tpm_types_common.specs.Limits.{object_limit, session_limit};
 ghost use Rattle.tpm_actions_capability.specs.Elements.{object_element, object_elements};
 ghost use Rattle.tpm_completion.specs.Handles.{is_in_state, session_shown, sessions_shown};
 
@@ -10,7 +10,7 @@ use crate::listing::{Elements, element};
 use tpm_containers::numbered;
 use tpm_record::Keep;
 use tpm_session::handle_of;
-use tpm_types::{Handle, OBJECT_LIMIT, SESSION_LIMIT};
+use tpm_types_common::{Handle, OBJECT_LIMIT, SESSION_LIMIT};
 
 /// Lists the transient object in a slot, if there is one.
 fn object<K: Keep>(keep: &K, place: u32, elements: &mut Elements)

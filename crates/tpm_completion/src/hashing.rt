@@ -10,7 +10,7 @@ use tpm_bytes::{Cursor, Sink};
 use tpm_mac::{Digest, HashAlg, digest_parts, hmac_parts};
 use tpm_record::Hierarchies;
 use tpm_record::rows::reading::{end, parameter};
-use tpm_types::{
+use tpm_types_common::{
     DATA_LIMIT, Handle, HierarchyHandle, Rc, Refused, ResponseCode, read_buffer, read_hash,
 };
 

@@ -19,8 +19,8 @@ use tpm_object::Object;
 use tpm_record::rows::reading::{end, parameter};
 use tpm_record::{Keep, name_of, object_of};
 use tpm_sequence::{Sequence, SequenceObject};
-use tpm_types::{Handle, Refused, read_buffer, read_hash_or_null};
 use tpm_types_command::AuthEntry;
+use tpm_types_common::{Handle, Refused, read_buffer, read_hash_or_null};
 use tpm_types_object::{KeyedHashScheme, PublicParameters};
 
 /// The hash of an HMAC sequence with a key, if there is one.

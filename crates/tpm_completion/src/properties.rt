@@ -15,7 +15,7 @@ use tpm_context::CONTEXT_SIZE;
 use tpm_lockout::Lockout;
 use tpm_nv::{Head, Indices};
 use tpm_record::{Fixed, Hierarchies, Keep, PersistentObjects};
-use tpm_types::{
+use tpm_types_common::{
     AuthValue, BUFFER_LIMIT, DATA_LIMIT, NV_DATA_LIMIT, NV_INDEX_LIMIT, OBJECT_LIMIT,
     PERSISTENT_LIMIT, SESSION_LIMIT,
 };

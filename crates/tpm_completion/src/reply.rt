@@ -22,7 +22,7 @@ use crate::testing::{Body, incremental_self_test, test_parms, test_result};
 use tpm_bytes::{Cursor, Sink, is_equal};
 use tpm_record::Keep;
 use tpm_step::Response;
-use tpm_types::{Handle, Refused};
+use tpm_types_common::{Handle, Refused};
 
 /// Whether these are valid parameters of TPM2_StirRandom.
 fn is_stirred(parameters: &[u8]) -> bool

@@ -1,7 +1,7 @@
 //! TPM2_ContextSave, and TPM2_ContextLoad of a session's context.
 
 ghost use Rattle.std.specs.Prelude.{◌≡◌, ◌<◌, ◌^◌, IfSome, List, ℕ};
-ghost use Rattle.tpm_types.specs.Limits.{session_limit};
+ghost use Rattle.tpm_types_common.specs.Limits.{session_limit};
 ghost use Rattle.tpm_record.specs.Objects.{object_at};
 ghost use Rattle.tpm_step.specs.declared.event.Outcome.{Outcome as Told};
 ghost use Rattle.tpm_completion.specs.Sequences.{sequence_of};
@@ -20,7 +20,7 @@ use tpm_object::Object;
 use tpm_record::Keep;
 use tpm_sequence::SequenceObject;
 use tpm_step::Response;
-use tpm_types::{Handle, SESSION_LIMIT};
+use tpm_types_common::{Handle, SESSION_LIMIT};
 
 fn place_named(handle: Handle) -> usize
     ensures { result ≡ place_named handle }

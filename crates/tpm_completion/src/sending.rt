@@ -27,7 +27,7 @@ use tpm_bytes::{Cursor, Short, Sink};
 use tpm_record::Keep;
 use tpm_sequence::SequenceObject;
 use tpm_step::Response;
-use tpm_types::{Handle, Refused, trimmed};
+use tpm_types_common::{Handle, Refused, trimmed};
 
 /// What the layer does after the device accepted the command that the layer sent.
 #[derive(Drop)]

@@ -10,8 +10,8 @@ ghost use Rattle.tpm_completion.specs.Sending.{area_of, extend_command, hmac_com
 use crate::codes::{GET_RANDOM, HMAC, PCR_EXTEND};
 use tpm_bytes::Sink;
 use tpm_mac::HashAlg;
-use tpm_types::{Handle, hash_or_null_number};
 use tpm_types_command::AuthEntry;
+use tpm_types_common::{Handle, hash_or_null_number};
 
 /// The capacity for a command that the layer sends, in bytes.
 pub const COMMAND_LIMIT: usize = 192;

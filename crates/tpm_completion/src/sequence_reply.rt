@@ -19,7 +19,7 @@ use crate::completion::Completion;
 use tpm_bytes::Cursor;
 use tpm_record::Keep;
 use tpm_step::Response;
-use tpm_types::{Handle, Refused};
+use tpm_types_common::{Handle, Refused};
 
 /// Whether a command with this code needs an authorization area.
 fn needs_entry(code: u32) -> bool

@@ -20,10 +20,10 @@ use tpm_record::rows::reading::{end, parameter};
 use tpm_record::rows::refusals::action_refusal;
 use tpm_sequence::{Sequence, SequenceObject};
 use tpm_step::Response;
-use tpm_types::{
+use tpm_types_command::AuthEntry;
+use tpm_types_common::{
     ActionCheck, DATA_LIMIT, HierarchyHandle, Refused, ResponseCode, read_buffer, read_hash_or_null,
 };
-use tpm_types_command::AuthEntry;
 
 /// The response to an entry with a password: an empty nonce, continueSession, and an empty HMAC.
 pub const PASSWORD_ANSWER: [u8; 5] = [0, 0, 1, 0, 0];

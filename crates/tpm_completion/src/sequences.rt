@@ -7,7 +7,7 @@ use crate::completion::Completion;
 use crate::listing::{Elements, element};
 use tpm_containers::numbered;
 use tpm_sequence::SequenceObject;
-use tpm_types::{Handle, OBJECT_LIMIT};
+use tpm_types_common::{Handle, OBJECT_LIMIT};
 
 /// The largest number of sequence objects.
 pub const SEQUENCE_LIMIT: usize = 3;

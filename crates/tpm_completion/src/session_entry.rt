@@ -14,8 +14,8 @@ use tpm_mac::{Digest, HashAlg, KeyedMac, digest_parts, hmac_parts};
 use tpm_policy::Demand;
 use tpm_record::Keep;
 use tpm_session::{CommandText, Session, response_hash};
-use tpm_types::{Handle, SessionAttributes};
 use tpm_types_command::AuthEntry;
+use tpm_types_common::{Handle, SessionAttributes};
 
 /// What the HMAC of a command's session covers: the command's code, the Names of its handles
 /// joined, and its parameters; and the authorization value in the HMAC's key.

@@ -7,7 +7,7 @@ ghost use Rattle.tpm_completion.specs.Testing.{algorithm_limit, algorithms_at, i
 
 use tpm_bytes::{Cursor, Sink};
 use tpm_record::rows::reading::{end, parameter};
-use tpm_types::{Rc, Refused, ResponseCode};
+use tpm_types_common::{Rc, Refused, ResponseCode};
 use tpm_types_object::PublicParameters;
 use tpm_types_object::public::ObjectType;
 

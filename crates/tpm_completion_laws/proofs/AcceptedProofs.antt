@@ -6,19 +6,19 @@ use Rattle.std.specs.List.{AllByRecursion, list_any}
 use Rattle.std.specs.Option.{option_map_or}
 use Rattle.std.proofs.lemmas.Option.{none-some, same_Some}
 use Rattle.tpm_bytes.specs.Reading.{AreBytes, refused_if}
-use Rattle.tpm_types.specs.Buffer.{buffer_at}
-use Rattle.tpm_types.specs.Handle.{is_session, session_kind}
-use Rattle.tpm_types.specs.Limits.{data_limit}
-use Rattle.tpm_types.specs.Rc.{plain}
-use Rattle.tpm_types.specs.Refused.{checked_result, refusal}
-use Rattle.tpm_types.specs.SessionType.{type_byte}
-use Rattle.tpm_types.specs.declared.check.Check.TheVariants as check
-use Rattle.tpm_types.specs.declared.handle.Handle.{Handle}
-use Rattle.tpm_types.specs.declared.handle.SessionKind.{SessionKind}
-use Rattle.tpm_types.specs.declared.handle.SessionKind.TheVariants as kind
-use Rattle.tpm_types.specs.declared.rc.ResponseCode.TheVariants as code
-use Rattle.tpm_types.specs.declared.session_type.SessionType.{SessionType}
-use Rattle.tpm_types.specs.declared.session_type.SessionType.TheVariants as type
+use Rattle.tpm_types_common.specs.Buffer.{buffer_at}
+use Rattle.tpm_types_common.specs.Handle.{is_session, session_kind}
+use Rattle.tpm_types_common.specs.Limits.{data_limit}
+use Rattle.tpm_types_common.specs.Rc.{plain}
+use Rattle.tpm_types_common.specs.Refused.{checked_result, refusal}
+use Rattle.tpm_types_common.specs.SessionType.{type_byte}
+use Rattle.tpm_types_common.specs.declared.check.Check.TheVariants as check
+use Rattle.tpm_types_common.specs.declared.handle.Handle.{Handle}
+use Rattle.tpm_types_common.specs.declared.handle.SessionKind.{SessionKind}
+use Rattle.tpm_types_common.specs.declared.handle.SessionKind.TheVariants as kind
+use Rattle.tpm_types_common.specs.declared.rc.ResponseCode.TheVariants as code
+use Rattle.tpm_types_common.specs.declared.session_type.SessionType.{SessionType}
+use Rattle.tpm_types_common.specs.declared.session_type.SessionType.TheVariants as type
 use Rattle.tpm_types_command.specs.AuthEntry.{Entry, IsEntry}
 use Rattle.tpm_types_command.specs.Command.{IsHandle, Whole}
 use Rattle.tpm_commands.specs.CommandCode.{authorized_handles, code_number, handle_count, nv_use_at, shape_of}

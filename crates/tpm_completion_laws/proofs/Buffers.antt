@@ -12,10 +12,10 @@ use Rattle.tpm_commands.specs.CommandCode.{code_named}
 use Rattle.tpm_commands.specs.declared.command_code.CommandCode.{CommandCode}
 use Rattle.tpm_record.specs.Record.{Record}
 use Rattle.tpm_record.specs.Tick.{after_tick}
-use Rattle.tpm_types.specs.Check.{check_number}
-use Rattle.tpm_types.specs.Limits.{buffer_limit}
-use Rattle.tpm_types.specs.Rc.{code_number}
-use Rattle.tpm_types.specs.declared.check.Check.TheVariants as check
+use Rattle.tpm_types_common.specs.Check.{check_number}
+use Rattle.tpm_types_common.specs.Limits.{buffer_limit}
+use Rattle.tpm_types_common.specs.Rc.{code_number}
+use Rattle.tpm_types_common.specs.declared.check.Check.TheVariants as check
 use Rattle.tpm_types_command.proofs.Tags.{tag_named-again}
 use Rattle.tpm_types_command.specs.Header.{code_field, header_at, size_field, tag_field}
 use Rattle.tpm_types_command.specs.Tag.{tag_named}

@@ -14,7 +14,7 @@ use Rattle.tpm_bytes.specs.Reading.{◌>>=◌, bytes_at, number_at, refused_if, 
 use Rattle.tpm_bytes.specs.declared.cursor.Short.{Short}
 use Rattle.tpm_record.specs.Record.{Record}
 use Rattle.tpm_session.specs.Sessions.{session_at}
-use Rattle.tpm_types.specs.Handle.{numbered_handle}
+use Rattle.tpm_types_common.specs.Handle.{numbered_handle}
 use Rattle.tpm_completion.specs.Context.{context_text, token_at}
 use Rattle.tpm_completion.specs.Saving.{Reply, handle_given, loaded_by, place_named, refusal_reply, session_load_reply, session_loaded, with_session}
 use Rattle.tpm_completion.specs.declared.completion.Completion.{Completion}

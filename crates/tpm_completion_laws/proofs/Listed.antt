@@ -13,7 +13,7 @@ use Rattle.tpm_containers.specs.Slots.{at_place}
 use Rattle.tpm_record.specs.Record.{Record}
 use Rattle.tpm_session.specs.Sessions.{handle_of}
 use Rattle.tpm_session.specs.declared.session.Session.{Session}
-use Rattle.tpm_types.specs.Limits.{object_limit, session_limit}
+use Rattle.tpm_types_common.specs.Limits.{object_limit, session_limit}
 use Rattle.tpm_completion.specs.Capability.{commands_by}
 use Rattle.tpm_completion.specs.Completion.{session_context}
 use Rattle.tpm_completion.specs.Handles.{session_shown}

@@ -21,8 +21,8 @@ use Rattle.tpm_record.specs.Tick.{after_tick}
 use Rattle.tpm_step.specs.step.Events.{Given, Placed}
 use Rattle.tpm_step.specs.step.Placing.{placed_at}
 use Rattle.tpm_step.specs.step.Step.{step}
-use Rattle.tpm_types.specs.Handle.{hierarchy_handle, is_session, numbered_handle}
-use Rattle.tpm_types.specs.declared.handle.Handle.{Handle}
+use Rattle.tpm_types_common.specs.Handle.{hierarchy_handle, is_session, numbered_handle}
+use Rattle.tpm_types_common.specs.declared.handle.Handle.{Handle}
 use Rattle.tpm_types_object.specs.ObjectAttributes.{has}
 use Rattle.tpm_types_object.specs.declared.object_attributes.ObjectAttribute.TheVariants as attribute
 use Rattle.tpm_context.specs.Context.{blob_text, context_text, object_cipher, proof_of}

@@ -13,11 +13,11 @@ use Rattle.tpm_mac.specs.declared.algorithm.HashAlg.{HashAlg}
 use Rattle.tpm_auth.specs.Entries.{is_password}
 use Rattle.tpm_auth.specs.Grant.{authorize}
 use Rattle.tpm_record.specs.Record.{Record}
-use Rattle.tpm_types.specs.Limits.{buffer_limit}
-use Rattle.tpm_types.specs.Refused.{checked_result}
-use Rattle.tpm_types.specs.declared.check.Check.TheVariants as check
-use Rattle.tpm_types.specs.declared.handle.Handle.{Handle}
-use Rattle.tpm_types.specs.declared.refused.Refused.{Refused}
+use Rattle.tpm_types_common.specs.Limits.{buffer_limit}
+use Rattle.tpm_types_common.specs.Refused.{checked_result}
+use Rattle.tpm_types_common.specs.declared.check.Check.TheVariants as check
+use Rattle.tpm_types_common.specs.declared.handle.Handle.{Handle}
+use Rattle.tpm_types_common.specs.declared.refused.Refused.{Refused}
 use Rattle.tpm_types_command.specs.AuthEntry.{Entry}
 use Rattle.tpm_types_command.specs.Command.{Whole, sessions_at}
 use Rattle.tpm_types_command.specs.Header.{code_field, header_at, size_field, tag_field}

@@ -7,18 +7,18 @@ use Rattle.std.specs.List.{AllByRecursion}
 use Rattle.std.specs.Option.{option_map_or}
 use Rattle.tpm_bytes.proofs.Fields.{AreBytes, number_or_takes, ok_is, passed, wide32}
 use Rattle.tpm_bytes.specs.Reading.{◌>>=◌, number_at, or_fault, refused_if}
-use Rattle.tpm_types.specs.declared.check.Check.{Check}
-use Rattle.tpm_types.specs.declared.check.Check.TheVariants as check
-use Rattle.tpm_types.specs.declared.handle.Handle.{Handle}
-use Rattle.tpm_types.specs.declared.rc.Rc.{Rc}
-use Rattle.tpm_types.specs.declared.rc.ResponseCode.TheVariants as code
-use Rattle.tpm_types.specs.declared.session_type.SessionType.{SessionType}
-use Rattle.tpm_types.specs.declared.session_type.SessionType.TheVariants as type
-use Rattle.tpm_types.specs.Check.{check_number}
-use Rattle.tpm_types.specs.Handle.{password_handle}
-use Rattle.tpm_types.specs.Limits.{buffer_limit}
-use Rattle.tpm_types.specs.SessionAttributes.{audits, has_reserved_bits, uses_cipher}
-use Rattle.tpm_types.specs.SessionType.{type_byte}
+use Rattle.tpm_types_common.specs.declared.check.Check.{Check}
+use Rattle.tpm_types_common.specs.declared.check.Check.TheVariants as check
+use Rattle.tpm_types_common.specs.declared.handle.Handle.{Handle}
+use Rattle.tpm_types_common.specs.declared.rc.Rc.{Rc}
+use Rattle.tpm_types_common.specs.declared.rc.ResponseCode.TheVariants as code
+use Rattle.tpm_types_common.specs.declared.session_type.SessionType.{SessionType}
+use Rattle.tpm_types_common.specs.declared.session_type.SessionType.TheVariants as type
+use Rattle.tpm_types_common.specs.Check.{check_number}
+use Rattle.tpm_types_common.specs.Handle.{password_handle}
+use Rattle.tpm_types_common.specs.Limits.{buffer_limit}
+use Rattle.tpm_types_common.specs.SessionAttributes.{audits, has_reserved_bits, uses_cipher}
+use Rattle.tpm_types_common.specs.SessionType.{type_byte}
 use Rattle.tpm_types_command.proofs.CommandLaws.{command_again, command_body_text-is, command_size-is, command_text-is}
 use Rattle.tpm_types_command.proofs.EntryLaws.{area_takes}
 use Rattle.tpm_types_command.specs.AuthArea.{area_at}

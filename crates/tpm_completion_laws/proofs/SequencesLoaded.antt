@@ -16,8 +16,8 @@ use Rattle.tpm_sequence.specs.declared.object.SequenceObject.{SequenceObject}
 use Rattle.tpm_sequence_text.proofs.SizeLaws.{stays_small}
 use Rattle.tpm_sequence_text.specs.Slot.{IsSequenceObject, slot_text}
 use Rattle.tpm_step.specs.step.Events.{Given}
-use Rattle.tpm_types.specs.Handle.{null_handle, numbered_handle}
-use Rattle.tpm_types.specs.declared.handle.Handle.{Handle}
+use Rattle.tpm_types_common.specs.Handle.{null_handle, numbered_handle}
+use Rattle.tpm_types_common.specs.declared.handle.Handle.{Handle}
 use Rattle.tpm_context.specs.Context.{blob_text}
 use Rattle.tpm_context.specs.Head.{saved_number, sequence_head}
 use Rattle.tpm_context.specs.Protection.{integrity_of}

@@ -5,9 +5,9 @@ use Rattle.std.proofs.lemmas.Bool.{cases_lt}
 use Rattle.std.proofs.lemmas.List.{get_or_past}
 use Rattle.tpm_containers.specs.Numbered.{number_of, place_of}
 use Rattle.tpm_sequence.specs.declared.object.SequenceObject.{SequenceObject}
-use Rattle.tpm_types.specs.Handle.{is_transient, numbered_handle}
-use Rattle.tpm_types.specs.Limits.{object_limit}
-use Rattle.tpm_types.specs.declared.handle.Handle.{Handle}
+use Rattle.tpm_types_common.specs.Handle.{is_transient, numbered_handle}
+use Rattle.tpm_types_common.specs.Limits.{object_limit}
+use Rattle.tpm_types_common.specs.declared.handle.Handle.{Handle}
 use Rattle.tpm_completion.specs.Sequences.{free_slot, in_slot, is_after_objects, sequence_handle, sequence_limit, sequence_of, slot_of}
 use Rattle.tpm_completion.specs.declared.completion.Completion.{Completion}
 use Rattle.tpm_completion_laws.specs.Sequences.{IsNamedOnce, SlotIsNamed}

@@ -9,8 +9,8 @@ use Rattle.tpm_record.specs.Record.{Record}
 use Rattle.tpm_record.specs.Tick.{after_tick}
 use Rattle.tpm_sequence.specs.declared.object.SequenceObject.{SequenceObject}
 use Rattle.tpm_step.specs.step.Events.{Given}
-use Rattle.tpm_types.specs.Handle.{is_transient}
-use Rattle.tpm_types.specs.declared.handle.Handle.{Handle}
+use Rattle.tpm_types_common.specs.Handle.{is_transient}
+use Rattle.tpm_types_common.specs.declared.handle.Handle.{Handle}
 use Rattle.tpm_completion.specs.Answer.{refusal, success}
 use Rattle.tpm_completion.specs.Completed.{completed_after, done_after, sending_after}
 use Rattle.tpm_completion.specs.Completion.{forgotten}

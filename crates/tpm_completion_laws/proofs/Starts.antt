@@ -8,11 +8,11 @@ use Rattle.tpm_bytes.specs.declared.cursor.Short.{Short}
 use Rattle.tpm_object.specs.declared.object.Object.{Object}
 use Rattle.tpm_record.specs.Objects.{object_at}
 use Rattle.tpm_record.specs.Record.{Record}
-use Rattle.tpm_types.specs.declared.handle.Handle.{Handle}
-use Rattle.tpm_types.specs.declared.refused.Refused.{Refused}
+use Rattle.tpm_types_common.specs.declared.handle.Handle.{Handle}
+use Rattle.tpm_types_common.specs.declared.refused.Refused.{Refused}
 use Rattle.tpm_session.specs.Sessions.{session_at}
 use Rattle.tpm_step.specs.step.Answer.{framed_message}
-use Rattle.tpm_types.specs.Handle.{is_session, is_transient, numbered_handle}
+use Rattle.tpm_types_common.specs.Handle.{is_session, is_transient, numbered_handle}
 use Rattle.tpm_completion.specs.Answer.{is_refusal, refusal, success}
 use Rattle.tpm_completion.specs.Capability.{asked_at, capability_told}
 use Rattle.tpm_completion.specs.Command.{Command, authorized_command, plain_command, tag_of}
@@ -35,8 +35,8 @@ use Rattle.tpm_completion.specs.declared.sending.Work.{Work}
 use Rattle.tpm_completion.specs.declared.sending.Work.TheVariants.{Completes, Ends, Starts, Updates}
 use Rattle.tpm_record.specs.declared.hierarchy.Hierarchies.{Hierarchies}
 use Rattle.tpm_record.specs.rows.Rows.{all_read, parameter}
-use Rattle.tpm_types.specs.Algorithm.{hash_or_null_at}
-use Rattle.tpm_types.specs.Buffer.{buffer_at}
+use Rattle.tpm_types_common.specs.Algorithm.{hash_or_null_at}
+use Rattle.tpm_types_common.specs.Buffer.{buffer_at}
 use Rattle.tpm_completion.specs.SequenceLoading.{opened_put, sequence_loaded, sequence_opened, sequence_put}
 use Rattle.tpm_sequence.specs.declared.object.SequenceObject.{SequenceObject}
 use Rattle.tpm_context.specs.declared.fault.ContextFault.{ContextFault}

@@ -12,7 +12,7 @@ use Rattle.tpm_record.specs.declared.fixed.Fixed.{Fixed}
 use Rattle.tpm_record.specs.declared.hierarchy.Hierarchies.{Hierarchies}
 use Rattle.tpm_record.specs.declared.hierarchy.Secrets.{Secrets}
 use Rattle.tpm_record.specs.rows.Rows.{Success}
-use Rattle.tpm_types.specs.declared.handle.HierarchyHandle.TheVariants as hierarchy
+use Rattle.tpm_types_common.specs.declared.handle.HierarchyHandle.TheVariants as hierarchy
 use Rattle.tpm_step.proofs.rows.Acceptance.{accepted_is}
 use Rattle.tpm_step.proofs.rows.Leaving.{success_leaves}
 use Rattle.tpm_step.proofs.rows.Table.{row_touches}

@@ -5,7 +5,7 @@ use Rattle.tpm_bytes.specs.Numbers.{numbers_below}
 use Rattle.tpm_pcr.specs.Changes.{may_extend, may_reset, use_of}
 use Rattle.tpm_actions_capability.specs.Elements.{session_elements}
 use Rattle.tpm_actions_capability.specs.declared.element.Element.{Element}
-use Rattle.tpm_types.specs.Limits.{object_limit, session_limit}
+use Rattle.tpm_types_common.specs.Limits.{object_limit, session_limit}
 use Rattle.tpm_record.specs.Record.{Record}
 use Rattle.tpm_completion.specs.Capability.{command_elements}
 use Rattle.tpm_completion.specs.Command.{Command}

@@ -13,9 +13,9 @@ use Rattle.tpm_sequence.specs.Sequence.{sequence_digests, updates}
 use Rattle.tpm_sequence.specs.Sequence.{object_of as sequence_object}
 use Rattle.tpm_sequence.specs.declared.object.SequenceObject.{SequenceObject}
 use Rattle.tpm_sequence.specs.declared.sequence.Sequence.{Sequence}
-use Rattle.tpm_types.specs.Algorithm.{hash_or_null_number}
-use Rattle.tpm_types.specs.Limits.{data_limit}
-use Rattle.tpm_types.specs.declared.handle.Handle.{Handle}
+use Rattle.tpm_types_common.specs.Algorithm.{hash_or_null_number}
+use Rattle.tpm_types_common.specs.Limits.{data_limit}
+use Rattle.tpm_types_common.specs.declared.handle.Handle.{Handle}
 use Rattle.tpm_commands.specs.CommandCode.{code_number}
 use Rattle.tpm_commands.specs.declared.command_code.CommandCode.TheVariants as command
 use Rattle.tpm_record.specs.Objects.{object_at}

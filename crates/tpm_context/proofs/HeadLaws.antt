@@ -8,11 +8,11 @@ use Rattle.tpm_bytes.specs.Reading.{number_at, or_fault}
 use Rattle.tpm_bytes.proofs.Fields.{number_or_again, number_or_takes, wide32}
 use Rattle.tpm_image_text.proofs.FieldSpelling.{names_spelled, three_texts, wide64}
 use Rattle.tpm_object.specs.declared.object.Object.{Object}
-use Rattle.tpm_types.proofs.Named.{link, none}
-use Rattle.tpm_types.proofs.Spelled.{Spelled, all_read, first, respelled, then}
-use Rattle.tpm_types.specs.Handle.{hierarchy_handle, hierarchy_of, numbered_handle}
-use Rattle.tpm_types.specs.declared.handle.HierarchyHandle.{HierarchyHandle}
-use Rattle.tpm_types.specs.declared.handle.HierarchyHandle.TheVariants as hierarchy
+use Rattle.tpm_types_common.proofs.Named.{link, none}
+use Rattle.tpm_types_common.proofs.Spelled.{Spelled, all_read, first, respelled, then}
+use Rattle.tpm_types_common.specs.Handle.{hierarchy_handle, hierarchy_of, numbered_handle}
+use Rattle.tpm_types_common.specs.declared.handle.HierarchyHandle.{HierarchyHandle}
+use Rattle.tpm_types_common.specs.declared.handle.HierarchyHandle.TheVariants as hierarchy
 use Rattle.tpm_context.specs.Head.{head_at, head_of, head_text, hierarchy_at, is_null, is_of, is_of_sequence, is_sequence_head, saved_at, saved_named, saved_number, saved_of, sequence_head}
 use Rattle.tpm_context.specs.declared.fault.ContextFault.TheVariants as fault
 use Rattle.tpm_context.specs.declared.head.ContextHead.{ContextHead}

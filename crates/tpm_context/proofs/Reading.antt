@@ -19,8 +19,8 @@ use Rattle.tpm_mac.specs.declared.algorithm.HashAlg.TheVariants.{Sha256}
 use Rattle.tpm_object.specs.Object.{IsObject}
 use Rattle.tpm_object.specs.declared.object.Object.{Object}
 use Rattle.tpm_record.specs.declared.hierarchy.Hierarchies.{Hierarchies}
-use Rattle.tpm_types.proofs.SelectionLaws.{is_equal}
-use Rattle.tpm_types.proofs.Spelled.{rest_fits}
+use Rattle.tpm_types_common.proofs.SelectionLaws.{is_equal}
+use Rattle.tpm_types_common.proofs.Spelled.{rest_fits}
 use Rattle.tpm_context.proofs.HeadLaws.{head_spelled, is_of_head, is_of_own}
 use Rattle.tpm_context.specs.Context.{blob_in, blob_size, blob_text, content_in, context_text, object_cipher, object_in, object_in_context, or_blob_fault, parts_in, plain_in, proof_of, sealed_text}
 use Rattle.tpm_context.specs.Head.{head_at, head_of, head_text, is_of}

@@ -16,7 +16,7 @@ use Rattle.tpm_sequence.specs.declared.object.SequenceObject.{SequenceObject}
 use Rattle.tpm_sequence_text.proofs.SizeLaws.{stays_small}
 use Rattle.tpm_sequence_text.proofs.SlotLaws.{slot_spelled}
 use Rattle.tpm_sequence_text.specs.Slot.{IsSequenceObject, IsSlot, slot_in, slot_text}
-use Rattle.tpm_types.proofs.SelectionLaws.{is_equal}
+use Rattle.tpm_types_common.proofs.SelectionLaws.{is_equal}
 use Rattle.tpm_context.proofs.ContextLaws.{Alike, alike, parted, same_bound}
 use Rattle.tpm_context.proofs.HeadLaws.{sequence_head_is}
 use Rattle.tpm_context.proofs.Reading.{content_found, content_opens, content_right, decrypted_again, encrypted_size, none_left}

@@ -11,7 +11,7 @@ use Rattle.tpm_image_text.specs.Sizes.{object_fields_size}
 use Rattle.tpm_object.specs.declared.object.Object.{Object}
 use Rattle.tpm_record.specs.Hierarchy.{secrets_of}
 use Rattle.tpm_record.specs.declared.hierarchy.Hierarchies.{Hierarchies}
-use Rattle.tpm_types.specs.declared.handle.HierarchyHandle.{HierarchyHandle}
+use Rattle.tpm_types_common.specs.declared.handle.HierarchyHandle.{HierarchyHandle}
 use Rattle.tpm_context.specs.Head.{head_at, head_of, head_text, is_of}
 use Rattle.tpm_context.specs.Protection.{ciphertext_of, integrity_of, plaintext_of}
 use Rattle.tpm_context.specs.declared.binding.Binding.{Binding}

@@ -7,7 +7,7 @@ use Rattle.tpm_image_text.specs.Fields.{are_bytes}
 use Rattle.tpm_record.specs.declared.hierarchy.Hierarchies.{Hierarchies}
 use Rattle.tpm_sequence.specs.declared.object.SequenceObject.{SequenceObject}
 use Rattle.tpm_sequence_text.specs.Slot.{slot_in, slot_text}
-use Rattle.tpm_types.specs.declared.handle.HierarchyHandle.TheVariants as hierarchy
+use Rattle.tpm_types_common.specs.declared.handle.HierarchyHandle.TheVariants as hierarchy
 use Rattle.tpm_context.specs.Context.{content_in, proof_of, sealed_text}
 use Rattle.tpm_context.specs.Head.{is_sequence_head, sequence_head}
 use Rattle.tpm_context.specs.Protection.{ciphertext_of}

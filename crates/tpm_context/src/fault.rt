@@ -3,7 +3,7 @@
 ghost use Rattle.std.specs.Prelude.{◌≡◌};
 ghost use Rattle.tpm_context.specs.Head.{fault_code, fault_rc};
 
-use tpm_types::{Rc, ResponseCode};
+use tpm_types_common::{Rc, ResponseCode};
 
 /// Why the context of an object is not loaded. `object_in_context` defines in which order the
 /// faults are checked.

@@ -7,7 +7,7 @@ ghost use Rattle.tpm_context.specs.Head.{head_at, head_of, head_text, hierarchy_
 use crate::fault::ContextFault;
 use tpm_bytes::{Cursor, Sink};
 use tpm_object::Object;
-use tpm_types::{Handle, HierarchyHandle};
+use tpm_types_common::{Handle, HierarchyHandle};
 use tpm_types_object::{ObjectAttribute, Public};
 
 /// The size of a head, in bytes.

@@ -16,7 +16,7 @@ use tpm_object::Object;
 use tpm_record::Hierarchies;
 use tpm_sequence::SequenceObject;
 use tpm_sequence_text::write_slot;
-use tpm_types::{HierarchyHandle, Octets};
+use tpm_types_common::{HierarchyHandle, Octets};
 use tpm_types_object::Sensitive;
 
 /// The largest size of an encoded object, in bytes.

@@ -6,7 +6,7 @@ use tpm_bytes::{Cursor, Sink};
 use tpm_context::{Binding, CONTEXT_SIZE, ContextFault, open, seal};
 use tpm_object::Object;
 use tpm_record::Hierarchies;
-use tpm_types::HierarchyHandle;
+use tpm_types_common::HierarchyHandle;
 use tpm_types_object::{Public, Sensitive};
 
 /// Aborts the test if the actual value is not the expected value.

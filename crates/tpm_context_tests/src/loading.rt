@@ -9,7 +9,7 @@ use tpm_machine::Machine;
 use tpm_record::Keep;
 use tpm_slots::SlotKeep;
 use tpm_step::{Event, Outcome};
-use tpm_types::{Handle, Locality};
+use tpm_types_common::{Handle, Locality};
 
 /// TPM2_Startup(CLEAR).
 const STARTUP: &[u8] = b"\x80\x01\0\0\0\x0c\0\0\x01\x44\0\0";

@@ -25,8 +25,8 @@ use Rattle.tpm_record.specs.Hierarchy.{secrets_of}
 use Rattle.tpm_record.specs.Record.{Record}
 use Rattle.tpm_record.specs.declared.hierarchy.Secrets.{Secrets}
 use Rattle.tpm_row_secrecy.specs.Secrecy.{DifferInSecrets, Secrecy, bare_object, has_secret_data, unless}
-use Rattle.tpm_types.specs.declared.handle.HierarchyHandle.{HierarchyHandle}
-use Rattle.tpm_types.specs.declared.handle.HierarchyHandle.TheVariants as hierarchy
+use Rattle.tpm_types_common.specs.declared.handle.HierarchyHandle.{HierarchyHandle}
+use Rattle.tpm_types_common.specs.declared.handle.HierarchyHandle.TheVariants as hierarchy
 
 pub same_bind : {A B E : Type 0} (x : Result A E) (f g : A → Result B E) → ((a : A) → f a ≡ g a)
     → (x >>= f) ≡ (x >>= g)

@@ -46,12 +46,12 @@ use Rattle.tpm_row_secrecy.proofs.Each.{is_some_of, place_of_each, places}
 use Rattle.tpm_row_secrecy.proofs.Entities.{object_at_bare, session_at_bare}
 use Rattle.tpm_row_secrecy.specs.Secrecy.{DifferInSecrets, Secrecy, bare_index, bare_object, bare_session, without_secrets}
 use Rattle.tpm_session.specs.Sessions.{session_at}
-use Rattle.tpm_types.specs.Algorithm.{hash_at}
-use Rattle.tpm_types.specs.Buffer.{buffer_at}
-use Rattle.tpm_types.specs.Handle.{is_session, is_transient, numbered_handle}
-use Rattle.tpm_types.specs.Limits.{data_limit, object_limit, persistent_limit, session_limit}
-use Rattle.tpm_types.specs.declared.handle.Handle.{Handle}
-use Rattle.tpm_types.specs.declared.refused.Refused.{Refused}
+use Rattle.tpm_types_common.specs.Algorithm.{hash_at}
+use Rattle.tpm_types_common.specs.Buffer.{buffer_at}
+use Rattle.tpm_types_common.specs.Handle.{is_session, is_transient, numbered_handle}
+use Rattle.tpm_types_common.specs.Limits.{data_limit, object_limit, persistent_limit, session_limit}
+use Rattle.tpm_types_common.specs.declared.handle.Handle.{Handle}
+use Rattle.tpm_types_common.specs.declared.refused.Refused.{Refused}
 use Rattle.tpm_completion.specs.declared.listing.Form.TheVariants as form
 use Rattle.tpm_completion.specs.Sequences.{sequence_of}
 use Rattle.tpm_completion.specs.SequenceLoading.{opened_put, sequence_loaded}

@@ -16,10 +16,10 @@ use Rattle.tpm_record.specs.Record.{Record}
 use Rattle.tpm_row_secrecy.specs.Secrecy.{Secrecy, entity_has_secret_value, has_secret_key, has_secret_value, of_data}
 use Rattle.tpm_session.specs.declared.session.Binding.{Binding}
 use Rattle.tpm_session.specs.declared.session.Session.{Session}
-use Rattle.tpm_types.specs.Handle.{hierarchy_auth_of}
-use Rattle.tpm_types.specs.declared.handle.Handle.{Handle}
-use Rattle.tpm_types.specs.declared.handle.HierarchyAuth.{HierarchyAuth}
-use Rattle.tpm_types.specs.declared.refused.Refused.{Refused}
+use Rattle.tpm_types_common.specs.Handle.{hierarchy_auth_of}
+use Rattle.tpm_types_common.specs.declared.handle.Handle.{Handle}
+use Rattle.tpm_types_common.specs.declared.handle.HierarchyAuth.{HierarchyAuth}
+use Rattle.tpm_types_common.specs.declared.refused.Refused.{Refused}
 use Rattle.tpm_types_command.specs.AuthEntry.{Entry}
 use Rattle.tpm_types_object.specs.declared.public.Public.{Public}
 

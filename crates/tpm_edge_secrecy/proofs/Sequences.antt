@@ -39,12 +39,12 @@ use Rattle.tpm_sequence.specs.Sequence.{hmac_sequence, sequence_updated}
 use Rattle.tpm_sequence.specs.declared.sequence.Sequence.{Sequence}
 use Rattle.tpm_sequence.specs.declared.sequence.Sequence.TheVariants.{Event, Hash, Hmac}
 use Rattle.tpm_step.specs.step.Entries.{password_answer}
-use Rattle.tpm_types.specs.Buffer.{buffer_at}
-use Rattle.tpm_types.specs.Limits.{data_limit}
-use Rattle.tpm_types.specs.declared.handle.Handle.{Handle}
-use Rattle.tpm_types.specs.declared.handle.HierarchyHandle.{HierarchyHandle}
-use Rattle.tpm_types.specs.declared.handle.HierarchyHandle.TheVariants as kind
-use Rattle.tpm_types.specs.declared.refused.Refused.{Refused}
+use Rattle.tpm_types_common.specs.Buffer.{buffer_at}
+use Rattle.tpm_types_common.specs.Limits.{data_limit}
+use Rattle.tpm_types_common.specs.declared.handle.Handle.{Handle}
+use Rattle.tpm_types_common.specs.declared.handle.HierarchyHandle.{HierarchyHandle}
+use Rattle.tpm_types_common.specs.declared.handle.HierarchyHandle.TheVariants as kind
+use Rattle.tpm_types_common.specs.declared.refused.Refused.{Refused}
 
 -- ---- choices
 

@@ -16,7 +16,7 @@ use Rattle.tpm_secrecy.proofs.Authorizing.{session_shown}
 use Rattle.tpm_row_secrecy.proofs.Entities.{name_bare, secret_value_bare, session_at_bare, value_bare}
 use Rattle.tpm_row_secrecy.specs.Secrecy.{DifferInSecrets, Secrecy, bare_session, has_secret_key, has_secret_value, without_secrets}
 use Rattle.tpm_session.specs.declared.session.Session.{Session}
-use Rattle.tpm_types.specs.declared.handle.Handle.{Handle}
+use Rattle.tpm_types_common.specs.declared.handle.Handle.{Handle}
 use Rattle.tpm_types_command.specs.AuthEntry.{Entry}
 
 pub neither : (a b : Bool) → (a || b) ≡ false → (a ≡ false) × (b ≡ false)

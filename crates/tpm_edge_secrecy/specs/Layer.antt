@@ -32,9 +32,9 @@ use Rattle.tpm_secrecy.specs.Tells.{EventsAlike, is_reading}
 use Rattle.tpm_step.specs.step.Events.{Cycled, Given, Placed, PlainEvent}
 use Rattle.tpm_step.specs.declared.event.Row.{Row}
 use Rattle.tpm_row_secrecy.specs.Reads.{names_secret_object}
-use Rattle.tpm_types.specs.Handle.{is_transient, numbered_handle}
-use Rattle.tpm_types.specs.declared.handle.Handle.{Handle}
-use Rattle.tpm_types.specs.declared.refused.Refused.{Refused}
+use Rattle.tpm_types_common.specs.Handle.{is_transient, numbered_handle}
+use Rattle.tpm_types_common.specs.declared.handle.Handle.{Handle}
+use Rattle.tpm_types_common.specs.declared.refused.Refused.{Refused}
 use Rattle.tpm_types_object.specs.declared.public.Public.{Public}
 
 -- ---- which contexts hold secrets

@@ -1,8 +1,8 @@
 -- The names of response codes, and the handle, parameter or session that a code identifies. TPM 2.0
 -- Library, Part 2, section 6.6: 6.6.2 defines the bits of a code, and 6.6.3 the numbers of TPM_RC.
 use Rattle.std.specs.Prelude.{ℕ, ◌+◌, ◌/◌, ◌%◌, ◌==◌, ◌||◌, ◌++◌, ◌-◌, nat_lt, List, [], ◌∷◌, codes, length, replicate, if◌then◌else◌}
-use Rattle.tpm_types.specs.declared.rc.Place.{Place}
-use Rattle.tpm_types.specs.declared.rc.Place.TheVariants as place
+use Rattle.tpm_types_common.specs.declared.rc.Place.{Place}
+use Rattle.tpm_types_common.specs.declared.rc.Place.TheVariants as place
 use Rattle.std.specs.Prelude.{Option, None, option_map}
 use Rattle.std.specs.List.{find}
 use Rattle.std.specs.Fmt.{decimal}

@@ -6,7 +6,7 @@ ghost use Rattle.tpm_help.specs.ResponseCode.{errors, format_one_names, hex_numb
 ghost use Rattle.tpm_help.specs.ResponseCode.{name_in, place_in, told_of, warnings};
 
 use std::fmt;
-use tpm_types::rc::Place;
+use tpm_types_common::rc::Place;
 
 /// The meaning of a response code: its name without TPM_RC_, and the handle, parameter or session
 /// that it identifies.

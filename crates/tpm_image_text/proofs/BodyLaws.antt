@@ -12,7 +12,7 @@ use Rattle.tpm_image_text.specs.Image.{IsWithin}
 use Rattle.tpm_image_text.specs.NonVolatile.{IsNonVolatile, KeptState, NonVolatile, nv_of}
 use Rattle.tpm_image_text.specs.declared.version.Version.{Version}
 use Rattle.tpm_image_text.specs.declared.version.Version.TheVariants.{Two}
-use Rattle.tpm_types.proofs.Spelled.{Spelled, all_read, first, four_texts, respelled, then}
+use Rattle.tpm_types_common.proofs.Spelled.{Spelled, all_read, first, four_texts, respelled, then}
 use Rattle.tpm_image_text.proofs.FieldSpelling.{filling_again, filling_taken}
 use Rattle.tpm_image_text.proofs.IndexLaws.{AreStored, indices_small, indices_spelled}
 use Rattle.tpm_image_text.proofs.ObjectLaws.{objects_small, objects_spelled}

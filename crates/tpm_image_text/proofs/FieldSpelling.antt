@@ -13,13 +13,13 @@ use Rattle.tpm_bytes.specs.Reading.{◌>>=◌, bytes_at, number_at, or_fault, re
 use Rattle.tpm_bytes.specs.Writing.{sized_text}
 use Rattle.tpm_bytes.proofs.Fields.{AreBytes, IsWide, Takes, Takes-then, bind_ok, bytes_again, bytes_take, number_or_again, number_or_takes, ok_is, ok_or_ok, or_fault_ok, passed, wide8, wide16}
 use Rattle.tpm_bytes.proofs.Spelling.{many_again, many_taken}
-use Rattle.tpm_types.specs.AuthValue.{IsAuthValue}
-use Rattle.tpm_types.specs.Rc.{plain}
-use Rattle.tpm_types.specs.YesNo.{yes_no_at, yes_no_named}
-use Rattle.tpm_types.specs.declared.rc.ResponseCode.TheVariants as code
-use Rattle.tpm_types.proofs.FieldLaws.{buffer_spelled}
-use Rattle.tpm_types.proofs.Named.{link, none}
-use Rattle.tpm_types.proofs.Spelled.{Behind, Spelled, first, for_each, respelled}
+use Rattle.tpm_types_common.specs.AuthValue.{IsAuthValue}
+use Rattle.tpm_types_common.specs.Rc.{plain}
+use Rattle.tpm_types_common.specs.YesNo.{yes_no_at, yes_no_named}
+use Rattle.tpm_types_common.specs.declared.rc.ResponseCode.TheVariants as code
+use Rattle.tpm_types_common.proofs.FieldLaws.{buffer_spelled}
+use Rattle.tpm_types_common.proofs.Named.{link, none}
+use Rattle.tpm_types_common.proofs.Spelled.{Behind, Spelled, first, for_each, respelled}
 use Rattle.tpm_image_text.specs.Fields.{auth_value_in, buffer_in, bytes_in, counted_in, counted_text, filling, in_body, is_trimmed, malformed_fault, number_in, passing, yes_no_in, yes_no_number, yes_no_text}
 use Rattle.tpm_image_text.specs.declared.fault.Malformed.{Malformed}
 

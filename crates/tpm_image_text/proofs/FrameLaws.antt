@@ -14,7 +14,7 @@ use Rattle.tpm_bytes.proofs.Fields.{AreBytes, AreBytes-take, ok_is, wide16, wide
 use Rattle.tpm_mac.specs.Digest.{hash_of}
 use Rattle.tpm_mac.specs.declared.algorithm.HashAlg.TheVariants.{Sha256}
 use Rattle.tpm_mac.proofs.DigestSize.{length-hash_of}
-use Rattle.tpm_types.proofs.Spelled.{rest_fits}
+use Rattle.tpm_types_common.proofs.Spelled.{rest_fits}
 use Rattle.tpm_image_text.specs.Frame.{Format, before_digest, digest_bytes, digest_of, digested_text, framed_in, head_bytes, head_in, image_format, length_of, number_of, within_frame, word_of}
 use Rattle.tpm_image_text.proofs.VersionLaws.{number_small, numbered-again, numbered-is}
 

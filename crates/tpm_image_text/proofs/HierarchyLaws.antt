@@ -2,7 +2,7 @@
 -- encoding.
 use Rattle.std.proofs.Common.{◌≡◌, ℕ, ◌≤◌, List, [], ◌∷◌, ◌++◌, length, refl, arith, length-append}
 use Rattle.tpm_bytes.specs.Writing.{sized_text}
-use Rattle.tpm_types.proofs.Spelled.{Spelled, all_read, first, respelled, six_texts, then, two_texts}
+use Rattle.tpm_types_common.proofs.Spelled.{Spelled, all_read, first, respelled, six_texts, then, two_texts}
 use Rattle.tpm_record.specs.Hierarchy.{IsHierarchies, IsHierarchy, IsSecrets}
 use Rattle.tpm_record.specs.declared.hierarchy.Hierarchies.{Hierarchies}
 use Rattle.tpm_record.specs.declared.hierarchy.Hierarchy.{Hierarchy}

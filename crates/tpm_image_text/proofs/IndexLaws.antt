@@ -1,7 +1,7 @@
 -- The NV indices of an image: decoding returns them exactly when the bytes begin with their
 -- encoding.
 use Rattle.tpm_image_text.specs.Sizes.{indices_size}
-use Rattle.tpm_types.specs.Limits.{nv_data_limit}
+use Rattle.tpm_types_common.specs.Limits.{nv_data_limit}
 use Rattle.std.proofs.Common.{◌≡◌, ℕ, ◌+◌, ◌*◌, ◌≤◌, Bool, true, false, cond, List, [], ◌∷◌, ◌++◌, length, Option, Some, None, refl, sym, ap, arith, length-append}
 use Rattle.std.specs.Prelude.{◌==◌}
 use Rattle.std.specs.Int.{w16, to_be_bytes}
@@ -17,9 +17,9 @@ use Rattle.tpm_mac.specs.declared.algorithm.HashAlg.TheVariants.{Sha1, Sha256}
 use Rattle.tpm_nv.specs.Definition.{has_type_size, is_type_size}
 use Rattle.tpm_nv.specs.Index.{NvIndex}
 use Rattle.tpm_nv.specs.IsContents.{AreIndices, IsIndex}
-use Rattle.tpm_types.specs.Algorithm.{hash_number}
-use Rattle.tpm_types.specs.AuthValue.{IsAuthValue}
-use Rattle.tpm_types.proofs.Spelled.{Spelled, all_read, first, respelled, then}
+use Rattle.tpm_types_common.specs.Algorithm.{hash_number}
+use Rattle.tpm_types_common.specs.AuthValue.{IsAuthValue}
+use Rattle.tpm_types_common.proofs.Spelled.{Spelled, all_read, first, respelled, then}
 use Rattle.tpm_types_nv.specs.NvAttributes.{has, index_type, nv_attributes_text}
 use Rattle.tpm_types_nv.specs.NvPublic.{IsNvPublic, nv_index_text, nv_public_text}
 use Rattle.tpm_types_nv.specs.declared.nv_attributes.NvAttribute.TheVariants as attribute

@@ -1,6 +1,6 @@
 -- Lemmas about reading NV indices one after another, as long as their data fit in a given space,
 -- which is at most the device's space.
-use Rattle.tpm_types.specs.Limits.{nv_index_limit, nv_space_limit}
+use Rattle.tpm_types_common.specs.Limits.{nv_index_limit, nv_space_limit}
 use Rattle.std.proofs.Common.{arith, ◌≡◌, ℕ, suc, ◌+◌, ◌-◌, ◌<◌, ◌≤◌, true, false, leb, ltb, List, [], ◌∷◌, ◌++◌, length, Result, Ok, Err, IfOk, Bool, inl, inr, refl, sym, ap, ◌∙◌}
 use Rattle.std.specs.Prelude.{◌⊎◌, ◌&&◌, map, nat_le, not}
 use Rattle.std.proofs.lemmas.List.Sums.{sum_by-append, sum_by-cons}

@@ -15,12 +15,12 @@ use Rattle.tpm_bytes.proofs.Fields.{wide32}
 use Rattle.tpm_object.specs.Object.{IsObject}
 use Rattle.tpm_object.specs.declared.object.Object.{Object}
 use Rattle.tpm_record.specs.Persistent.{ArePersistent, IsPersistent}
-use Rattle.tpm_types.specs.Handle.{hierarchy_handle, hierarchy_of, is_persistent, numbered_handle}
-use Rattle.tpm_types.specs.declared.handle.Handle.{Handle}
-use Rattle.tpm_types.specs.declared.handle.HierarchyHandle.{HierarchyHandle}
-use Rattle.tpm_types.specs.declared.handle.HierarchyHandle.TheVariants as hierarchy
-use Rattle.tpm_types.proofs.Named.{link, none}
-use Rattle.tpm_types.proofs.Spelled.{Spelled, all_read, first, for_each, respelled, then, two_texts}
+use Rattle.tpm_types_common.specs.Handle.{hierarchy_handle, hierarchy_of, is_persistent, numbered_handle}
+use Rattle.tpm_types_common.specs.declared.handle.Handle.{Handle}
+use Rattle.tpm_types_common.specs.declared.handle.HierarchyHandle.{HierarchyHandle}
+use Rattle.tpm_types_common.specs.declared.handle.HierarchyHandle.TheVariants as hierarchy
+use Rattle.tpm_types_common.proofs.Named.{link, none}
+use Rattle.tpm_types_common.proofs.Spelled.{Spelled, all_read, first, for_each, respelled, then, two_texts}
 use Rattle.tpm_types_object.specs.Public.{IsPublic, object_type, object_type_named, object_type_number, public_text}
 use Rattle.tpm_types_object.specs.Sensitive.{IsSensitive, sensitive_text}
 use Rattle.tpm_types_object.specs.declared.public.ObjectType.{ObjectType}

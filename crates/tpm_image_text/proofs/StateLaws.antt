@@ -8,7 +8,7 @@ use Rattle.std.specs.List.{AllByRecursion, flat_map}
 use Rattle.std.proofs.lemmas.Bool.{eqb-false, eqb-true}
 use Rattle.std.proofs.lemmas.List.Elements.{All-from_recursion, recursion_from_All}
 use Rattle.tpm_bytes.proofs.Fields.{AreBytes, Takes, bind_ok, ok_is, wide8, wide32}
-use Rattle.tpm_types.proofs.Spelled.{Spelled, all_read, first, for_each, respelled, then, two_texts}
+use Rattle.tpm_types_common.proofs.Spelled.{Spelled, all_read, first, for_each, respelled, then, two_texts}
 use Rattle.tpm_lockout.specs.Lockout.{IsLockout, restored_lockout}
 use Rattle.tpm_lockout.specs.declared.fields.LockoutFields.{LockoutFields}
 use Rattle.tpm_pcr.specs.Saved.{IsSaved, IsSavedBank, SavedValues}

@@ -1,14 +1,14 @@
 -- The number of a version identifies the version. The limits of a version do not exceed the limits
 -- of the device, and their encoding can be read back.
-use Rattle.tpm_types.specs.Limits.{nv_index_limit, nv_space_limit}
+use Rattle.tpm_types_common.specs.Limits.{nv_index_limit, nv_space_limit}
 use Rattle.std.proofs.Common.{◌≡◌, ℕ, ◌^◌, ◌<◌, ◌≤◌, List, ◌++◌, length, Some, Result, Ok, refl, ap, subst, ◌∙◌, append_assoc, arith}
 use Rattle.std.specs.Prelude.{◌==◌, not}
 use Rattle.std.specs.Int.{w16, w32, to_be_bytes}
 use Rattle.std.proofs.lemmas.Bool.{eqb-true}
 use Rattle.tpm_bytes.specs.Reading.{◌>>=◌, refused_if}
 use Rattle.tpm_bytes.proofs.Fields.{Takes, Takes-then, bind_ok, ok_is, passed, wide16, wide32}
-use Rattle.tpm_types.proofs.Named.{link, none}
-use Rattle.tpm_types.proofs.Spelled.{Spelled}
+use Rattle.tpm_types_common.proofs.Named.{link, none}
+use Rattle.tpm_types_common.proofs.Spelled.{Spelled}
 use Rattle.tpm_image_text.specs.Body.{are_limits_of, limits_in, limits_text}
 use Rattle.tpm_image_text.specs.Fields.{malformed_fault, number_in}
 use Rattle.tpm_image_text.specs.Sizes.{limits_size}

@@ -2,7 +2,7 @@
 -- specific to this device; objects and indices are encoded as the standard's structures. TPM 2.0
 -- Library, Part 2, sections 12.2.4 (TPMT_PUBLIC), 12.3.2.4 (TPMT_SENSITIVE) and 13.6
 -- (TPM2B_NV_PUBLIC).
-use Rattle.tpm_types.specs.Limits.{nv_data_limit, persistent_limit}
+use Rattle.tpm_types_common.specs.Limits.{nv_data_limit, persistent_limit}
 use Rattle.std.specs.Prelude.{ℕ, ◌+◌, ◌==◌, ◌&&◌, nat_le, not, Bool, true, if◌then◌else◌}
 use Rattle.std.specs.Prelude.{List, [], ◌∷◌, ◌++◌, length, ok_or, Result, Ok, Err}
 use Rattle.std.specs.Int.{w8, w16, w32, w64, to_be_bytes}
@@ -21,14 +21,14 @@ use Rattle.tpm_record.specs.Saved.{SavedState, Nothing, Clear, State}
 use Rattle.tpm_record.specs.declared.hierarchy.Hierarchies.{Hierarchies}
 use Rattle.tpm_record.specs.declared.hierarchy.Hierarchy.{Hierarchy}
 use Rattle.tpm_record.specs.declared.hierarchy.Secrets.{Secrets}
-use Rattle.tpm_types.specs.Handle.{hierarchy_handle, hierarchy_of, is_persistent, numbered_handle}
-use Rattle.tpm_types.specs.declared.handle.Handle.{Handle}
-use Rattle.tpm_types.specs.declared.handle.HierarchyHandle.{HierarchyHandle}
+use Rattle.tpm_types_common.specs.Handle.{hierarchy_handle, hierarchy_of, is_persistent, numbered_handle}
+use Rattle.tpm_types_common.specs.declared.handle.Handle.{Handle}
+use Rattle.tpm_types_common.specs.declared.handle.HierarchyHandle.{HierarchyHandle}
 use Rattle.tpm_types_nv.specs.NvAttributes.{has}
 use Rattle.tpm_types_nv.specs.NvPublic.{nv_public_at, nv_public_text}
 use Rattle.tpm_types_nv.specs.declared.nv_attributes.NvAttribute.TheVariants as attribute
 use Rattle.tpm_types_nv.specs.declared.nv_public.NvPublic.{NvPublic}
-use Rattle.tpm_types.specs.Filled.{filled_by}
+use Rattle.tpm_types_common.specs.Filled.{filled_by}
 use Rattle.tpm_types_object.specs.Public.{object_type, object_type_number, public_at, public_text}
 use Rattle.tpm_types_object.specs.Sensitive.{sensitive_at, sensitive_text}
 use Rattle.tpm_types_object.specs.declared.public.Public.{Public}

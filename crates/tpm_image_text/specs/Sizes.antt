@@ -1,6 +1,6 @@
 -- The largest sizes of the parts of an image, in bytes. They follow from the limits of the device.
 use Rattle.std.specs.Prelude.{ℕ, ◌+◌, ◌*◌}
-use Rattle.tpm_types.specs.Limits.{nv_index_limit, nv_space_limit, persistent_limit}
+use Rattle.tpm_types_common.specs.Limits.{nv_index_limit, nv_space_limit, persistent_limit}
 
 -- the largest size of the encoded limits, which is their size in version 2
 abbrev pub limits_size : ℕ

@@ -1,7 +1,7 @@
 -- The versions of an image, and the limits of each on NV indices. The format is specific to this
 -- device.
 use Rattle.std.specs.Prelude.{ℕ, ◌==◌, if◌then◌else◌, Option, Some, None}
-use Rattle.tpm_types.specs.Limits.{nv_index_limit, nv_space_limit}
+use Rattle.tpm_types_common.specs.Limits.{nv_index_limit, nv_space_limit}
 use Rattle.tpm_image_text.specs.declared.version.Version.{Version}
 use Rattle.tpm_image_text.specs.declared.version.Version.TheVariants.{One, Two}
 

@@ -1,18 +1,18 @@
 //! The fields of an image: their sizes, how they are read, and how they are written.
 
 ghost use Rattle.tpm_image_text.specs.Sizes.{text_size};
-ghost use Rattle.tpm_types.specs.Limits.{nv_space_limit};
+ghost use Rattle.tpm_types_common.specs.Limits.{nv_space_limit};
 ghost use Rattle.std.specs.Prelude.{◌≡◌, ◌≤◌, ◌+◌, ◌++◌, IfOk, length, true};
-ghost use Rattle.tpm_types.specs.AuthValue.{trimmed};
+ghost use Rattle.tpm_types_common.specs.AuthValue.{trimmed};
 ghost use Rattle.std.specs.Int.{w8, w16, w32, w64, to_be_bytes};
 ghost use Rattle.tpm_bytes.specs.Reading.{Reads};
 ghost use Rattle.tpm_bytes.specs.Writing.{sized_text};
-ghost use Rattle.tpm_types.specs.Filled.{filled_by};
+ghost use Rattle.tpm_types_common.specs.Filled.{filled_by};
 ghost use Rattle.tpm_image_text.specs.Fields.{auth_value_in, buffer_in, bytes_in, in_body, is_trimmed, number_in, yes_no_in, yes_no_text};
 
 use crate::fault::Malformed;
 use tpm_bytes::{Cursor, Readable, Sink};
-use tpm_types::{
+use tpm_types_common::{
     AuthValue, NV_INDEX_LIMIT, NV_SPACE_LIMIT, PERSISTENT_LIMIT, Rc, read_buffer, read_filled,
     read_yes_no, trimmed,
 };

@@ -1,7 +1,7 @@
 //! Reads and writes the NV indices in an image.
 
 ghost use Rattle.tpm_image_text.specs.Sizes.{entries_size, index_size, indices_size, text_size};
-ghost use Rattle.tpm_types.specs.Limits.{nv_index_limit, nv_space_limit};
+ghost use Rattle.tpm_types_common.specs.Limits.{nv_index_limit, nv_space_limit};
 ghost use Rattle.std.specs.Prelude.{◌≡◌, ◌≤◌, ◌<◌, ◌+◌, ◌*◌, ◌++◌, ◌⊎◌, [], IfOk, length, true};
 ghost use Rattle.std.specs.List.{flat_map};
 ghost use Rattle.tpm_bytes.specs.Many.{many_at};
@@ -14,14 +14,14 @@ ghost use Rattle.tpm_nv.specs.Definition.{has_type_size};
 ghost use Rattle.tpm_nv.specs.Head.{index_with, indices_of, total};
 ghost use Rattle.tpm_nv.specs.Index.{data_bytes};
 ghost use Rattle.tpm_types_nv.specs.NvPublic.{IsNvPublic, nv_public_at};
-ghost use Rattle.tpm_types.specs.Filled.{filled_by};
+ghost use Rattle.tpm_types_common.specs.Filled.{filled_by};
 
 use crate::fault::{FillFault, Malformed};
 use crate::fields::{Text, read_auth_value, read_sized, read_u16, write_sized, write_u16};
 use crate::version::Version;
 use tpm_bytes::Cursor;
 use tpm_nv::{Head, Indices, RestoreFault, has_type_size};
-use tpm_types::{AuthValue, NV_DATA_LIMIT};
+use tpm_types_common::{AuthValue, NV_DATA_LIMIT};
 use tpm_types_nv::{NvAttribute, NvPublic};
 
 /// One NV index, as an image stores it.

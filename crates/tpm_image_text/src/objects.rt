@@ -1,16 +1,16 @@
 //! Reads and writes the persistent objects in an image.
 
-ghost use Rattle.tpm_types.specs.Limits.{persistent_limit};
+ghost use Rattle.tpm_types_common.specs.Limits.{persistent_limit};
 ghost use Rattle.tpm_image_text.specs.Sizes.{object_fields_size, object_size, objects_size, text_size};
 ghost use Rattle.std.specs.Prelude.{◌≡◌, ◌≤◌, ◌<◌, ◌+◌, ◌*◌, ◌++◌, IfOk, length, true};
-ghost use Rattle.tpm_types.specs.AuthValue.{trimmed};
+ghost use Rattle.tpm_types_common.specs.AuthValue.{trimmed};
 ghost use Rattle.tpm_bytes.specs.Reading.{Reads};
 ghost use Rattle.tpm_image_text.specs.Body.{ascend_from, handle_in, is_sensitive_of, object_fields_in, object_fields_text, object_in, object_text, objects_in, objects_text, object_hierarchy_in, sensitive_in, sensitive_of};
 ghost use Rattle.std.specs.List.{flat_map};
 ghost use Rattle.tpm_bytes.specs.Many.{many_at};
 ghost use Rattle.tpm_image_text.specs.Fields.{passing};
 ghost use Rattle.tpm_image_text.specs.Filling.{AllBelow, Appends, Fills};
-ghost use Rattle.tpm_types.specs.Handle.{is_persistent};
+ghost use Rattle.tpm_types_common.specs.Handle.{is_persistent};
 ghost use Rattle.tpm_record.specs.Persistent.{can_persist, no_persistent};
 
 use crate::fault::{FillFault, Malformed};
@@ -22,7 +22,7 @@ use tpm_bytes::Cursor;
 use tpm_containers::KeyFault;
 use tpm_object::Object;
 use tpm_record::PersistentObjects;
-use tpm_types::{AuthValue, Handle, HierarchyHandle, Octets, PERSISTENT_LIMIT};
+use tpm_types_common::{AuthValue, Handle, HierarchyHandle, Octets, PERSISTENT_LIMIT};
 use tpm_types_name::Name;
 use tpm_types_object::{Public, Sensitive};
 

@@ -1,6 +1,6 @@
 //! The versions of an image, and the limits of each on NV indices.
 
-ghost use Rattle.tpm_types.specs.Limits.{nv_index_limit, nv_space_limit};
+ghost use Rattle.tpm_types_common.specs.Limits.{nv_index_limit, nv_space_limit};
 ghost use Rattle.tpm_image_text.specs.Body.{limits_in, limits_text};
 ghost use Rattle.tpm_image_text.specs.Sizes.{limits_size, text_size};
 ghost use Rattle.tpm_image_text.specs.Version.{index_limit, space_limit, version_number, version_numbered};
@@ -11,7 +11,7 @@ ghost use Rattle.tpm_bytes.specs.Reading.{Reads};
 use crate::fault::Malformed;
 use crate::fields::{Text, read_u16, read_u32, write_u16, write_u32};
 use tpm_bytes::Cursor;
-use tpm_types::{NV_INDEX_LIMIT, NV_SPACE_LIMIT};
+use tpm_types_common::{NV_INDEX_LIMIT, NV_SPACE_LIMIT};
 
 /// A version of an image.
 #[derive(Clone, Copy, PartialEq, Eq)]

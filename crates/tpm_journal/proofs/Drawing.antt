@@ -10,7 +10,7 @@ use Rattle.tpm_context.specs.declared.fault.ContextFault.{ContextFault}
 use Rattle.tpm_object.specs.declared.object.Object.{Object}
 use Rattle.tpm_record.specs.Record.{Record}
 use Rattle.tpm_record.specs.Tick.{after_tick}
-use Rattle.tpm_types.specs.declared.handle.Handle.{Handle}
+use Rattle.tpm_types_common.specs.declared.handle.Handle.{Handle}
 use Rattle.tpm_types_command.specs.AuthEntry.{Entry}
 use Rattle.tpm_step.specs.step.Answer.{answer_to, framed_message, handle_answer, success_text}
 use Rattle.tpm_step.specs.step.Events.{Given}

@@ -13,7 +13,7 @@ use tpm_journal_text::{BYTES_ROOM, ENTRY_ROOM, Entry, Next, read_entry, sum_of};
 use tpm_machine::Machine;
 use tpm_record::Keep;
 use tpm_step::{Event, Outcome};
-use tpm_types::Locality;
+use tpm_types_common::Locality;
 
 /// The reasons why the execution of entries stopped early.
 #[derive(Clone, Copy, PartialEq, Eq)]

@@ -22,7 +22,7 @@ ghost use Rattle.tpm_state_text.specs.State.{state_text};
 ghost use Rattle.tpm_step.specs.step.Events.{Cycled};
 ghost use Rattle.tpm_step.specs.step.Execution.{Executes};
 ghost use Rattle.tpm_step.specs.step.Step.{outcome_step};
-ghost use Rattle.tpm_types.specs.Locality.{locality_number};
+ghost use Rattle.tpm_types_common.specs.Locality.{locality_number};
 
 use tpm_bytes::Sink;
 use tpm_completion::{Completion, execute as complete};
@@ -34,7 +34,7 @@ use tpm_record::Keep;
 use tpm_snapshot::{completion_of, layer_of};
 use tpm_state_text::{Layer, StateBody, write_state};
 use tpm_step::{Event, Outcome};
-use tpm_types::Locality;
+use tpm_types_common::Locality;
 
 /// The state of a journal, apart from its device.
 #[derive(Clone, Copy, PartialEq, Eq)]

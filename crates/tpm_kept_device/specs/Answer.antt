@@ -4,7 +4,7 @@ use Rattle.std.specs.Int.{w8, w16, w32}
 use Rattle.tpm_bytes.specs.Reading.{◌>>=◌, refused_if}
 use Rattle.tpm_image_text.specs.Fields.{malformed_fault, number_in}
 use Rattle.tpm_image_text.specs.declared.fault.Malformed.{Malformed}
-use Rattle.tpm_types.specs.Limits.{buffer_limit}
+use Rattle.tpm_types_common.specs.Limits.{buffer_limit}
 use Rattle.tpm_kept_device.specs.declared.answer.Answer.{Answer}
 
 -- an answer: the command code, the number of the check that refused the command, the number of

@@ -5,11 +5,11 @@ ghost use Rattle.std.specs.Int.{w16};
 ghost use Rattle.tpm_bytes.specs.Reading.{Gives, Reads};
 ghost use Rattle.tpm_image_text.specs.Fields.{number_in};
 ghost use Rattle.tpm_kept_device.specs.Answer.{answer_of, plain_answer};
-ghost use Rattle.tpm_types.specs.Limits.{buffer_limit};
+ghost use Rattle.tpm_types_common.specs.Limits.{buffer_limit};
 
 use tpm_bytes::Cursor;
 use tpm_image_text::{Malformed, read_u8, read_u32};
-use tpm_types::BUFFER_LIMIT;
+use tpm_types_common::BUFFER_LIMIT;
 
 /// The answer to a TPM command.
 #[derive(Clone, Copy)]

@@ -8,11 +8,11 @@ ghost use Rattle.tpm_kept_journal.specs.Command.{IsGiven, command_in, command_of
 ghost use Rattle.tpm_kept_journal.specs.Command.{executed_after_in, executed_at_in, executed_in};
 ghost use Rattle.tpm_kept_journal.specs.Effect.{clock_at};
 ghost use Rattle.tpm_kept_device.specs.View.{plain_command, plain_moment};
-ghost use Rattle.tpm_types.specs.Locality.{locality_number};
+ghost use Rattle.tpm_types_common.specs.Locality.{locality_number};
 
 use tpm_bytes::Cursor;
 use tpm_image_text::{Malformed, read_bool, read_u8, read_u32, read_u64};
-use tpm_types::Locality;
+use tpm_types_common::Locality;
 
 /// When a TPM command arrives.
 #[derive(Clone, Copy)]

@@ -4,10 +4,10 @@ ghost use Rattle.std.specs.Prelude.{◌≡◌, ◌++◌, ◌∷◌, IfOk, Ok, On
 ghost use Rattle.tpm_kept_journal.specs.Command.{After, At, Begins, Cycles, Executes, command_of};
 ghost use Rattle.tpm_kept_journal.specs.Seed.{seed_in};
 ghost use Rattle.tpm_kept_device.specs.Texts.{cycle_text, given_text, seed_text, text_after, text_at};
-ghost use Rattle.tpm_types.specs.Locality.{locality_number};
+ghost use Rattle.tpm_types_common.specs.Locality.{locality_number};
 
 use std::alloc::{AllocError, Global};
-use tpm_types::Locality;
+use tpm_types_common::Locality;
 
 /// Encodes a TPM command that arrives at this time of the host's clock, in milliseconds.
 #[tactic(auto, using(crate::proofs::Texts::at_read))]

@@ -8,7 +8,7 @@ use Rattle.tpm_sequence.specs.declared.object.SequenceObject.{SequenceObject}
 use Rattle.tpm_sequence_text.specs.Slot.{IsSequenceObject, IsSlot}
 use Rattle.tpm_snapshot.specs.Layer.{layer_of}
 use Rattle.tpm_state_text.specs.Layer.{IsLayer}
-use Rattle.tpm_types.specs.Limits.{session_limit}
+use Rattle.tpm_types_common.specs.Limits.{session_limit}
 use Rattle.tpm_completion.specs.Completion.{new_completion}
 use Rattle.tpm_completion.specs.Saving.{Reply}
 use Rattle.tpm_completion.specs.Sequences.{in_slot, no_sequences, sequence_limit, with_sequence, without_sequence}

@@ -26,7 +26,7 @@ use Rattle.tpm_step.specs.step.Answer.{answer_to, framed_message, handle_answer,
 use Rattle.tpm_step.specs.step.Events.{Given, PlainEvent}
 use Rattle.tpm_step.specs.step.Step.{Accepted, Stepped, acceptance_in, step, stepped_of}
 use Rattle.tpm_step.specs.declared.refused_command.RefusedCommand.{RefusedCommand}
-use Rattle.tpm_types.specs.declared.handle.Handle.{Handle}
+use Rattle.tpm_types_common.specs.declared.handle.Handle.{Handle}
 use Rattle.tpm_types_command.specs.AuthEntry.{Entry}
 use Rattle.tpm_kept_journal.specs.Effect.{effect}
 use Rattle.tpm_kept_journal.specs.Opening.{performance}

@@ -20,14 +20,14 @@ use Rattle.tpm_sequence.specs.Sequence.{object_of as sequence_object}
 use Rattle.tpm_sequence_text.specs.Slot.{IsSequenceObject}
 use Rattle.tpm_step.proofs.history.AuthReadings.{parameter_then}
 use Rattle.tpm_step.proofs.rows.Binding.{ok_bind, ok_then}
-use Rattle.tpm_types.proofs.Buffers.{or_sized_ok}
-use Rattle.tpm_types.specs.Algorithm.{hash_or_null_at}
-use Rattle.tpm_types.specs.Buffer.{buffer_at}
-use Rattle.tpm_types.specs.Limits.{data_limit}
-use Rattle.tpm_types.specs.declared.rc.Rc.{Rc}
-use Rattle.tpm_types.specs.declared.rc.ResponseCode.TheVariants as code
-use Rattle.tpm_types.specs.declared.refused.Refused.{Refused}
-use Rattle.tpm_types.specs.Handle.{numbered_handle}
+use Rattle.tpm_types_common.proofs.Buffers.{or_sized_ok}
+use Rattle.tpm_types_common.specs.Algorithm.{hash_or_null_at}
+use Rattle.tpm_types_common.specs.Buffer.{buffer_at}
+use Rattle.tpm_types_common.specs.Limits.{data_limit}
+use Rattle.tpm_types_common.specs.declared.rc.Rc.{Rc}
+use Rattle.tpm_types_common.specs.declared.rc.ResponseCode.TheVariants as code
+use Rattle.tpm_types_common.specs.declared.refused.Refused.{Refused}
+use Rattle.tpm_types_common.specs.Handle.{numbered_handle}
 use Rattle.tpm_completion.specs.Answer.{is_refusal}
 use Rattle.tpm_auth.specs.Entries.{is_password}
 use Rattle.tpm_completion.specs.Authorizing.{absent_refused, entries_at, handle_at, only_entry, password_refused, sequence_named}

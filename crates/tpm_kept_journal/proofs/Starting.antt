@@ -31,7 +31,7 @@ use Rattle.tpm_state_text.specs.declared.fault.StateFault.{StateFault}
 use Rattle.tpm_state_text.specs.declared.layer.Layer.{Layer}
 use Rattle.tpm_state_text.proofs.StateLaws.{current_found}
 use Rattle.tpm_step.proofs.step.PowerCycles.{none_taken, starting_banks}
-use Rattle.tpm_types.specs.Limits.{object_limit, session_limit}
+use Rattle.tpm_types_common.specs.Limits.{object_limit, session_limit}
 use Rattle.tpm_kept_journal.specs.Opening.{walked_after, opened_text, spot_by, started_at, started_by, started_no_head, spot_after_walk}
 use Rattle.tpm_kept_journal.specs.State.{IsDeviceState, spot_of, state_in}
 use Rattle.tpm_kept_journal.specs.texts.HeadAt.{PlainHead, head_at}

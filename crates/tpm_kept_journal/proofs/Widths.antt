@@ -21,7 +21,7 @@ use Rattle.tpm_sequence.specs.declared.sequence.Sequence.{Sequence}
 use Rattle.tpm_sequence.specs.declared.sequence.Sequence.TheVariants.{Event, Hash, Hmac}
 use Rattle.tpm_sequence_text.specs.HashState.{AreWords, IsHashState, IsValue}
 use Rattle.tpm_sequence_text.specs.Slot.{IsSequence, IsSequenceObject}
-use Rattle.tpm_types.specs.AuthValue.{trimmed, without_first_zeros}
+use Rattle.tpm_types_common.specs.AuthValue.{trimmed, without_first_zeros}
 
 -- ---- hash values
 

@@ -4,8 +4,8 @@ use crate::fault::SpellFault;
 use crate::word::put_bytes;
 use std::fmt::{self, Write};
 use tpm_bytes::Cursor;
-use tpm_types::Handle;
 use tpm_types_command::AuthEntry;
+use tpm_types_common::Handle;
 
 /// The largest number of entries in a line.
 const ENTRIES: u8 = 3;

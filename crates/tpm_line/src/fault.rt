@@ -4,7 +4,7 @@ ghost use Rattle.std.specs.Prelude.{◌≡◌};
 
 use std::fmt;
 use tpm_bytes::{Short, SizedFault};
-use tpm_types::Rc;
+use tpm_types_common::Rc;
 
 /// The reasons why no line was returned for a buffer.
 #[derive(Clone, Copy, PartialEq, Eq)]

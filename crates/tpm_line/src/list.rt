@@ -5,7 +5,7 @@ use crate::fault::SpellFault;
 use crate::word::{hash_word, put_buffer, put_digits};
 use std::fmt::Write;
 use tpm_bytes::Cursor;
-use tpm_types::{PCR_COUNT, read_hash};
+use tpm_types_common::{PCR_COUNT, read_hash};
 
 /// The kinds of elements in a list.
 #[derive(Clone, Copy, PartialEq, Eq)]

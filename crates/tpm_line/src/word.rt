@@ -4,7 +4,7 @@ use crate::fault::SpellFault;
 use std::fmt::{self, Write};
 use tpm_bytes::Cursor;
 use tpm_mac::HashAlg;
-use tpm_types::{SymmetricDefinition, read_hash_or_null};
+use tpm_types_common::{SymmetricDefinition, read_hash_or_null};
 
 /// Adds bytes as hex digits to the line.
 pub fn put_digits<W: Write>(bytes: &[u8], line: &mut W) -> fmt::Result {

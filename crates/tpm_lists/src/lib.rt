@@ -15,7 +15,7 @@ use tpm_record::kept::Kept;
 use tpm_record::persistent::StoredObjects;
 use tpm_record::{Keep, PersistentObjects};
 use tpm_session::Session;
-use tpm_types::{NV_INDEX_LIMIT, OBJECT_LIMIT, PERSISTENT_LIMIT, SESSION_LIMIT};
+use tpm_types_common::{NV_INDEX_LIMIT, OBJECT_LIMIT, PERSISTENT_LIMIT, SESSION_LIMIT};
 
 /// A computation on the device's state that works for every type that implements `Keep`.
 pub trait Task<Fault> {

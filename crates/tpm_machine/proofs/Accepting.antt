@@ -8,9 +8,9 @@ use Rattle.tpm_commands.specs.CommandCode.{code_number, shape_of}
 use Rattle.tpm_record.specs.Record.{Record}
 use Rattle.tpm_auth.specs.Grant.{authorize}
 use Rattle.tpm_auth.specs.declared.session_grant.Grant.{Grant}
-use Rattle.tpm_types.specs.Check.{check_number}
-use Rattle.tpm_types.specs.Limits.{answer_limit}
-use Rattle.tpm_types.specs.declared.refused.Refused.{Refused}
+use Rattle.tpm_types_common.specs.Check.{check_number}
+use Rattle.tpm_types_common.specs.Limits.{answer_limit}
+use Rattle.tpm_types_common.specs.declared.refused.Refused.{Refused}
 use Rattle.tpm_record.specs.rows.Request.{Request}
 use Rattle.tpm_record.specs.rows.Rows.{ActsIfRoom, Success}
 use Rattle.tpm_record.specs.declared.rows.answer.Answer.{Answer}

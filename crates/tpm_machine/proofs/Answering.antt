@@ -1,7 +1,7 @@
 -- Lemmas about the header of an empty response, and about the response to a command with entries.
 use Rattle.std.proofs.Common.{arith, length-drop, ◌+◌, ◌-◌, ◌≡◌, ◌≤◌, ℕ, List, [], ◌∷◌, ◌++◌, drop, length, Option, ap, append-nil, refl, sym, ◌∙◌}
 use Rattle.std.specs.Int.{w16, w32, to_be_bytes}
-use Rattle.tpm_types.specs.declared.handle.Handle.{Handle}
+use Rattle.tpm_types_common.specs.declared.handle.Handle.{Handle}
 use Rattle.tpm_session.specs.ParameterHash.{OfResponse}
 use Rattle.tpm_types_command.specs.AuthEntry.{Entry}
 use Rattle.tpm_commands.specs.CommandCode.{code_number}

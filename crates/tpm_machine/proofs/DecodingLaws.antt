@@ -1,5 +1,5 @@
 -- If a buffer passes the general checks, the whole buffer encodes the decoded command.
-use Rattle.tpm_types.specs.Limits.{buffer_limit}
+use Rattle.tpm_types_common.specs.Limits.{buffer_limit}
 use Rattle.tpm_bytes.specs.Reading.{Gives}
 use Rattle.std.proofs.Common.{arith, refl, sym, Bool, true, false, ◌≤◌, ◌*◌, ◌≡◌, ℕ, List, [], ◌∷◌, ◌+◌, length, Result, Ok, Err, IfOk, Option, None}
 use Rattle.std.proofs.lemmas.Bool.{false≢true}

@@ -2,9 +2,9 @@
 use Rattle.std.proofs.Common.{arith, ◌≡◌, ℕ, Bool, true, false, List, Result, Ok, Err, IfOk, refl, ap, sym, ◌∙◌}
 use Rattle.tpm_record.specs.Record.{Record}
 use Rattle.tpm_record.specs.Tick.{after_tick}
-use Rattle.tpm_types.specs.Check.{check_number}
-use Rattle.tpm_types.specs.declared.check.Check.{Check}
-use Rattle.tpm_types.specs.declared.check.Check.TheVariants as check
+use Rattle.tpm_types_common.specs.Check.{check_number}
+use Rattle.tpm_types_common.specs.declared.check.Check.{Check}
+use Rattle.tpm_types_common.specs.declared.check.Check.TheVariants as check
 use Rattle.tpm_step.specs.step.Events.{PlainEvent, Given, Cycled, Placed}
 use Rattle.tpm_step.specs.step.Safe.{AcceptsModestly, IsModest, IsModestIfAccepted}
 use Rattle.tpm_step.specs.step.Step.{Accepted, Stepped, Steps, acceptance_in, answer_where}

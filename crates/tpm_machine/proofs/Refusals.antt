@@ -6,8 +6,8 @@ use Rattle.tpm_types_command.specs.Command.{Whole}
 use Rattle.tpm_commands.specs.CommandCode.{code_number, shape_of}
 use Rattle.tpm_record.specs.Record.{Record}
 use Rattle.tpm_record.specs.Tick.{after_tick}
-use Rattle.tpm_types.specs.declared.refused.Refused.{Refused}
-use Rattle.tpm_types.specs.Check.{check_number}
+use Rattle.tpm_types_common.specs.declared.refused.Refused.{Refused}
+use Rattle.tpm_types_common.specs.Check.{check_number}
 use Rattle.tpm_record.specs.rows.Refusals.{memory_refusal}
 use Rattle.tpm_step.specs.step.Answer.{refusal_text}
 use Rattle.tpm_step.specs.step.Events.{PlainEvent, Given, Cycled, Placed}

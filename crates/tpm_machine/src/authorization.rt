@@ -1,10 +1,10 @@
 //! Decodes a command and checks whether its entries authorize it.
 
-ghost use Rattle.tpm_types.specs.Limits.{buffer_limit};
+ghost use Rattle.tpm_types_common.specs.Limits.{buffer_limit};
 ghost use Rattle.std.specs.Prelude.{◌≡◌, ◌≤◌, ℕ, List, [], Ok, Err, IfErr, IfOk, length};
 ghost use Rattle.tpm_auth.specs.Grant.{authorize};
 ghost use Rattle.tpm_machine.specs.Authorization.{command_in, grants_in};
-ghost use Rattle.tpm_types.specs.Locality.{locality_number};
+ghost use Rattle.tpm_types_common.specs.Locality.{locality_number};
 ghost use Rattle.tpm_step.specs.step.General.{general};
 ghost use Rattle.tpm_step.specs.step.Step.{acceptance_in};
 
@@ -13,8 +13,8 @@ use arrayvec::ArrayVec;
 use tpm_auth::{Cache, Grants, Sent, authorize_sent};
 use tpm_record::Keep;
 use tpm_step::RefusedCommand;
-use tpm_types::Locality;
 use tpm_types_command::{AuthEntry, Command};
+use tpm_types_common::Locality;
 
 /// A command that passed the general checks, and what its entries authorize. It is made once, and
 /// passed to the command's row and to the response.

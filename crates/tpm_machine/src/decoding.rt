@@ -1,14 +1,14 @@
 //! Decodes a command's buffer, with the general checks that precede authorization. The first failed
 //! check determines the refusal.
 
-ghost use Rattle.tpm_types.specs.Limits.{buffer_limit};
+ghost use Rattle.tpm_types_common.specs.Limits.{buffer_limit};
 ghost use Rattle.tpm_bytes.specs.Reading.{AreBytes, Gives};
 ghost use Rattle.std.specs.Prelude.{◌≡◌, ◌≤◌, [], Ok, IfOk, length};
 ghost use Rattle.tpm_bytes.specs.Reading.{Reads};
 ghost use Rattle.tpm_commands.specs.CommandCode.{code_number, handle_count};
 ghost use Rattle.tpm_record.specs.Resolved.{AreFound, found_at, found_by};
 ghost use Rattle.tpm_types_command.specs.Command.{command_at, whole_of};
-ghost use Rattle.tpm_types.specs.Refused.{refusal};
+ghost use Rattle.tpm_types_common.specs.Refused.{refusal};
 ghost use Rattle.tpm_step.specs.step.General.{body_of, general, header_check, header_refusal, in_command, present_handle_at, present_handles_at, sessions_pass};
 
 use arrayvec::ArrayVec;
@@ -16,8 +16,8 @@ use tpm_bytes::{Cursor, ReadableBy};
 use tpm_commands::{CommandCode, HandleRule};
 use tpm_record::{Keep, Resolved, absence_rc, resolve};
 use tpm_step::RefusedCommand;
-use tpm_types::{Check, Handle, Rc, Refused, ResponseCode};
 use tpm_types_command::{AuthEntry, Command, Header, HeaderFault, Tag, read_sessions};
+use tpm_types_common::{Check, Handle, Rc, Refused, ResponseCode};
 
 fn header_check(fault: HeaderFault) -> Check
     ensures { result ≡ header_check fault }

@@ -14,8 +14,8 @@ use tpm_mac::Digest;
 use tpm_policy::{Demand, PolicyState};
 use tpm_record::Keep;
 use tpm_session::{ParameterHashes, Session};
-use tpm_types::SessionType;
 use tpm_types_command::AuthEntry;
+use tpm_types_common::SessionType;
 
 /// The answer to a password entry: an empty nonce, continueSession, and an empty HMAC
 /// (TPMS_AUTH_RESPONSE, TPM 2.0 Library, Part 2, section 10.13.3).

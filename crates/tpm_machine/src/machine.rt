@@ -1,7 +1,7 @@
 //! The device itself: how it is manufactured, and how it executes one event or a run of events. The
 //! definitions of tpm_step specify the effect of each event.
 
-ghost use Rattle.tpm_types.specs.Limits.{buffer_limit, response_limit};
+ghost use Rattle.tpm_types_common.specs.Limits.{buffer_limit, response_limit};
 ghost use Rattle.std.specs.Prelude.{◌≡◌, ◌≤◌, [], IfOk, OnErr, false, length, map, true};
 ghost use Rattle.std.specs.Borrow.{Lends, sem};
 ghost use Rattle.tpm_record.specs.IsRecord.{IsRecord};
@@ -29,7 +29,7 @@ use tpm_record::rows::answer::Answer;
 use tpm_record::tick::tick;
 use tpm_record::{Fixed, Keep, power_cycle, read_widths};
 use tpm_step::{Event, Outcome, RefusedCommand, Response, Row};
-use tpm_types::{Counted, Locality};
+use tpm_types_common::{Counted, Locality};
 
 /// The device, generic in the type that stores its state.
 #[derive(Drop)]
@@ -211,7 +211,7 @@ impl<K: Keep> Machine<K> {
         }
     }
 
-    ghost use Rattle.tpm_types.specs.Locality.{locality_number};
+    ghost use Rattle.tpm_types_common.specs.Locality.{locality_number};
     ghost use Rattle.tpm_step.specs.step.Events.{Given};
 
     /// Adds a command's elapsed time to the clock. Then executes the command in the buffer, writes
@@ -309,7 +309,7 @@ impl<K: Keep> Machine<K> {
     }
 }
 
-ghost use Rattle.tpm_types.specs.Check.{check_number};
+ghost use Rattle.tpm_types_common.specs.Check.{check_number};
 ghost use Rattle.tpm_step.specs.step.Step.{counted_in, settled_record};
 ghost use Rattle.tpm_step.specs.step.Answer.{refusal_text};
 

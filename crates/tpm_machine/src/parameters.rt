@@ -5,7 +5,7 @@ ghost use Rattle.std.specs.Prelude.{◌≡◌, ◌≤◌, length, map};
 ghost use Rattle.std.specs.List.{zip};
 ghost use Rattle.tpm_session.specs.Encryption.{encrypted_parameter, plain_parameter};
 ghost use Rattle.tpm_session.specs.FirstBuffer.{with_first_buffer};
-ghost use Rattle.tpm_types.specs.Limits.{buffer_limit};
+ghost use Rattle.tpm_types_common.specs.Limits.{buffer_limit};
 ghost use Rattle.tpm_types_command.specs.AuthEntry.{entry_of};
 ghost use Rattle.tpm_step.specs.step.Parameters.{asks_for, entry_parameters, session_bytes, session_parameters};
 

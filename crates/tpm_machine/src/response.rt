@@ -1,6 +1,6 @@
 //! Writes the responses to refused commands, and to successful commands with or without entries.
 
-ghost use Rattle.tpm_types.specs.Limits.{answer_limit, buffer_limit, response_limit};
+ghost use Rattle.tpm_types_common.specs.Limits.{answer_limit, buffer_limit, response_limit};
 ghost use Rattle.std.specs.Prelude.{◌≡◌, ◌+◌, ◌≤◌, ◌++◌, [], length, map};
 ghost use Rattle.std.specs.Int.{w16, w32, to_be_bytes};
 ghost use Rattle.std.specs.List.{zip};
@@ -21,8 +21,8 @@ use tpm_record::Keep;
 use tpm_record::rows::answer::{Answer, Parameters};
 use tpm_session::{HashedParameters, ParameterHashes};
 use tpm_step::{Direction, Response};
-use tpm_types::{ANSWER_LIMIT, Check, Handle, Refused};
 use tpm_types_command::{AuthEntry, HEADER_SIZE, Tag};
+use tpm_types_common::{ANSWER_LIMIT, Check, Handle, Refused};
 
 /// The tag of the response to a command with an unknown tag (TPM_ST_RSP_COMMAND, TPM 2.0 Library,
 /// Part 2, section 6.9).

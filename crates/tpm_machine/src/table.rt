@@ -1,13 +1,13 @@
 //! Maps each command code to the function that implements the command's row. The function runs
 //! after the parameters are decrypted. A refusal leaves the record unchanged.
 
-ghost use Rattle.tpm_types.specs.Limits.{buffer_limit};
+ghost use Rattle.tpm_types_common.specs.Limits.{buffer_limit};
 ghost use Rattle.std.specs.Prelude.{◌≡◌, ◌≤◌, ◌&&◌, Ok, length, map};
 ghost use Rattle.std.specs.List.{zip};
 ghost use Rattle.tpm_types_command.specs.AuthEntry.{entry_of};
 ghost use Rattle.tpm_machine.specs.Authorization.{command_in, grants_in};
 ghost use Rattle.tpm_commands.specs.CommandCode.{shape_of};
-ghost use Rattle.tpm_types.specs.Locality.{locality_number};
+ghost use Rattle.tpm_types_common.specs.Locality.{locality_number};
 ghost use Rattle.tpm_auth.specs.Grant.{authorize};
 ghost use Rattle.tpm_record.specs.rows.Answer.{IsEmpty};
 ghost use Rattle.tpm_record.specs.rows.Request.{request_of};
@@ -73,8 +73,8 @@ use tpm_record::Keep;
 use tpm_record::rows::answer::Answer;
 use tpm_record::rows::call::Call;
 use tpm_step::Direction;
-use tpm_types::{BUFFER_LIMIT, Locality, Refused};
 use tpm_types_command::AuthEntry;
+use tpm_types_common::{BUFFER_LIMIT, Locality, Refused};
 
 /// Executes the row of a command. Only a command that may allocate can return MEMORY.
 #[inline(always)]

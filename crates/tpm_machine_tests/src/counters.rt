@@ -9,7 +9,7 @@ use std::test::Fail;
 use tpm_machine::Machine;
 use tpm_record::{Fixed, Keep};
 use tpm_step::Event;
-use tpm_types::Locality;
+use tpm_types_common::Locality;
 
 /// The buffer of TPM2_Startup(CLEAR).
 const STARTUP: &[u8] = b"\x80\x01\0\0\0\x0c\0\0\x01\x44\0\0";

@@ -6,7 +6,7 @@ use std::test::Fail;
 use tpm_machine::Machine;
 use tpm_record::Keep;
 use tpm_step::Outcome;
-use tpm_types::Locality;
+use tpm_types_common::Locality;
 use tpm_wire::{ConnectionNumber, Host, Mux, NoConnection, Turn};
 
 pub const STARTUP: &[u8] = &[0x80, 1, 0, 0, 0, 12, 0, 0, 1, 0x44, 0, 0];

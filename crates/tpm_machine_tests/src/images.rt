@@ -10,7 +10,7 @@ use tpm_image::{ImageFault, open, save};
 use tpm_machine::Machine;
 use tpm_record::Keep;
 use tpm_step::Event;
-use tpm_types::Locality;
+use tpm_types_common::Locality;
 
 /// Bytes, written as a list of pieces. Each piece is a string of hex digits, with the number of
 /// zero bytes after it.

@@ -10,7 +10,7 @@ use tpm_nv::{
     check_definition, public,
 };
 use tpm_slots::IndexPlaces;
-use tpm_types::{AuthValue, Handle};
+use tpm_types_common::{AuthValue, Handle};
 use tpm_types_nv::NvPublic;
 
 const FIRST: Handle = Handle {

@@ -8,7 +8,7 @@ use std::test::Fail;
 use tpm_machine::Machine;
 use tpm_record::Keep;
 use tpm_step::{Event, Outcome, Row};
-use tpm_types::Locality;
+use tpm_types_common::Locality;
 
 const STARTUP: u32 = 0x144;
 

@@ -16,7 +16,7 @@ use tpm_session::{
     SymmetricFault, command_hash, is_nonce_size, response_hash,
 };
 use tpm_slots::SessionPlaces;
-use tpm_types::{
+use tpm_types_common::{
     AuthValue, Handle, SESSION_LIMIT, SessionAttributes, SessionType, SymmetricDefinition,
 };
 use tpm_types_name::Name;

@@ -4,8 +4,8 @@
 //! localities. A [`TokenFault`] says what is wrong with a token. The caller knows the whole line,
 //! and adds the token's position.
 //!
-//! The crate uses `tpm_types` for localities. The result of each function equals its definition in
-//! `specs/Number`.
+//! The crate uses `tpm_types_common` for localities. The result of each function equals its
+//! definition in `specs/Number`.
 
 pub mod fault;
 pub mod number;

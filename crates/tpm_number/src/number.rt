@@ -2,14 +2,14 @@
 
 ghost use Rattle.std.specs.Prelude.{◌≡◌, ◌<◌, ◌≤◌, ◌^◌, ◌-◌, IfOk, option_and_then, option_map};
 ghost use Rattle.std.specs.List.{list_all};
-ghost use Rattle.tpm_types.specs.Locality.{locality_number};
+ghost use Rattle.tpm_types_common.specs.Locality.{locality_number};
 ghost use Rattle.tpm_bytes.specs.Reading.{Gives};
 ghost use Rattle.tpm_number.specs.Number.{at_most, decimal_of, is_digit, is_word, locality_of};
 ghost use Rattle.tpm_number.specs.Number.{number_in, number_of, numeral, radix_number};
 
 use crate::fault::TokenFault;
 use std::str;
-use tpm_types::Locality;
+use tpm_types_common::Locality;
 
 /// Whether a string is this word.
 pub fn is_word(word: &str, text: &[u8]) -> bool

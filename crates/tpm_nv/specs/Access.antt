@@ -6,7 +6,7 @@ use Rattle.std.specs.Prelude.{Bool, List, ◌++◌, length, replicate, Result, O
 use Rattle.std.specs.Int.{w64, from_be_bytes, to_be_bytes}
 use Rattle.tpm_bytes.specs.Reading.{◌>>=◌, refused_if}
 use Rattle.tpm_mac.specs.Digest.{hash_of}
-use Rattle.tpm_types.specs.declared.handle.Handle.{Handle}
+use Rattle.tpm_types_common.specs.declared.handle.Handle.{Handle}
 use Rattle.tpm_types_nv.specs.NvAttributes.{has, is_of, with_attribute}
 use Rattle.tpm_types_nv.specs.declared.nv_attributes.NvAttribute.{NvAttribute}
 use Rattle.tpm_types_nv.specs.declared.nv_attributes.NvAttribute.TheVariants as attribute

@@ -2,8 +2,8 @@
 -- 31.3 (TPM2_NV_DefineSpace), and Part 2, section 13.4 (TPMA_NV). The order of the checks and two
 -- limits are choices of this implementation: the data is limited to `nv_data_limit`, and
 -- unsupported attributes are refused.
-use Rattle.tpm_types.specs.Algorithm.{is_policy_size}
-use Rattle.tpm_types.specs.Limits.{nv_data_limit}
+use Rattle.tpm_types_common.specs.Algorithm.{is_policy_size}
+use Rattle.tpm_types_common.specs.Limits.{nv_data_limit}
 use Rattle.std.specs.Prelude.{◌≡◌, ℕ, ◌==◌, ◌&&◌, nat_lt, nat_le, not, Bool, true, false}
 use Rattle.std.specs.Prelude.{List, [], ◌∷◌, length, Option, Some, None, Result, Ok, Err, is_some}
 use Rattle.std.specs.Bool.{beq}

@@ -1,11 +1,11 @@
 -- How NV indices are stored in memory, which the standard leaves open. A head is an index without
 -- its data. The heads are keyed by handle, and the data of all indices is in one area, in order of
 -- handle. Each index occupies as many bytes as its head says, even before the first write.
-use Rattle.tpm_types.specs.Limits.{nv_index_limit, nv_space_limit}
+use Rattle.tpm_types_common.specs.Limits.{nv_index_limit, nv_space_limit}
 use Rattle.std.specs.Prelude.{◌≡◌, ℕ, ◌+◌, ◌≤◌, nat_le, Bool, true, List, [], ◌∷◌, ◌++◌, length, take, drop, Some, if◌then◌else◌, map}
 use Rattle.tpm_containers.specs.SortedMap.{Ascends, Entries}
-use Rattle.tpm_types.specs.AuthValue.{IsAuthValue}
-use Rattle.tpm_types.specs.declared.handle.Handle.{Handle}
+use Rattle.tpm_types_common.specs.AuthValue.{IsAuthValue}
+use Rattle.tpm_types_common.specs.declared.handle.Handle.{Handle}
 use Rattle.tpm_types_nv.specs.NvAttributes.{has}
 use Rattle.tpm_types_nv.specs.NvPublic.{IsNvPublic}
 use Rattle.tpm_types_nv.specs.declared.nv_attributes.NvAttribute.TheVariants as attribute

@@ -1,11 +1,11 @@
 -- The NV indices of a device: a map keyed by handle, in ascending order of handle, and the largest
 -- value that any counter has ever had. TPM 2.0 Library, Part 1, section 37 (non-volatile memory),
 -- and Part 3, section 31 (non-volatile storage).
-use Rattle.tpm_types.specs.Limits.{nv_index_limit, nv_space_limit}
+use Rattle.tpm_types_common.specs.Limits.{nv_index_limit, nv_space_limit}
 use Rattle.std.specs.Prelude.{ℕ, ◌+◌, ◌&&◌, nat_lt, nat_le, Bool, List, [], length, Option}
 use Rattle.std.specs.List.{sum_by}
 use Rattle.tpm_containers.specs.SortedMap.{Entries, at_key, changed_key, key_from, with_key, without_key}
-use Rattle.tpm_types.specs.declared.handle.Handle.{Handle}
+use Rattle.tpm_types_common.specs.declared.handle.Handle.{Handle}
 use Rattle.tpm_types_nv.specs.declared.nv_public.NvPublic.{NvPublic}
 
 -- an index: its public area, its authorization value, and its data, which is empty before the

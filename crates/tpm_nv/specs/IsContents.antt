@@ -1,8 +1,8 @@
 -- The conditions that the NV indices of a device always satisfy.
-use Rattle.tpm_types.specs.Limits.{nv_index_limit, nv_space_limit}
+use Rattle.tpm_types_common.specs.Limits.{nv_index_limit, nv_space_limit}
 use Rattle.std.specs.Prelude.{◌≡◌, ℕ, ◌<◌, ◌≤◌, ◌^◌, true, [], ◌∷◌, length, if◌then◌else◌}
 use Rattle.tpm_containers.specs.SortedMap.{Ascends, Entries}
-use Rattle.tpm_types.specs.AuthValue.{IsAuthValue}
+use Rattle.tpm_types_common.specs.AuthValue.{IsAuthValue}
 use Rattle.tpm_types_nv.specs.NvAttributes.{has}
 use Rattle.tpm_types_nv.specs.NvPublic.{IsNvPublic}
 use Rattle.tpm_types_nv.specs.declared.nv_attributes.NvAttribute.TheVariants as attribute

@@ -1,6 +1,6 @@
 -- The location of an index in the stored state. Each call looks it up only once.
 use Rattle.std.specs.Prelude.{◌≡◌, ℕ, List, IsSomeAnd}
-use Rattle.tpm_types.specs.declared.handle.Handle.{Handle}
+use Rattle.tpm_types_common.specs.declared.handle.Handle.{Handle}
 use Rattle.tpm_types_nv.specs.NvAttributes.{has}
 use Rattle.tpm_types_nv.specs.declared.nv_attributes.NvAttribute.TheVariants as attribute
 use Rattle.tpm_nv.specs.Head.{IsIndexOf, size_of, start_in}

@@ -1,7 +1,7 @@
 //! The trait of the single area that contains the data of all NV indices, and functions that move
 //! bytes within an area.
 
-ghost use Rattle.tpm_types.specs.Limits.{nv_space_limit};
+ghost use Rattle.tpm_types_common.specs.Limits.{nv_space_limit};
 ghost use Rattle.std.specs.Prelude.{◌≡◌, ◌≤◌, ◌+◌, ℕ, [], Bool, List, length, replicate, take};
 ghost use Rattle.std.specs.Prelude.{OnErr, OnOk, true};
 ghost use Rattle.tpm_nv.specs.Bytes.{closed_up, moved_down, moved_from_end, moved_to_end};

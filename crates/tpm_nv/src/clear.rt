@@ -1,6 +1,6 @@
 //! The effect of TPM2_Clear on stored NV indices: which heads and bytes remain.
 
-ghost use Rattle.tpm_types.specs.Limits.{nv_space_limit};
+ghost use Rattle.tpm_types_common.specs.Limits.{nv_space_limit};
 ghost use Rattle.std.specs.Prelude.{◌≡◌, ◌≤◌, ◌+◌, ◌++◌, drop, length, take, if◌then◌else◌};
 ghost use Rattle.tpm_nv.specs.Bytes.{piece_of};
 ghost use Rattle.tpm_nv.specs.Head.{kept_bytes, kept_piece, size_of, stays, total};

@@ -7,7 +7,7 @@ ghost use Rattle.tpm_nv.specs.Definition.{index_attribute_conflicts, definition_
 ghost use Rattle.tpm_types_nv.specs.NvAttributes.{has};
 ghost use Rattle.tpm_types_nv.specs.declared.nv_attributes.NvAttribute.TheVariants as attribute;
 
-use tpm_types::{NV_DATA_LIMIT, is_policy_size};
+use tpm_types_common::{NV_DATA_LIMIT, is_policy_size};
 use tpm_types_nv::{NvAttribute, NvAttributes, NvPublic, NvType};
 
 /// The reason why the definition of an index is refused.

@@ -3,7 +3,7 @@
 ghost use Rattle.std.specs.Prelude.{◌≡◌};
 
 use tpm_mac::HashAlg;
-use tpm_types::{AuthValue, Handle, Octets};
+use tpm_types_common::{AuthValue, Handle, Octets};
 use tpm_types_nv::{NvAttributes, NvPublic};
 
 /// An index without its data.

@@ -1,18 +1,18 @@
 //! Functions that search or change the heads of NV indices: the indices without their data.
 
-ghost use Rattle.tpm_types.specs.Limits.{nv_index_limit, nv_space_limit};
+ghost use Rattle.tpm_types_common.specs.Limits.{nv_index_limit, nv_space_limit};
 ghost use Rattle.std.specs.Prelude.{◌≡◌, ◌<◌, ◌≤◌, ℕ, IfNone, IfSome, None, OnErr, OnOk, Some, length};
 ghost use Rattle.std.specs.Prelude.{true};
 ghost use Rattle.tpm_containers.specs.SortedMap.{Ascends, at_key, changed_key, with_key};
 ghost use Rattle.tpm_nv.specs.Head.{start_of, total, with_attributes};
 ghost use Rattle.tpm_nv.specs.declared.head.Head.{Head};
-ghost use Rattle.tpm_types.specs.AuthValue.{IsAuthValue};
+ghost use Rattle.tpm_types_common.specs.AuthValue.{IsAuthValue};
 
 use crate::head::Head;
 use crate::place::Found;
 use tpm_bytes::NoMemory;
 use tpm_containers::{KeyFault, SortedMap};
-use tpm_types::{AuthValue, NV_INDEX_LIMIT};
+use tpm_types_common::{AuthValue, NV_INDEX_LIMIT};
 use tpm_types_nv::NvAttributes;
 
 /// The offset in the shared data area at which the bytes of the index with this key begin, or would

@@ -18,7 +18,7 @@ ghost use Rattle.tpm_types_nv.specs.declared.nv_attributes.NvAttribute.TheVarian
 use crate::fault::{DefineFault, LockFault, ReadFault, RestoreFault, Undefined, WriteFault};
 use crate::head::Head;
 use std::alloc::Global;
-use tpm_types::{AuthValue, Handle};
+use tpm_types_common::{AuthValue, Handle};
 use tpm_types_nv::NvPublic;
 
 /// The NV indices of a device, keyed by handle, within the limits on the number of indices and on

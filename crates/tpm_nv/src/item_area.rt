@@ -1,7 +1,7 @@
 //! Two kinds of area that can contain all NV data: a growable list, which may fail to allocate
 //! memory, and an area of fixed size, which never allocates memory.
 
-ghost use Rattle.tpm_types.specs.Limits.{nv_space_limit};
+ghost use Rattle.tpm_types_common.specs.Limits.{nv_space_limit};
 ghost use Rattle.std.specs.Prelude.{◌≡◌, ◌≤◌, ◌+◌, ◌++◌, length, replicate, true, OnErr, OnOk};
 ghost use Rattle.tpm_nv.specs.Bytes.{moved_from_end};
 
@@ -10,7 +10,7 @@ use arrayvec::ArrayVec;
 use std::alloc::Global;
 use tpm_bytes::NoMemory;
 use tpm_containers::Items;
-use tpm_types::NV_SPACE_LIMIT;
+use tpm_types_common::NV_SPACE_LIMIT;
 
 /// A container of bytes with room for all NV data.
 pub trait ByteItems: Items<NV_SPACE_LIMIT, Item = u8> {

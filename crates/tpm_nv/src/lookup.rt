@@ -4,7 +4,7 @@ ghost use Rattle.std.specs.Prelude.{◌≡◌, option_copied, option_map};
 ghost use Rattle.tpm_nv.specs.Index.{index_at};
 
 use crate::indices::Indices;
-use tpm_types::{AuthValue, Handle};
+use tpm_types_common::{AuthValue, Handle};
 use tpm_types_nv::NvPublic;
 
 /// The public area of an index.

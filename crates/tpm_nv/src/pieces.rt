@@ -1,6 +1,6 @@
 //! Changes the bytes of one index in the shared data area.
 
-ghost use Rattle.tpm_types.specs.Limits.{nv_space_limit};
+ghost use Rattle.tpm_types_common.specs.Limits.{nv_space_limit};
 ghost use Rattle.std.specs.Prelude.{◌≡◌, ◌≤◌, ◌+◌, ◌-◌, ◌++◌, drop, length, replicate, take};
 ghost use Rattle.std.specs.Prelude.{OnErr, OnOk, true};
 ghost use Rattle.tpm_nv.specs.Bytes.{filled_bytes, piece_of, put_over};

@@ -10,7 +10,7 @@ ghost use Rattle.tpm_nv.specs.declared.head.Head.{Head};
 use crate::head::Head;
 use crate::heads::set_attributes;
 use tpm_containers::SortedMap;
-use tpm_types::NV_INDEX_LIMIT;
+use tpm_types_common::NV_INDEX_LIMIT;
 use tpm_types_nv::{NvAttribute, NvAttributes};
 
 /// The attributes, with WRITTEN cleared if the index has CLEAR_STCLEAR.

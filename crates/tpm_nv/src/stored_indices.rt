@@ -32,7 +32,7 @@ use std::marker::Model;
 use tpm_bytes::NoMemory;
 use tpm_containers::{ListMap, SlotMap, SortedMap};
 use tpm_mac::Digest;
-use tpm_types::{AuthValue, Handle, NV_INDEX_LIMIT};
+use tpm_types_common::{AuthValue, Handle, NV_INDEX_LIMIT};
 use tpm_types_nv::{NvAttribute, NvAttributes, NvPublic, NvType};
 
 /// NV indices: the heads in a map keyed by handle, and the bytes of all indices in one area, in

@@ -1,6 +1,6 @@
 //! Values derived from an index's attributes, size and data.
 
-ghost use Rattle.tpm_types.specs.Limits.{nv_index_limit, nv_space_limit};
+ghost use Rattle.tpm_types_common.specs.Limits.{nv_index_limit, nv_space_limit};
 ghost use Rattle.std.specs.Prelude.{◌≡◌, ◌==◌, ◌<◌, ◌≤◌, ◌+◌, ◌||◌, ◌&&◌, not, nat_lt, nat_le};
 ghost use Rattle.std.specs.Prelude.{◌++◌, length};
 ghost use Rattle.std.specs.Int.{from_be_bytes, w64};
@@ -10,7 +10,7 @@ ghost use Rattle.tpm_types_nv.specs.declared.nv_attributes.NvAttribute.TheVarian
 
 use tpm_bytes::Cursor;
 use tpm_mac::{Digest, HashAlg, digest_parts};
-use tpm_types::{NV_INDEX_LIMIT, NV_SPACE_LIMIT};
+use tpm_types_common::{NV_INDEX_LIMIT, NV_SPACE_LIMIT};
 use tpm_types_nv::{NvAttribute, NvAttributes};
 
 /// Whether an index with these attributes may be locked against writing.

@@ -4,7 +4,7 @@ use Rattle.std.proofs.lemmas.List.{length-take}
 use Rattle.std.specs.Prelude.{nat_lt}
 use Rattle.tpm_bytes.specs.Reading.{refused_if}
 use Rattle.tpm_bytes.proofs.Fields.{bind_ok, ok_is}
-use Rattle.tpm_types.specs.declared.handle.Handle.{Handle}
+use Rattle.tpm_types_common.specs.declared.handle.Handle.{Handle}
 use Rattle.tpm_nv.specs.Access.{index_or_fault, read_at, readable}
 use Rattle.tpm_nv.specs.Index.{NvContents}
 use Rattle.tpm_nv.specs.declared.fault.ReadFault.TheVariants.{PastData, Undefined}

@@ -2,14 +2,14 @@
 -- or write an index, or if an index cannot be written or locked. TPM 2.0 Library, Part 3, section
 -- 31 (non-volatile storage). The response codes and the order of the checks are choices of this
 -- implementation.
-use Rattle.tpm_types.specs.declared.action_check.ActionCheck.TheVariants as action
+use Rattle.tpm_types_common.specs.declared.action_check.ActionCheck.TheVariants as action
 use Rattle.std.specs.Prelude.{not, Result, Ok}
 use Rattle.tpm_bytes.specs.Reading.{◌>>=◌, refused_if}
-use Rattle.tpm_types.specs.Rc.{at, plain}
-use Rattle.tpm_types.specs.declared.handle.Handle.{Handle}
-use Rattle.tpm_types.specs.declared.rc.Place.TheVariants as place
-use Rattle.tpm_types.specs.declared.rc.ResponseCode.TheVariants as code
-use Rattle.tpm_types.specs.declared.refused.Refused.{Refused}
+use Rattle.tpm_types_common.specs.Rc.{at, plain}
+use Rattle.tpm_types_common.specs.declared.handle.Handle.{Handle}
+use Rattle.tpm_types_common.specs.declared.rc.Place.TheVariants as place
+use Rattle.tpm_types_common.specs.declared.rc.ResponseCode.TheVariants as code
+use Rattle.tpm_types_common.specs.declared.refused.Refused.{Refused}
 use Rattle.tpm_nv.specs.Index.{NvContents}
 use Rattle.tpm_nv.specs.declared.fault.LockFault.{LockFault}
 use Rattle.tpm_nv.specs.declared.fault.LockFault.TheVariants as lock_fault

@@ -1,15 +1,15 @@
 -- TPM2_NV_DefineSpace. TPM 2.0 Library, Part 3, section 31.3.
-use Rattle.tpm_types.specs.declared.action_check.ActionCheck.TheVariants as action
+use Rattle.tpm_types_common.specs.declared.action_check.ActionCheck.TheVariants as action
 use Rattle.std.specs.Prelude.{◌≡◌, ℕ, ◌==◌, not, List, length, is_some, Result, Ok, Err}
 use Rattle.tpm_bytes.specs.Reading.{◌>>=◌, refused_if}
-use Rattle.tpm_types.specs.AuthValue.{auth_value_at}
-use Rattle.tpm_types.specs.Handle.{platform_handle}
-use Rattle.tpm_types.specs.Rc.{plain}
-use Rattle.tpm_types.specs.declared.rc.ResponseCode.TheVariants as code
-use Rattle.tpm_types.specs.declared.refused.Refused.{Refused}
+use Rattle.tpm_types_common.specs.AuthValue.{auth_value_at}
+use Rattle.tpm_types_common.specs.Handle.{platform_handle}
+use Rattle.tpm_types_common.specs.Rc.{plain}
+use Rattle.tpm_types_common.specs.declared.rc.ResponseCode.TheVariants as code
+use Rattle.tpm_types_common.specs.declared.refused.Refused.{Refused}
 use Rattle.tpm_types_nv.specs.NvPublic.{nv_public_at}
 use Rattle.tpm_types_nv.specs.declared.nv_public.NvPublic.{NvPublic}
-use Rattle.tpm_types.specs.Filled.{filled_by}
+use Rattle.tpm_types_common.specs.Filled.{filled_by}
 use Rattle.tpm_nv.specs.Definition.{defined_index, definition_passes}
 use Rattle.tpm_nv.specs.Index.{has_room, index_at, with_index}
 use Rattle.tpm_nv.specs.declared.definition.DefinitionFault.{DefinitionFault}

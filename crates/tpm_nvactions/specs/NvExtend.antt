@@ -1,8 +1,8 @@
 -- TPM2_NV_Extend. TPM 2.0 Library, Part 3, section 31.9.
-use Rattle.tpm_types.specs.Limits.{data_limit}
+use Rattle.tpm_types_common.specs.Limits.{data_limit}
 use Rattle.std.specs.Prelude.{Result}
-use Rattle.tpm_types.specs.Buffer.{buffer_at}
-use Rattle.tpm_types.specs.declared.refused.Refused.{Refused}
+use Rattle.tpm_types_common.specs.Buffer.{buffer_at}
+use Rattle.tpm_types_common.specs.declared.refused.Refused.{Refused}
 use Rattle.tpm_nv.specs.Access.{contents_after_extend}
 use Rattle.tpm_record.specs.Record.{Record}
 use Rattle.tpm_record.specs.rows.Request.{Request}

@@ -1,6 +1,6 @@
 -- TPM2_NV_Increment. TPM 2.0 Library, Part 3, section 31.8.
 use Rattle.std.specs.Prelude.{Result}
-use Rattle.tpm_types.specs.declared.refused.Refused.{Refused}
+use Rattle.tpm_types_common.specs.declared.refused.Refused.{Refused}
 use Rattle.tpm_nv.specs.Access.{contents_after_increment}
 use Rattle.tpm_record.specs.Record.{Record}
 use Rattle.tpm_record.specs.rows.Request.{Request}

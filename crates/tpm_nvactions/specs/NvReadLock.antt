@@ -1,7 +1,7 @@
 -- TPM2_NV_ReadLock. TPM 2.0 Library, Part 3, section 31.14.
 use Rattle.std.specs.Prelude.{Result, Ok}
 use Rattle.tpm_bytes.specs.Reading.{◌>>=◌}
-use Rattle.tpm_types.specs.declared.refused.Refused.{Refused}
+use Rattle.tpm_types_common.specs.declared.refused.Refused.{Refused}
 use Rattle.tpm_nv.specs.Access.{read_locked}
 use Rattle.tpm_record.specs.Record.{Record}
 use Rattle.tpm_record.specs.rows.Refusals.{or_refusal}

@@ -2,7 +2,7 @@
 use Rattle.std.specs.Prelude.{Result, Ok}
 use Rattle.tpm_bytes.specs.Reading.{◌>>=◌}
 use Rattle.tpm_bytes.specs.Writing.{sized_text}
-use Rattle.tpm_types.specs.declared.refused.Refused.{Refused}
+use Rattle.tpm_types_common.specs.declared.refused.Refused.{Refused}
 use Rattle.tpm_name.specs.NvName.{nv_name}
 use Rattle.tpm_types_nv.specs.NvPublic.{nv_public_text}
 use Rattle.tpm_nv.specs.Index.{NvIndex}

@@ -7,7 +7,7 @@ ghost use Rattle.tpm_nvactions.specs.Access.{lock_refusal, reader_passes, writin
 use tpm_nv::{LockFault, WriteFault};
 use tpm_record::rows::refusals::{action_refusal, handle_refusal};
 use tpm_record::rows::target::Target;
-use tpm_types::{ActionCheck, Refused, ResponseCode};
+use tpm_types_common::{ActionCheck, Refused, ResponseCode};
 
 /// Refuses an authHandle that may not write the index.
 pub fn check_writer(target: &Target) -> Result<(), Refused>

@@ -14,7 +14,7 @@ use tpm_record::rows::answer::Answer;
 use tpm_record::rows::call::Call;
 use tpm_record::rows::reading::{end, parameter};
 use tpm_record::rows::refusals::{handle_refusal, parameter_refusal};
-use tpm_types::{ActionCheck, AuthValue, Refused, ResponseCode};
+use tpm_types_common::{ActionCheck, AuthValue, Refused, ResponseCode};
 
 /// TPM2_NV_ChangeAuth: sets the authorization value of an index.
 #[tactic(auto, unfolding(crate::specs::NvChangeAuth::nv_change_auth_row))]

@@ -3,7 +3,7 @@
 
 ghost use Rattle.tpm_bytes.specs.Reading.{Gives};
 ghost use Rattle.std.specs.Prelude.{◌≡◌, ◌==◌, IfOk, length};
-ghost use Rattle.tpm_types.specs.Handle.{platform_handle};
+ghost use Rattle.tpm_types_common.specs.Handle.{platform_handle};
 ghost use Rattle.tpm_types_nv.specs.NvPublic.{IsNvPublic};
 ghost use Rattle.tpm_record.specs.rows.Answer.{IsEmpty};
 ghost use Rattle.tpm_record.specs.rows.Request.{request_of};
@@ -17,7 +17,7 @@ use tpm_record::rows::answer::Answer;
 use tpm_record::rows::call::Call;
 use tpm_record::rows::reading::{end, parameter};
 use tpm_record::rows::refusals::{action_refusal, memory_refusal, parameter_refusal};
-use tpm_types::{ActionCheck, AuthValue, Handle, Refused, ResponseCode};
+use tpm_types_common::{ActionCheck, AuthValue, Handle, Refused, ResponseCode};
 use tpm_types_nv::NvPublic;
 
 /// The parameters of TPM2_NV_DefineSpace.

@@ -14,7 +14,7 @@ use tpm_record::rows::answer::Answer;
 use tpm_record::rows::call::Call;
 use tpm_record::rows::reading::{end, parameter};
 use tpm_record::rows::target::target_of;
-use tpm_types::{DATA_LIMIT, Refused, read_buffer};
+use tpm_types_common::{DATA_LIMIT, Refused, read_buffer};
 
 /// TPM2_NV_Extend: extends the digest in an index with data.
 #[tactic(auto, unfolding(crate::specs::NvExtend::nv_extend_row))]

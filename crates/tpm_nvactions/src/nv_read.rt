@@ -14,7 +14,7 @@ use tpm_record::rows::call::Call;
 use tpm_record::rows::reading::{end, number};
 use tpm_record::rows::refusals::{action_refusal, fault_refusal, parameter_refusal};
 use tpm_record::rows::target::target_of;
-use tpm_types::{ActionCheck, DATA_LIMIT, Refused, ResponseCode};
+use tpm_types_common::{ActionCheck, DATA_LIMIT, Refused, ResponseCode};
 
 /// The parameters of TPM2_NV_Read.
 #[derive(Clone, Copy)]

@@ -14,7 +14,7 @@ use tpm_record::rows::answer::Answer;
 use tpm_record::rows::call::Call;
 use tpm_record::rows::reading::end;
 use tpm_record::rows::target::target_of;
-use tpm_types::Refused;
+use tpm_types_common::Refused;
 
 /// TPM2_NV_ReadLock: locks an index against reading.
 #[tactic(auto, unfolding(crate::specs::NvReadLock::nv_read_lock_row))]

@@ -14,7 +14,7 @@ use tpm_record::rows::answer::Answer;
 use tpm_record::rows::call::Call;
 use tpm_record::rows::reading::end;
 use tpm_record::rows::refusals::handle_refusal;
-use tpm_types::Refused;
+use tpm_types_common::Refused;
 
 /// TPM2_NV_ReadPublic: returns the public area of an index, and its Name.
 #[tactic(auto, unfolding(crate::specs::NvReadPublic::nv_read_public_row))]

@@ -14,7 +14,7 @@ use tpm_record::rows::answer::Answer;
 use tpm_record::rows::call::Call;
 use tpm_record::rows::reading::{end, number};
 use tpm_record::rows::target::target_of;
-use tpm_types::Refused;
+use tpm_types_common::Refused;
 
 /// TPM2_NV_SetBits: sets bits in an index that is a bit field.
 #[tactic(auto, unfolding(crate::specs::NvSetBits::nv_set_bits_row))]

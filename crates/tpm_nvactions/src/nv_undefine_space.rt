@@ -14,7 +14,7 @@ use tpm_record::rows::call::Call;
 use tpm_record::rows::reading::end;
 use tpm_record::rows::refusals::action_refusal;
 use tpm_record::rows::target::{Target, target_of};
-use tpm_types::{ActionCheck, Handle, Refused, ResponseCode};
+use tpm_types_common::{ActionCheck, Handle, Refused, ResponseCode};
 use tpm_types_nv::NvAttribute;
 
 fn is_kept_from(target: &Target) -> bool

@@ -15,7 +15,7 @@ use tpm_record::rows::answer::Answer;
 use tpm_record::rows::call::Call;
 use tpm_record::rows::reading::{end, number, parameter};
 use tpm_record::rows::target::target_of;
-use tpm_types::{DATA_LIMIT, Refused, read_buffer};
+use tpm_types_common::{DATA_LIMIT, Refused, read_buffer};
 
 /// The parameters of TPM2_NV_Write.
 #[derive(Clone, Copy)]

@@ -9,15 +9,15 @@ use Rattle.tpm_bytes.specs.declared.cursor.SizedFault.TheVariants as fault
 use Rattle.tpm_bytes.specs.Reading.{◌>>=◌, bytes_at, number_at, or_fault, refused_if, sized_at, too_short}
 use Rattle.tpm_bytes.proofs.Fields.{bind_ok, guard_ok, guard_passed, ok_is, or_fault_ok, passed}
 use Rattle.tpm_types_object.specs.declared.public.ObjectType.{ObjectType}
-use Rattle.tpm_types.specs.declared.rc.Rc.{Rc}
-use Rattle.tpm_types.specs.declared.rc.ResponseCode.TheVariants as code
-use Rattle.tpm_types.specs.Buffer.{buffer_at, or_sized_rc}
-use Rattle.tpm_types.specs.Filled.{filled_by, or_size}
+use Rattle.tpm_types_common.specs.declared.rc.Rc.{Rc}
+use Rattle.tpm_types_common.specs.declared.rc.ResponseCode.TheVariants as code
+use Rattle.tpm_types_common.specs.Buffer.{buffer_at, or_sized_rc}
+use Rattle.tpm_types_common.specs.Filled.{filled_by, or_size}
 use Rattle.tpm_types_object.specs.Public.{object_type_at, object_type_named}
-use Rattle.tpm_types.specs.Rc.{plain}
+use Rattle.tpm_types_common.specs.Rc.{plain}
 use Rattle.tpm_types_object.specs.Sensitive.{sensitive_at}
-use Rattle.tpm_types.proofs.FilledLaws.{or_size_ok}
-use Rattle.tpm_types.proofs.SelectionLaws.{is_equal}
+use Rattle.tpm_types_common.proofs.FilledLaws.{or_size_ok}
+use Rattle.tpm_types_common.proofs.SelectionLaws.{is_equal}
 
 -- A read consumes at most this many bytes.
 abbrev Takes_up_to : {A E : Type 0} → ℕ → (List ℕ → Result (A × List ℕ) E) → Type 0

@@ -16,14 +16,14 @@ use Rattle.tpm_mac.specs.Digest.{digest_size}
 use Rattle.tpm_mac.specs.declared.algorithm.HashAlg.{HashAlg}
 use Rattle.tpm_mac.specs.declared.algorithm.HashAlg.TheVariants.{Sha1, Sha256}
 use Rattle.tpm_name.specs.ObjectName.{object_name}
-use Rattle.tpm_types.specs.Filled.{filled_by}
+use Rattle.tpm_types_common.specs.Filled.{filled_by}
 use Rattle.tpm_types_object.specs.Public.{object_type, object_type_number}
 use Rattle.tpm_types_object.specs.Sensitive.{IsSensitive, sensitive_at, sensitive_text}
 use Rattle.tpm_types_object.specs.declared.public.ObjectType.{ObjectType}
 use Rattle.tpm_types_object.specs.declared.public.ObjectType.TheVariants as object
 use Rattle.tpm_types_object.specs.declared.public.Public.{Public}
 use Rattle.tpm_types_object.specs.declared.sensitive.Sensitive.{Sensitive}
-use Rattle.tpm_types.proofs.SelectionLaws.{is_equal}
+use Rattle.tpm_types_common.proofs.SelectionLaws.{is_equal}
 use Rattle.tpm_types_object.proofs.SensitiveLaws.{sized_sensitive_spelled}
 use Rattle.tpm_object.proofs.Longest.{sized_sensitive_most}
 use Rattle.tpm_object.specs.PrivateArea.{IsProtected, IsWrapped, area_in, decrypted_area, encrypted_area, integrity_fault, integrity_key, integrity_of, private_text, protected_in, protected_text, authenticated_text, storage_key, unwrapped_sensitive}

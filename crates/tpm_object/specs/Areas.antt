@@ -2,12 +2,12 @@
 -- section 12.2.3.2 (TPMU_PUBLIC_ID: unique of a KEYEDHASH and of a SYMCIPHER).
 use Rattle.std.specs.Prelude.{◌≡◌, ℕ, if◌then◌else◌, List, ◌++◌, take, drop}
 use Rattle.tpm_mac.specs.Digest.{digest_size, hash_of}
-use Rattle.tpm_types.specs.AuthValue.{trimmed}
+use Rattle.tpm_types_common.specs.AuthValue.{trimmed}
 use Rattle.tpm_types_object.specs.Public.{object_type}
 use Rattle.tpm_types_object.specs.SensitiveCreate.{SensitiveValues}
 use Rattle.tpm_types_object.specs.declared.public.Public.{Public}
 use Rattle.tpm_types_object.specs.declared.sensitive.Sensitive.{Sensitive}
-use Rattle.tpm_types.specs.Buffer.{is_given}
+use Rattle.tpm_types_common.specs.Buffer.{is_given}
 use Rattle.tpm_object.specs.Creation.{generated_size}
 use Rattle.tpm_object.specs.declared.areas.Created.{Created}
 

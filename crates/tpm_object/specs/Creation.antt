@@ -5,8 +5,8 @@ use Rattle.std.specs.Prelude.{ℕ, ◌+◌, ◌==◌, ◌&&◌, not, nat_lt, Boo
 use Rattle.std.specs.Prelude.{List, [], ◌∷◌, length, Result}
 use Rattle.tpm_mac.specs.Digest.{digest_size}
 use Rattle.tpm_mac.specs.declared.algorithm.HashAlg.{HashAlg}
-use Rattle.tpm_types.specs.AuthValue.{trimmed}
-use Rattle.tpm_types.specs.Buffer.{is_given}
+use Rattle.tpm_types_common.specs.AuthValue.{trimmed}
+use Rattle.tpm_types_common.specs.Buffer.{is_given}
 use Rattle.tpm_types_object.specs.ObjectAttributes.{has}
 use Rattle.tpm_types_object.specs.SensitiveCreate.{SensitiveValues}
 use Rattle.tpm_types_object.specs.declared.object_attributes.ObjectAttribute.TheVariants as attribute

@@ -6,10 +6,10 @@ pub mod Areas
 pub mod Primary
 pub mod PrivateArea
 pub use Rattle.tpm_types_name.specs.Name
-pub use Rattle.tpm_types.specs.AuthValue
-pub use Rattle.tpm_types.specs.Filled
+pub use Rattle.tpm_types_common.specs.AuthValue
+pub use Rattle.tpm_types_common.specs.Filled
 pub use Rattle.tpm_name.specs.ObjectName
-pub use Rattle.tpm_types.specs.Handle
+pub use Rattle.tpm_types_common.specs.Handle
 pub use Rattle.tpm_types_object.specs.ObjectAttributes
 pub use Rattle.tpm_types_object.specs.Public
 pub use Rattle.tpm_types_object.specs.Sensitive

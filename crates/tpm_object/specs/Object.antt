@@ -2,15 +2,15 @@
 use Rattle.std.specs.Prelude.{ℕ, ◌≤◌, ◌&&◌, not, Bool, true, false, List, length}
 use Rattle.tpm_types_name.specs.Name.{qualified_name}
 use Rattle.tpm_name.specs.ObjectName.{object_name}
-use Rattle.tpm_types.specs.Limits.{sensitive_limit}
-use Rattle.tpm_types.specs.AuthValue.{IsAuthValue, trimmed}
+use Rattle.tpm_types_common.specs.Limits.{sensitive_limit}
+use Rattle.tpm_types_common.specs.AuthValue.{IsAuthValue, trimmed}
 use Rattle.tpm_types_object.specs.ObjectAttributes.{has}
 use Rattle.tpm_types_object.specs.Public.{IsPublic}
 use Rattle.tpm_types_object.specs.declared.object_attributes.ObjectAttribute.TheVariants as attribute
 use Rattle.tpm_types_object.specs.declared.public.Public.{Public}
 use Rattle.tpm_types_object.specs.declared.public.PublicParameters.{PublicParameters}
 use Rattle.tpm_types_object.specs.declared.public.PublicParameters.TheVariants as parameters_of
-use Rattle.tpm_types.specs.declared.handle.HierarchyHandle.{HierarchyHandle}
+use Rattle.tpm_types_common.specs.declared.handle.HierarchyHandle.{HierarchyHandle}
 use Rattle.tpm_types_object.specs.declared.sensitive.Sensitive.{Sensitive}
 use Rattle.tpm_object.specs.declared.object.Object.{Object}
 

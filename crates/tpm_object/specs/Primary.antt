@@ -5,10 +5,10 @@ use Rattle.std.specs.Prelude.{ℕ, ◌+◌, List, [], ◌∷◌, take, drop}
 use Rattle.tpm_mac.specs.Digest.{digest_size, hash_of}
 use Rattle.tpm_mac.specs.Kdf.{kdfa_of}
 use Rattle.tpm_types_name.specs.Name.{handle_name}
-use Rattle.tpm_types.specs.Handle.{hierarchy_handle}
+use Rattle.tpm_types_common.specs.Handle.{hierarchy_handle}
 use Rattle.tpm_types_object.specs.Public.{public_text}
 use Rattle.tpm_types_object.specs.SensitiveCreate.{SensitiveValues, sensitive_create_text}
-use Rattle.tpm_types.specs.declared.handle.HierarchyHandle.{HierarchyHandle}
+use Rattle.tpm_types_common.specs.declared.handle.HierarchyHandle.{HierarchyHandle}
 use Rattle.tpm_types_object.specs.declared.public.Public.{Public}
 use Rattle.tpm_object.specs.Areas.{new_object_areas}
 use Rattle.tpm_object.specs.Creation.{generated_size}

@@ -11,7 +11,7 @@ use Rattle.tpm_mac.specs.Digest.{digest_size}
 use Rattle.tpm_mac.specs.Hmac.{hmac_of}
 use Rattle.tpm_mac.specs.Kdf.{kdfa_of}
 use Rattle.tpm_name.specs.ObjectName.{object_name}
-use Rattle.tpm_types.specs.Filled.{filled_by}
+use Rattle.tpm_types_common.specs.Filled.{filled_by}
 use Rattle.tpm_types_object.specs.Public.{object_type, object_type_number}
 use Rattle.tpm_types_object.specs.Sensitive.{IsSensitive, sensitive_at, sensitive_text}
 use Rattle.tpm_types_object.specs.declared.public.Public.{Public}

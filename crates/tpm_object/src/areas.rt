@@ -7,7 +7,7 @@ ghost use Rattle.tpm_types_object.specs.declared.public.Public.{Public};
 
 use crate::creation::{drawn_by, generated_size, is_given};
 use tpm_mac::digest_parts;
-use tpm_types::{AuthValue, Octets};
+use tpm_types_common::{AuthValue, Octets};
 use tpm_types_object::{Public, Sensitive, SensitiveCreate};
 
 /// The areas of a new object.

@@ -3,13 +3,13 @@
 
 ghost use Rattle.std.specs.Prelude.{◌≡◌, ◌≤◌};
 ghost use Rattle.tpm_types_object.specs.SensitiveCreate.{sensitive_values_of};
-ghost use Rattle.tpm_types.specs.Buffer.{is_given};
+ghost use Rattle.tpm_types_common.specs.Buffer.{is_given};
 ghost use Rattle.tpm_object.specs.Checks.{one_of};
 ghost use Rattle.tpm_object.specs.Creation.{creation_passes, drawn_by, generated_size, is_long_auth, has_wrong_key_size, key_size, origin_conflicts, parameters_key_size};
 
 use crate::object::{is_cipher, is_keyed_hash};
 use tpm_mac::HashAlg;
-use tpm_types::AuthValue;
+use tpm_types_common::AuthValue;
 use tpm_types_object::{
     KeyedHashScheme, ObjectAttribute, Public, PublicParameters, SensitiveCreate,
 };

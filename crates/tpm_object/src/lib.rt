@@ -4,11 +4,11 @@
 //! made from a seed or from random bytes, and how its parent protects its sensitive area.
 //!
 //! The crate uses `tpm_types_object` for the areas of objects, `tpm_mac` and `tpm_aes` for digests,
-//! keys and encryption, `tpm_types_name` for Names, and `tpm_types`. The result of each function
-//! equals its definition in `specs/`. Unwrapping a private area returns the sensitive area that was
-//! wrapped, if the public area has the same type. Only private areas that the parent wrapped are
-//! accepted. The two areas of a new object always have the same type. No function here allocates
-//! memory.
+//! keys and encryption, `tpm_types_name` for Names, and `tpm_types_common`. The result of each
+//! function equals its definition in `specs/`. Unwrapping a private area returns the sensitive area
+//! that was wrapped, if the public area has the same type. Only private areas that the parent
+//! wrapped are accepted. The two areas of a new object always have the same type. No function here
+//! allocates memory.
 
 mod areas;
 mod creation;

@@ -8,7 +8,7 @@ ghost use Rattle.tpm_object.specs.Object.{are_of_cipher, is_cipher, is_keyed_has
 use tpm_containers::{Kinded, Sizes};
 use tpm_mac::HashAlg;
 use tpm_name::Name;
-use tpm_types::{AuthValue, Handle, HierarchyHandle, Octets, SENSITIVE_LIMIT};
+use tpm_types_common::{AuthValue, Handle, HierarchyHandle, Octets, SENSITIVE_LIMIT};
 use tpm_types_object::{ObjectAttribute, ObjectAttributes, Public, PublicParameters, Sensitive};
 
 /// A loaded object.

@@ -12,7 +12,7 @@ use crate::creation::generated_size;
 use crate::object::Object;
 use tpm_mac::{digest_parts, kdfa};
 use tpm_name::Name;
-use tpm_types::HierarchyHandle;
+use tpm_types_common::HierarchyHandle;
 use tpm_types_object::{Public, SensitiveCreate};
 
 /// The KDFa label for primary objects.

@@ -6,7 +6,7 @@ ghost use Rattle.tpm_object.specs.Checks.{one_of};
 ghost use Rattle.tpm_object.specs.Template.{object_attribute_conflicts, has_wrong_fixing, has_wrong_scheme, template_passes};
 
 use crate::object::{is_cipher, is_keyed_hash};
-use tpm_types::is_policy_size;
+use tpm_types_common::is_policy_size;
 use tpm_types_object::{
     KeyedHashScheme, ObjectAttribute, ObjectAttributes, Public, PublicParameters,
 };

@@ -2,8 +2,8 @@
 use Rattle.std.proofs.Common.{◌≡◌, ℕ, ◌+◌, ◌<◌, List, [], ◌∷◌, length, take, get_or, fold, refl, arith, ap, sym, ◌∙◌}
 use Rattle.std.proofs.lemmas.List.{take_more}
 use Rattle.std.proofs.lemmas.List.Sums.{fold-append}
-use Rattle.tpm_types.specs.declared.digest_values.DigestValue.{DigestValue}
-use Rattle.tpm_types.specs.declared.digest_values.DigestValue.TheVariants.{Sha1, Sha256}
+use Rattle.tpm_types_common.specs.declared.digest_values.DigestValue.{DigestValue}
+use Rattle.tpm_types_common.specs.declared.digest_values.DigestValue.TheVariants.{Sha1, Sha256}
 use Rattle.tpm_pcr.specs.Changes.{with_extension}
 use Rattle.tpm_pcr.specs.Values.{BankValues}
 

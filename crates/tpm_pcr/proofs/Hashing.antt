@@ -10,8 +10,8 @@ use Rattle.std.specs.List.{concat, flat_map}
 use Rattle.tpm_mac.specs.Hasher.{Holds, Takes}
 use Rattle.tpm_mac.specs.declared.algorithm.HashAlg.{HashAlg}
 use Rattle.tpm_mac.specs.declared.hasher.Hasher.{Hasher}
-use Rattle.tpm_types.specs.Pcr.{is_selected}
-use Rattle.tpm_types.specs.declared.pcr_selection.BankSelection.{BankSelection}
+use Rattle.tpm_types_common.specs.Pcr.{is_selected}
+use Rattle.tpm_types_common.specs.declared.pcr_selection.BankSelection.{BankSelection}
 use Rattle.tpm_pcr.specs.Banks.{all_pcrs, pcr_value, selected_pcrs, selected_values}
 use Rattle.tpm_pcr.specs.Values.{BankValues}
 

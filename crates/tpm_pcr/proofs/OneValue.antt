@@ -9,8 +9,8 @@ use Rattle.tpm_bytes.specs.Numbers.{numbers_below}
 use Rattle.tpm_mac.specs.Digest.{digest_size, hash_of}
 use Rattle.tpm_mac.specs.declared.algorithm.HashAlg.{HashAlg}
 use Rattle.tpm_mac.specs.declared.algorithm.HashAlg.TheVariants as alg
-use Rattle.tpm_types.specs.declared.digest_values.DigestValue.{DigestValue}
-use Rattle.tpm_types.specs.declared.digest_values.DigestValue.TheVariants.{Sha1, Sha256}
+use Rattle.tpm_types_common.specs.declared.digest_values.DigestValue.{DigestValue}
+use Rattle.tpm_types_common.specs.declared.digest_values.DigestValue.TheVariants.{Sha1, Sha256}
 use Rattle.tpm_pcr.specs.Banks.{HaveAll, HaveValues, all_pcrs, new_banks, pcr_value, starting_value, starting_values}
 use Rattle.tpm_pcr.specs.Changes.{event_digests, value_extended, with_extension, with_value}
 use Rattle.tpm_pcr.specs.Values.{BankValues}

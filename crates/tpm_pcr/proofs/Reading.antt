@@ -8,8 +8,8 @@ use Rattle.std.proofs.lemmas.List.Sums.{fold-append}
 use Rattle.std.proofs.lemmas.Bool.Decides.{nat_tests}
 use Rattle.std.specs.List.{flat_map}
 use Rattle.tpm_pcr.specs.Values.{BankValues}
-use Rattle.tpm_types.specs.declared.pcr_selection.BankSelection.{BankSelection}
-use Rattle.tpm_types.specs.Pcr.{is_selected, with_pcr}
+use Rattle.tpm_types_common.specs.declared.pcr_selection.BankSelection.{BankSelection}
+use Rattle.tpm_types_common.specs.Pcr.{is_selected, with_pcr}
 use Rattle.tpm_pcr.specs.Banks.{all_pcrs, answer_selection, pcr_value, read_values, select_with, selected_pcrs, selected_values}
 
 lt_true : (a b : ℕ) → nat_lt a b ≡ true → a < b

@@ -7,8 +7,8 @@ use Rattle.std.specs.List.{concat, flat_map}
 use Rattle.tpm_mac.specs.declared.algorithm.HashAlg.{HashAlg}
 use Rattle.tpm_mac.specs.declared.algorithm.HashAlg.TheVariants.{Sha1, Sha256}
 use Rattle.tpm_mac.specs.Digest.{digest_size, hash_of}
-use Rattle.tpm_types.specs.declared.pcr_selection.BankSelection.{BankSelection}
-use Rattle.tpm_types.specs.Pcr.{is_selected, with_pcr}
+use Rattle.tpm_types_common.specs.declared.pcr_selection.BankSelection.{BankSelection}
+use Rattle.tpm_types_common.specs.Pcr.{is_selected, with_pcr}
 use Rattle.tpm_pcr.specs.Values.{BankValues}
 
 -- the PCRs of a bank: 0 to 23

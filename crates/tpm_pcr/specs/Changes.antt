@@ -10,10 +10,10 @@ use Rattle.tpm_bytes.specs.Reading.{◌>>=◌, refused_if}
 use Rattle.tpm_mac.specs.declared.algorithm.HashAlg.{HashAlg}
 use Rattle.tpm_mac.specs.declared.algorithm.HashAlg.TheVariants as alg
 use Rattle.tpm_mac.specs.Digest.{hash_of}
-use Rattle.tpm_types.specs.declared.digest_values.DigestValue.{DigestValue}
-use Rattle.tpm_types.specs.declared.digest_values.DigestValues.{DigestValues}
-use Rattle.tpm_types.specs.declared.digest_values.DigestValue.TheVariants.{Sha1, Sha256}
-use Rattle.tpm_types.specs.DigestValues.{digest_of, hash_of_value}
+use Rattle.tpm_types_common.specs.declared.digest_values.DigestValue.{DigestValue}
+use Rattle.tpm_types_common.specs.declared.digest_values.DigestValues.{DigestValues}
+use Rattle.tpm_types_common.specs.declared.digest_values.DigestValue.TheVariants.{Sha1, Sha256}
+use Rattle.tpm_types_common.specs.DigestValues.{digest_of, hash_of_value}
 use Rattle.tpm_pcr.specs.Banks.{pcr_value}
 use Rattle.tpm_pcr.specs.Values.{BankValues}
 use Rattle.tpm_pcr.specs.declared.changes.ChangeFault.{ChangeFault}

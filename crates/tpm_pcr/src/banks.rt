@@ -4,8 +4,8 @@
 ghost use Rattle.std.specs.Prelude.{◌≡◌, ◌+◌, ◌-◌, [], ◌∷◌, ◌++◌, ◌&&◌, nat_lt, if◌then◌else◌};
 ghost use Rattle.std.specs.Prelude.{◌<◌, ◌^◌, length, take, replicate, slice_set};
 ghost use Rattle.std.specs.List.{concat, flat_map};
-ghost use Rattle.tpm_types.specs.Pcr.{is_selected, with_pcr};
-ghost use Rattle.tpm_types.specs.DigestList.{digests_of};
+ghost use Rattle.tpm_types_common.specs.Pcr.{is_selected, with_pcr};
+ghost use Rattle.tpm_types_common.specs.DigestList.{digests_of};
 ghost use Rattle.tpm_mac.specs.Digest.{digest_size};
 ghost use Rattle.tpm_mac.specs.Hasher.{Takes};
 ghost use Rattle.tpm_mac.specs.declared.algorithm.HashAlg.TheVariants.{Sha1, Sha256};
@@ -21,7 +21,7 @@ use arrayvec::ArrayVec;
 use std::marker::Model;
 use tpm_bytes::append;
 use tpm_mac::{Digest, HashAlg, Hasher};
-use tpm_types::{BankSelection, DigestList, PCR_COUNT, PcrIndex, PcrSelect, PcrSelection};
+use tpm_types_common::{BankSelection, DigestList, PCR_COUNT, PcrIndex, PcrSelect, PcrSelection};
 
 /// The values of all PCRs, bank by bank, and the update counter.
 #[derive(Drop)]

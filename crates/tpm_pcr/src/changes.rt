@@ -4,8 +4,8 @@
 ghost use Rattle.std.specs.Prelude.{◌≡◌, ◌+◌, ◌-◌, ◌<◌, ◌^◌, ◌++◌};
 ghost use Rattle.std.specs.Prelude.{List, ℕ, [], ◌∷◌, fold, length, replicate};
 ghost use Rattle.tpm_mac.specs.Digest.{digest_size, hash_of};
-ghost use Rattle.tpm_types.specs.DigestValues.{digest_of, hash_of_value};
-ghost use Rattle.tpm_types.specs.Locality.{locality_number};
+ghost use Rattle.tpm_types_common.specs.DigestValues.{digest_of, hash_of_value};
+ghost use Rattle.tpm_types_common.specs.Locality.{locality_number};
 ghost use Rattle.tpm_pcr.specs.Banks.{pcr_value};
 ghost use Rattle.tpm_pcr.specs.Changes.{AnswersDigests, ChangesBanks, change_check, clear_counted};
 ghost use Rattle.tpm_pcr.specs.Changes.{event_digests, extend_of};
@@ -15,7 +15,7 @@ ghost use Rattle.tpm_pcr.specs.Changes.{with_extension, with_value};
 use crate::banks::Banks;
 use arrayvec::ArrayVec;
 use tpm_mac::{Digest, HashAlg, digest_parts};
-use tpm_types::{DigestValue, DigestValues, Locality, PcrIndex};
+use tpm_types_common::{DigestValue, DigestValues, Locality, PcrIndex};
 
 /// The reason why no PCR was changed.
 #[derive(Clone, Copy, PartialEq, Eq)]

@@ -4,7 +4,7 @@ ghost use Rattle.std.specs.Prelude.{◌≡◌, ◌<◌, ◌+◌, ◌==◌, ℕ, 
 ghost use Rattle.tpm_mac.specs.Digest.{digest_size};
 ghost use Rattle.tpm_mac.specs.declared.algorithm.HashAlg.{HashAlg};
 ghost use Rattle.tpm_mac.specs.declared.algorithm.HashAlg.TheVariants as alg;
-ghost use Rattle.tpm_types.specs.declared.digest_values.DigestValue.{DigestValue};
+ghost use Rattle.tpm_types_common.specs.declared.digest_values.DigestValue.{DigestValue};
 ghost use Rattle.tpm_pcr.specs.Banks.{HaveAll, HaveValues, new_banks, pcr_value, starting_value};
 ghost use Rattle.tpm_pcr.specs.Changes.{value_extended, with_extension, with_value};
 ghost use Rattle.tpm_pcr.specs.Values.{BankValues};

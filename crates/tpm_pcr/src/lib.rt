@@ -5,9 +5,9 @@
 //!
 //! [`banks::Banks`] reads the values. [`changes`] changes the value of a PCR, if the PCR allows the
 //! change from the command's locality. [`saved::SavedPcrs`] contains the values that a shutdown
-//! saves. The crate uses `tpm_types` for selections and `tpm_mac` for digests. The result of each
-//! function equals its definition in `specs/`. A change that is refused leaves the banks unchanged,
-//! and no function here allocates memory.
+//! saves. The crate uses `tpm_types_common` for selections and `tpm_mac` for digests. The result of
+//! each function equals its definition in `specs/`. A change that is refused leaves the banks
+//! unchanged, and no function here allocates memory.
 
 pub mod banks;
 pub mod changes;

@@ -17,16 +17,16 @@ use Rattle.std.specs.Str.{bytes_eq}
 use Rattle.tpm_bytes.specs.Reading.{◌>>=◌, refused_if}
 use Rattle.tpm_mac.specs.Digest.{digest_size, hash_of}
 use Rattle.tpm_mac.specs.declared.algorithm.HashAlg.{HashAlg}
-use Rattle.tpm_types.specs.Buffer.{is_given}
-use Rattle.tpm_types.specs.Operation.{operation_number}
-use Rattle.tpm_types.specs.PcrSelection.{selection_text}
-use Rattle.tpm_types.specs.ActionFault.{parameter_fault, plain_fault}
-use Rattle.tpm_types.specs.declared.action_check.ActionCheck.TheVariants as action
-use Rattle.tpm_types.specs.declared.operation.Operation.{Operation}
-use Rattle.tpm_types.specs.declared.rc.ResponseCode.TheVariants as code
+use Rattle.tpm_types_common.specs.Buffer.{is_given}
+use Rattle.tpm_types_common.specs.Operation.{operation_number}
+use Rattle.tpm_types_common.specs.PcrSelection.{selection_text}
+use Rattle.tpm_types_common.specs.ActionFault.{parameter_fault, plain_fault}
+use Rattle.tpm_types_common.specs.declared.action_check.ActionCheck.TheVariants as action
+use Rattle.tpm_types_common.specs.declared.operation.Operation.{Operation}
+use Rattle.tpm_types_common.specs.declared.rc.ResponseCode.TheVariants as code
 use Rattle.tpm_policy.specs.Comparison.{compares}
 use Rattle.tpm_policy.specs.State.{Policy}
-use Rattle.tpm_types.specs.declared.action_fault.ActionFault.{ActionFault}
+use Rattle.tpm_types_common.specs.declared.action_fault.ActionFault.{ActionFault}
 use Rattle.tpm_policy.specs.declared.nv.NvAssertion.{NvAssertion}
 use Rattle.tpm_policy.specs.declared.pcr.PcrAssertion.{PcrAssertion}
 use Rattle.tpm_policy.specs.declared.secret.SecretAssertion.{SecretAssertion}

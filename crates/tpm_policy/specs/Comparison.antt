@@ -5,8 +5,8 @@ use Rattle.std.specs.Prelude.{ℕ, ◌-ℤ◌, ◌^◌, ◌==◌, ◌&&◌, not,
 use Rattle.std.specs.Cmp.Lexicographic.{pointwise}
 use Rattle.std.specs.Int.Digits.{number_from_digits}
 use Rattle.std.specs.Str.{bytes_eq}
-use Rattle.tpm_types.specs.declared.operation.Operation.{Operation}
-use Rattle.tpm_types.specs.declared.operation.Operation.TheVariants.{Equal, NotEqual, SignedGreater, UnsignedGreater, SignedLess, UnsignedLess, SignedGreaterOrEqual, UnsignedGreaterOrEqual, SignedLessOrEqual, UnsignedLessOrEqual, BitSet, BitClear}
+use Rattle.tpm_types_common.specs.declared.operation.Operation.{Operation}
+use Rattle.tpm_types_common.specs.declared.operation.Operation.TheVariants.{Equal, NotEqual, SignedGreater, UnsignedGreater, SignedLess, UnsignedLess, SignedGreaterOrEqual, UnsignedGreaterOrEqual, SignedLessOrEqual, UnsignedLessOrEqual, BitSet, BitClear}
 
 -- the unsigned number that the bytes encode, most significant byte first
 abbrev pub unsigned_number : List ℕ → ℕ

@@ -5,8 +5,8 @@ pub mod Made
 pub mod Use
 pub use Rattle.tpm_types_name.specs.Name
 pub use Rattle.tpm_commands.specs.CommandCode
-pub use Rattle.tpm_types.specs.DigestList
-pub use Rattle.tpm_types.specs.Locality
-pub use Rattle.tpm_types.specs.PcrSelection
-pub use Rattle.tpm_types.specs.SessionType
+pub use Rattle.tpm_types_common.specs.DigestList
+pub use Rattle.tpm_types_common.specs.Locality
+pub use Rattle.tpm_types_common.specs.PcrSelection
+pub use Rattle.tpm_types_common.specs.SessionType
 pub use Rattle.tpm_mac.specs.Digest

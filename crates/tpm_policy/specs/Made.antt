@@ -5,7 +5,7 @@ use Rattle.std.specs.Int.{w32, to_be_bytes}
 use Rattle.tpm_mac.specs.declared.algorithm.HashAlg.{HashAlg}
 use Rattle.tpm_policy.specs.Assertion.{Assertion, Pcr, Or, AuthValue, Password, CommandCode, Locality, Secret, Nv, auth_value_asserted, extended_policy, nv_arguments, or_digest, password_asserted, secret_digest, taken_digest, CpHash, NvWritten, yes_no_text}
 use Rattle.tpm_policy.specs.State.{Policy}
-use Rattle.tpm_types.specs.Buffer.{is_given}
+use Rattle.tpm_types_common.specs.Buffer.{is_given}
 use Rattle.tpm_commands.specs.declared.command_code.CommandCode.TheVariants as command
 
 -- the policy after an assertion

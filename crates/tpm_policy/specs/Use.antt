@@ -6,15 +6,15 @@ use Rattle.std.specs.Int.{bit_at}
 use Rattle.std.specs.Str.{bytes_eq}
 use Rattle.tpm_bytes.specs.Reading.{◌>>=◌, refused_if}
 use Rattle.tpm_mac.specs.declared.algorithm.HashAlg.{HashAlg}
-use Rattle.tpm_types.specs.Algorithm.{hash_number}
-use Rattle.tpm_types.specs.Locality.{locality_number}
-use Rattle.tpm_types.specs.SessionType.{is_trial}
-use Rattle.tpm_types.specs.Rc.{entry_fault, plain}
-use Rattle.tpm_types.specs.declared.rc.Rc.{Rc}
-use Rattle.tpm_types.specs.declared.rc.ResponseCode.TheVariants as code
-use Rattle.tpm_types.specs.declared.session_type.SessionType.{SessionType}
-use Rattle.tpm_types.specs.declared.role.Role.{Role}
-use Rattle.tpm_types.specs.declared.role.Role.TheVariants as role
+use Rattle.tpm_types_common.specs.Algorithm.{hash_number}
+use Rattle.tpm_types_common.specs.Locality.{locality_number}
+use Rattle.tpm_types_common.specs.SessionType.{is_trial}
+use Rattle.tpm_types_common.specs.Rc.{entry_fault, plain}
+use Rattle.tpm_types_common.specs.declared.rc.Rc.{Rc}
+use Rattle.tpm_types_common.specs.declared.rc.ResponseCode.TheVariants as code
+use Rattle.tpm_types_common.specs.declared.session_type.SessionType.{SessionType}
+use Rattle.tpm_types_common.specs.declared.role.Role.{Role}
+use Rattle.tpm_types_common.specs.declared.role.Role.TheVariants as role
 use Rattle.tpm_policy.specs.Assertion.{is_other, is_other_hash, is_other_written}
 use Rattle.tpm_policy.specs.State.{Policy}
 use Rattle.tpm_policy.specs.declared.policy_use.EntityPolicy.{EntityPolicy}

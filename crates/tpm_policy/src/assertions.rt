@@ -7,7 +7,7 @@ ghost use Rattle.std.specs.Int.{w32, to_be_bytes};
 ghost use Rattle.std.specs.List.{list_any};
 ghost use Rattle.std.specs.Str.{bytes_eq};
 ghost use Rattle.tpm_mac.specs.Digest.{digest_size, hash_of};
-ghost use Rattle.tpm_types.specs.DigestList.{digests_of};
+ghost use Rattle.tpm_types_common.specs.DigestList.{digests_of};
 ghost use Rattle.tpm_policy.specs.Assertion.{Asserts, auth_value_asserted, command_code_asserted, extended_policy, is_other, locality_asserted, or_asserted, or_digest, password_asserted};
 ghost use Rattle.tpm_policy.specs.Assertion.{cp_hash_asserted, nv_written_asserted};
 
@@ -16,7 +16,7 @@ use arrayvec::ArrayVec;
 use tpm_bytes::{copied, is_equal};
 use tpm_commands::CommandCode;
 use tpm_mac::{Digest, HashAlg, digest_parts};
-use tpm_types::{ActionCheck, ActionFault, DigestList, ResponseCode};
+use tpm_types_common::{ActionCheck, ActionFault, DigestList, ResponseCode};
 
 /// The largest parameter of TPM2_PolicyLocality: localities 0 to 4, one bit each.
 const LOCALITIES_LIMIT: u8 = 31;

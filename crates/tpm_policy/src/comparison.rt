@@ -5,7 +5,7 @@ ghost use Rattle.std.specs.Prelude.{◌≡◌, ◌+◌, ◌%◌, int_lt, length,
 ghost use Rattle.tpm_policy.specs.Comparison.{compares, has_clear, has_set, signed_number, unsigned_number};
 
 use tpm_bytes::is_equal;
-use tpm_types::Operation;
+use tpm_types_common::Operation;
 
 /// Whether a number is less than another of the same size. The first byte in which they differ
 /// decides.

@@ -4,10 +4,10 @@
 //! assertions that change it, and what the policy demands when the session authorizes a command.
 //!
 //! The crate uses `tpm_types_name` for the Names of entities, `tpm_mac` for digests, `tpm_commands`
-//! for command codes, and `tpm_types`. It does not access sessions or PCRs: the caller looks up the
-//! values that an assertion needs, such as the digest of the PCRs. Contracts treat the state as a
-//! plain record, and each assertion as a function on it. A refused assertion changes nothing, and
-//! no call allocates memory.
+//! for command codes, and `tpm_types_common`. It does not access sessions or PCRs: the caller looks
+//! up the values that an assertion needs, such as the digest of the PCRs. Contracts treat the state
+//! as a plain record, and each assertion as a function on it. A refused assertion changes nothing,
+//! and no call allocates memory.
 
 pub mod assertions;
 mod comparison;

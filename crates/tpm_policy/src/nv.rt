@@ -8,7 +8,7 @@ use crate::comparison::compares;
 use crate::state::PolicyState;
 use tpm_commands::CommandCode;
 use tpm_mac::{Digest, HashAlg, digest_parts};
-use tpm_types::{ActionCheck, ActionFault, Operation, ResponseCode};
+use tpm_types_common::{ActionCheck, ActionFault, Operation, ResponseCode};
 use tpm_types_name::Name;
 
 /// The data of a TPM2_PolicyNV assertion.

@@ -5,7 +5,7 @@ ghost use Rattle.tpm_commands.specs.declared.command_code.CommandCode.TheVariant
 ghost use Rattle.std.specs.Prelude.{◌≡◌, ◌++◌};
 ghost use Rattle.std.specs.Int.{w32, to_be_bytes};
 ghost use Rattle.tpm_mac.specs.Digest.{hash_of};
-ghost use Rattle.tpm_types.specs.PcrSelection.{selection_text};
+ghost use Rattle.tpm_types_common.specs.PcrSelection.{selection_text};
 ghost use Rattle.tpm_policy.specs.Assertion as assertion;
 ghost use Rattle.tpm_policy.specs.Assertion.{Asserts, asserted_policy, is_other, pcr_parts, taken_digest};
 
@@ -13,7 +13,7 @@ use crate::state::PolicyState;
 use tpm_bytes::{Sink, is_equal};
 use tpm_commands::CommandCode;
 use tpm_mac::{Digest, HashAlg, digest_parts};
-use tpm_types::{ActionCheck, ActionFault, PcrSelection, ResponseCode};
+use tpm_types_common::{ActionCheck, ActionFault, PcrSelection, ResponseCode};
 
 /// The data of a TPM2_PolicyPCR assertion.
 #[derive(Clone, Copy)]

@@ -3,14 +3,14 @@
 
 ghost use Rattle.std.specs.Prelude.{◌≡◌, ◌==◌, option_map};
 ghost use Rattle.std.specs.Int.{bit_at};
-ghost use Rattle.tpm_types.specs.Locality.{locality_number};
+ghost use Rattle.tpm_types_common.specs.Locality.{locality_number};
 ghost use Rattle.tpm_policy.specs.Assertion.{is_other_written};
 ghost use Rattle.tpm_policy.specs.Use.{entity_parts, is_policy_of, lacks_command, parts_of, use_passes};
 
 use crate::state::{Demand, PolicyState};
 use tpm_bytes::is_equal;
 use tpm_mac::HashAlg;
-use tpm_types::{Locality, Rc, ResponseCode, Role, SessionType, hash_number};
+use tpm_types_common::{Locality, Rc, ResponseCode, Role, SessionType, hash_number};
 
 /// The policy of an entity.
 #[derive(Clone, Copy)]

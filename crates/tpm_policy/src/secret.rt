@@ -8,7 +8,7 @@ use crate::state::PolicyState;
 use tpm_bytes::{copied, is_equal};
 use tpm_commands::CommandCode;
 use tpm_mac::{Digest, HashAlg, digest_parts};
-use tpm_types::{ActionCheck, ActionFault, ResponseCode};
+use tpm_types_common::{ActionCheck, ActionFault, ResponseCode};
 use tpm_types_name::Name;
 
 /// The data of a TPM2_PolicySecret assertion. An empty buffer means that the parameter is absent.

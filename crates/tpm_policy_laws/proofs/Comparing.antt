@@ -15,8 +15,8 @@ use Rattle.tpm_record.specs.rows.Refusals.{fault_refusal, or_refusal}
 use Rattle.tpm_record.specs.rows.Target.{target_of}
 use Rattle.tpm_session.specs.Sessions.{with_session_policy}
 use Rattle.tpm_session.specs.declared.session.Session.{Session}
-use Rattle.tpm_types.specs.SessionType.{is_trial}
-use Rattle.tpm_types.specs.declared.refused.Refused.{Refused}
+use Rattle.tpm_types_common.specs.SessionType.{is_trial}
+use Rattle.tpm_types_common.specs.declared.refused.Refused.{Refused}
 use Rattle.tpm_actions_policy.specs.Assertions.{assertion_in, assertion_row, body_of, policy_after, policy_session, session_handle, with_assertion}
 use Rattle.tpm_actions_policy.specs.PolicyNv.{Parameters, nv_parameters, nv_parts_of}
 use Rattle.tpm_policy_laws.specs.Comparing.{ComparisonHolds}

@@ -9,8 +9,8 @@ use Rattle.tpm_record.specs.rows.Request.{Request, third_handle}
 use Rattle.tpm_record.specs.rows.Rows.{Success}
 use Rattle.tpm_record.specs.rows.Target.{target_of}
 use Rattle.tpm_session.specs.declared.session.Session.{Session}
-use Rattle.tpm_types.specs.SessionType.{is_trial}
-use Rattle.tpm_types.specs.declared.handle.Handle.{Handle}
+use Rattle.tpm_types_common.specs.SessionType.{is_trial}
+use Rattle.tpm_types_common.specs.declared.handle.Handle.{Handle}
 use Rattle.tpm_actions_policy.specs.Assertions.{assertion_row, policy_session}
 use Rattle.tpm_actions_policy.specs.PolicyNv.{Parameters, compared, nv_parameters}
 

@@ -2,7 +2,7 @@
 use Rattle.std.proofs.Common.{refl}
 use Rattle.sha1.specs.Sha1 as one
 use Rattle.sha2.specs.Sha256 as two
-use Rattle.tpm_types.specs.PcrSelection.{bank_text, banks_text, selection_text}
+use Rattle.tpm_types_common.specs.PcrSelection.{bank_text, banks_text, selection_text}
 use Rattle.tpm_policy_meaning.specs.Examples.{ComputesDigests}
 
 pub computes_digests : ComputesDigests

@@ -11,10 +11,10 @@ use Rattle.tpm_policy.specs.Assertion as assertion
 use Rattle.tpm_policy.specs.Assertion.{Assertion, auth_value_asserted, or_asserted, or_digest, password_asserted}
 use Rattle.tpm_policy.specs.State.{Policy}
 use Rattle.tpm_policy.specs.declared.state.Demand.TheVariants as demand
-use Rattle.tpm_types.specs.ActionFault.{parameter_fault}
-use Rattle.tpm_types.specs.declared.action_check.ActionCheck.TheVariants as action
-use Rattle.tpm_types.specs.declared.action_fault.ActionFault.{ActionFault}
-use Rattle.tpm_types.specs.declared.rc.ResponseCode.TheVariants as code
+use Rattle.tpm_types_common.specs.ActionFault.{parameter_fault}
+use Rattle.tpm_types_common.specs.declared.action_check.ActionCheck.TheVariants as action
+use Rattle.tpm_types_common.specs.declared.action_fault.ActionFault.{ActionFault}
+use Rattle.tpm_types_common.specs.declared.rc.ResponseCode.TheVariants as code
 use Rattle.tpm_policy_meaning.specs.Asserted.{AcceptedFindDigest, Says, DemandsValue, IsAmong, evaluated_policy}
 use Rattle.tpm_policy_meaning.specs.Expression.{PolicyAuthValue, PolicyPassword}
 

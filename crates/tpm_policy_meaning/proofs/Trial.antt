@@ -7,8 +7,8 @@ use Rattle.tpm_mac.specs.Digest.{digest_size, hash_of}
 use Rattle.tpm_mac.specs.declared.algorithm.HashAlg.{HashAlg}
 use Rattle.tpm_mac.specs.declared.algorithm.HashAlg.TheVariants as alg
 use Rattle.tpm_policy.specs.Assertion.{auth_value_asserted, or_digest, password_asserted, yes_no_text}
-use Rattle.tpm_types.specs.Buffer.{is_given}
-use Rattle.tpm_types.specs.PcrSelection.{selection_text}
+use Rattle.tpm_types_common.specs.Buffer.{is_given}
+use Rattle.tpm_types_common.specs.PcrSelection.{selection_text}
 use Rattle.tpm_commands.specs.CommandCode.{code_number}
 use Rattle.tpm_commands.specs.declared.command_code.CommandCode.{CommandCode}
 use Rattle.tpm_commands.specs.declared.command_code.CommandCode.TheVariants as command

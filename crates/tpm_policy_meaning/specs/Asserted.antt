@@ -8,7 +8,7 @@ use Rattle.tpm_policy.specs.Assertion.{Assertion, asserted_policy, yes_no_text}
 use Rattle.tpm_policy.specs.Made.{policy_with}
 use Rattle.tpm_policy.specs.State.{Policy, starting}
 use Rattle.tpm_policy.specs.declared.state.Demand.TheVariants as demand
-use Rattle.tpm_types.specs.PcrSelection.{selection_text}
+use Rattle.tpm_types_common.specs.PcrSelection.{selection_text}
 use Rattle.std.specs.Int.{w32, to_be_bytes}
 use Rattle.tpm_commands.specs.declared.command_code.CommandCode.TheVariants as command
 use Rattle.tpm_policy_meaning.specs.Expression.{PolicyAssertion, PolicyPcr, PolicyAuthValue}

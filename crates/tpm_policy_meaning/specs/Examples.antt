@@ -5,7 +5,7 @@
 -- same digests.
 use Rattle.std.specs.Prelude.{◌≡◌, ℕ, List, [], ◌∷◌}
 use Rattle.tpm_mac.specs.declared.algorithm.HashAlg.TheVariants as alg
-use Rattle.tpm_types.specs.declared.operation.Operation.TheVariants as operation
+use Rattle.tpm_types_common.specs.declared.operation.Operation.TheVariants as operation
 use Rattle.tpm_policy_meaning.specs.Expression.{PolicyExpression, Nothing, Then, PolicyOr, NoBranch}
 use Rattle.tpm_policy_meaning.specs.Expression.{Branch}
 use Rattle.tpm_policy_meaning.specs.Expression.{PolicyPcr, PolicyAuthValue, PolicyCommandCode}

@@ -2,8 +2,8 @@
 -- section 23. A policy consists of assertions. Each assertion is made by the command with the same
 -- name. TPM2_PolicyOR offers a choice between several policies.
 use Rattle.std.specs.Prelude.{ℕ, Bool, List}
-use Rattle.tpm_types.specs.declared.operation.Operation.{Operation}
-use Rattle.tpm_types.specs.declared.pcr_selection.BankSelection.{BankSelection}
+use Rattle.tpm_types_common.specs.declared.operation.Operation.{Operation}
+use Rattle.tpm_types_common.specs.declared.pcr_selection.BankSelection.{BankSelection}
 
 -- An assertion of a policy, and what it requires when the entity is used.
 pub data PolicyAssertion : Type 0 where

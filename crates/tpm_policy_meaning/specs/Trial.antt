@@ -3,7 +3,7 @@ use Rattle.std.specs.Prelude.{◌≡◌, ℕ, List, [], ◌∷◌, true, Ok}
 use Rattle.tpm_mac.specs.declared.algorithm.HashAlg.{HashAlg}
 use Rattle.tpm_policy.specs.Assertion as assertion
 use Rattle.tpm_policy.specs.Assertion.{Assertion}
-use Rattle.tpm_types.specs.PcrSelection.{selection_text}
+use Rattle.tpm_types_common.specs.PcrSelection.{selection_text}
 use Rattle.tpm_policy_meaning.specs.Asserted.{evaluated_policy}
 use Rattle.tpm_policy_meaning.specs.Expression.{PolicyAssertion, PolicyPcr, PolicyAuthValue}
 use Rattle.tpm_policy_meaning.specs.Expression.{PolicyPassword, PolicyCommandCode, PolicyLocality}

@@ -4,7 +4,7 @@ use Rattle.std.proofs.Common.{◌≡◌, ◌≢◌, ℕ, [], ◌∷◌, List, ge
 use Rattle.tpm_record.specs.Entity.{entity_at, object_of}
 use Rattle.tpm_record.specs.Hierarchy.{manufactured_hierarchies}
 use Rattle.std.specs.Prelude.{replicate}
-use Rattle.tpm_types.specs.declared.handle.Handle.{Handle}
+use Rattle.tpm_types_common.specs.declared.handle.Handle.{Handle}
 use Rattle.tpm_record.specs.Record.{Record}
 use Rattle.tpm_nv.specs.Index.{NvIndex}
 use Rattle.tpm_step.proofs.history.Following.{manufactured_follows}

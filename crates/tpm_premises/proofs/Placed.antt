@@ -1,7 +1,7 @@
 -- Proves, by computation, the example of an object that came from a saved context.
 use Rattle.std.proofs.Common.{arith, refl}
 use Rattle.tpm_containers.specs.Numbered.{at_number}
-use Rattle.tpm_types.specs.AuthValue.{trimmed}
+use Rattle.tpm_types_common.specs.AuthValue.{trimmed}
 use Rattle.tpm_record.specs.Objects.{object_at}
 use Rattle.tpm_premises.specs.Placed.{IsPlaced}
 

@@ -3,10 +3,10 @@ use Rattle.std.proofs.Common.{◌≡◌, ◌≢◌, [], ◌∷◌, Some, None, O
 use Rattle.tpm_commands.specs.CommandCode.{code_named, shape_of}
 use Rattle.tpm_actions_device.specs.StartAuthSession.{parameters_in}
 use Rattle.std.specs.Prelude.{replicate}
-use Rattle.tpm_types.specs.Algorithm.{hash_at}
-use Rattle.tpm_types.specs.Buffer.{buffer_at}
-use Rattle.tpm_types.specs.SessionType.{session_type_at}
-use Rattle.tpm_types.specs.Symmetric.{symmetric_at}
+use Rattle.tpm_types_common.specs.Algorithm.{hash_at}
+use Rattle.tpm_types_common.specs.Buffer.{buffer_at}
+use Rattle.tpm_types_common.specs.SessionType.{session_type_at}
+use Rattle.tpm_types_common.specs.Symmetric.{symmetric_at}
 use Rattle.tpm_types_command.specs.AuthArea.{area_at}
 use Rattle.tpm_types_command.specs.AuthEntry.{entry_at}
 use Rattle.tpm_types_command.specs.Command.{command_at}

@@ -1,7 +1,7 @@
 -- Proves, by computation, the example of an object that is used through its policy.
 use Rattle.std.proofs.Common.{refl}
 use Rattle.tpm_commands.specs.CommandCode.{shape_of}
-use Rattle.tpm_types.specs.Handle.{numbered_handle}
+use Rattle.tpm_types_common.specs.Handle.{numbered_handle}
 use Rattle.tpm_premises.specs.Uses.{HasUse}
 
 pub has_use : HasUse

@@ -1,7 +1,7 @@
 -- An example of an object that is saved, and whose context is loaded again.
 use Rattle.std.specs.Prelude.{◌≡◌, true, Some, None, Ok}
 use Rattle.tpm_object.specs.Object.{IsObject}
-use Rattle.tpm_types.specs.Handle.{is_transient}
+use Rattle.tpm_types_common.specs.Handle.{is_transient}
 use Rattle.tpm_record.specs.IsRecord.{IsRecord}
 use Rattle.tpm_record.specs.Objects.{next_handle, object_at}
 use Rattle.tpm_record.specs.Record.{Record}

@@ -2,9 +2,9 @@
 use Rattle.std.specs.Prelude.{◌≡◌, [], ◌∷◌, Some}
 use Rattle.tpm_mac.specs.declared.algorithm.HashAlg.TheVariants as alg
 use Rattle.tpm_object.specs.declared.object.Object.{Object}
-use Rattle.tpm_types.specs.Handle.{numbered_handle}
-use Rattle.tpm_types.specs.declared.handle.Handle.{Handle}
-use Rattle.tpm_types.specs.declared.handle.HierarchyHandle.TheVariants as hierarchy
+use Rattle.tpm_types_common.specs.Handle.{numbered_handle}
+use Rattle.tpm_types_common.specs.declared.handle.Handle.{Handle}
+use Rattle.tpm_types_common.specs.declared.handle.HierarchyHandle.TheVariants as hierarchy
 use Rattle.tpm_types_object.specs.declared.public.KeyedHashScheme.TheVariants as scheme
 use Rattle.tpm_types_object.specs.declared.public.PublicParameters.TheVariants as parameters_of
 use Rattle.tpm_record.specs.Objects.{object_at}

@@ -2,9 +2,9 @@
 use Rattle.std.specs.Prelude.{List, ℕ, [], ◌∷◌, ◌++◌, Some, None, replicate}
 use Rattle.tpm_mac.specs.declared.algorithm.HashAlg.TheVariants as alg
 use Rattle.tpm_commands.specs.declared.command_code.CommandCode.TheVariants as command
-use Rattle.tpm_types.specs.Handle.{null_handle, numbered_handle}
-use Rattle.tpm_types.specs.declared.session_type.SessionType.TheVariants as type
-use Rattle.tpm_types.specs.declared.symmetric.SymmetricDefinition.TheVariants as symmetric
+use Rattle.tpm_types_common.specs.Handle.{null_handle, numbered_handle}
+use Rattle.tpm_types_common.specs.declared.session_type.SessionType.TheVariants as type
+use Rattle.tpm_types_common.specs.declared.symmetric.SymmetricDefinition.TheVariants as symmetric
 use Rattle.tpm_types_command.specs.AuthEntry.{Entry}
 use Rattle.tpm_record.specs.rows.Answer.{Plain, nothing}
 use Rattle.tpm_step.specs.history.History.{AcceptedCommand, Done}

@@ -2,7 +2,7 @@
 use Rattle.std.specs.Prelude.{[], ◌∷◌, None, replicate}
 use Rattle.tpm_mac.specs.declared.algorithm.HashAlg.TheVariants as alg
 use Rattle.tpm_commands.specs.declared.command_code.CommandCode.TheVariants as command
-use Rattle.tpm_types.specs.Handle.{numbered_handle}
+use Rattle.tpm_types_common.specs.Handle.{numbered_handle}
 use Rattle.tpm_types_object.specs.declared.public.KeyedHashScheme.TheVariants as scheme
 use Rattle.tpm_types_object.specs.declared.public.Public.{Public}
 use Rattle.tpm_types_object.specs.declared.public.PublicParameters.TheVariants as parameters_of

@@ -1,15 +1,15 @@
 -- How a transient or persistent object is added to a record or removed from it, and how the next
 -- handle that belongs to an object is found. TPM 2.0 Library, Part 1, sections 15.6 (transient
 -- objects) and 37.3 (persistent objects).
-use Rattle.tpm_types.specs.Limits.{object_limit, persistent_limit}
+use Rattle.tpm_types_common.specs.Limits.{object_limit, persistent_limit}
 use Rattle.std.specs.Prelude.{◌≡◌, ℕ, zero, suc, ◌&&◌, nat_le, Bool, is_some, if◌then◌else◌, List, Option, Some, None, option_map, Result}
 use Rattle.tpm_object.specs.declared.object.Object.{Object}
 use Rattle.tpm_containers.specs.Numbered.{number_of}
 use Rattle.tpm_containers.specs.declared.slots.SlotFault.{SlotFault}
 use Rattle.tpm_containers.specs.SortedMap.{PutsKey}
 use Rattle.tpm_containers.specs.declared.sorted_map.KeyFault.{KeyFault}
-use Rattle.tpm_types.specs.Handle.{is_persistent}
-use Rattle.tpm_types.specs.declared.handle.Handle.{Handle}
+use Rattle.tpm_types_common.specs.Handle.{is_persistent}
+use Rattle.tpm_types_common.specs.declared.handle.Handle.{Handle}
 use Rattle.tpm_record.specs.Objects.{Adds, object_at, object_handle, without_object}
 use Rattle.tpm_record.specs.Persistent.{next_persistent, without_persistent}
 use Rattle.tpm_record.specs.Record.{Record}

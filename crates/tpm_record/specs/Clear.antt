@@ -7,8 +7,8 @@ use Rattle.tpm_object.specs.Object.{transient_byte}
 use Rattle.tpm_object.specs.declared.object.Object.{Object}
 use Rattle.tpm_containers.specs.Numbered.{at_number}
 use Rattle.tpm_containers.specs.Slots.{taken_count}
-use Rattle.tpm_types.specs.declared.handle.HierarchyHandle.{HierarchyHandle}
-use Rattle.tpm_types.specs.declared.handle.HierarchyHandle.TheVariants as hierarchy
+use Rattle.tpm_types_common.specs.declared.handle.HierarchyHandle.{HierarchyHandle}
+use Rattle.tpm_types_common.specs.declared.handle.HierarchyHandle.TheVariants as hierarchy
 
 -- whether TPM2_Clear removes the objects in a hierarchy
 abbrev pub is_cleared : HierarchyHandle → Bool

@@ -7,7 +7,7 @@ use Rattle.tpm_containers.specs.Numbered.{at_number, number_of, without_number}
 use Rattle.tpm_containers.specs.Slots.{lowest_free}
 use Rattle.tpm_containers.specs.declared.slots.SlotFault.{SlotFault}
 use Rattle.tpm_containers.specs.declared.slots.SlotFault.TheVariants.{Full, NoMemory}
-use Rattle.tpm_types.specs.declared.handle.Handle.{Handle}
+use Rattle.tpm_types_common.specs.declared.handle.Handle.{Handle}
 use Rattle.tpm_record.specs.declared.objects.Objects.{Objects}
 
 -- the slots of the transient objects. The function `places` returns the slots of their container

@@ -1,15 +1,15 @@
 -- The persistent objects of a device, in ascending order of handle. TPM 2.0 Library, Part 1,
 -- section 37.3 (owner and platform evict objects), and Part 2, section 7.2 (TPM_HT_PERSISTENT: a
 -- handle whose highest byte is 81).
-use Rattle.tpm_types.specs.Limits.{persistent_limit}
+use Rattle.tpm_types_common.specs.Limits.{persistent_limit}
 use Rattle.std.specs.Prelude.{◌≡◌, ℕ, ◌≤◌, Bool, true, false, [], length, Option}
 use Rattle.tpm_containers.specs.SortedMap.{AreEach, Ascends, Entries, at_key, key_from, with_key, without_key}
 use Rattle.tpm_object.specs.Object.{IsObject}
 use Rattle.tpm_object.specs.declared.object.Object.{Object}
-use Rattle.tpm_types.specs.Handle.{is_persistent, numbered_handle}
-use Rattle.tpm_types.specs.declared.handle.Handle.{Handle}
-use Rattle.tpm_types.specs.declared.handle.HierarchyHandle.{HierarchyHandle}
-use Rattle.tpm_types.specs.declared.handle.HierarchyHandle.TheVariants as hierarchy
+use Rattle.tpm_types_common.specs.Handle.{is_persistent, numbered_handle}
+use Rattle.tpm_types_common.specs.declared.handle.Handle.{Handle}
+use Rattle.tpm_types_common.specs.declared.handle.HierarchyHandle.{HierarchyHandle}
+use Rattle.tpm_types_common.specs.declared.handle.HierarchyHandle.TheVariants as hierarchy
 
 abbrev pub no_persistent : Entries Object
 no_persistent = []

@@ -1,6 +1,6 @@
 -- Handles with the entities that they name. Each entity is looked up only once.
 use Rattle.std.specs.Prelude.{◌≡◌, List, map}
-use Rattle.tpm_types.specs.declared.handle.Handle.{Handle}
+use Rattle.tpm_types_common.specs.declared.handle.Handle.{Handle}
 use Rattle.tpm_record.specs.Entity.{Entity, entity_at, entity_seen}
 use Rattle.tpm_record.specs.Record.{Record}
 use Rattle.tpm_record.specs.declared.entity.Resolved.{Resolved}

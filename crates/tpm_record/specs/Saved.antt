@@ -3,8 +3,8 @@
 use Rattle.std.specs.Prelude.{Option, Some, None}
 use Rattle.tpm_pcr.specs.Saved.{IsSaved, SavedValues, restored_in, saved_of}
 use Rattle.tpm_pcr.specs.Values.{BankValues}
-use Rattle.tpm_types.specs.declared.startup_type.StartupType.{StartupType}
-use Rattle.tpm_types.specs.declared.startup_type.StartupType.TheVariants as type
+use Rattle.tpm_types_common.specs.declared.startup_type.StartupType.{StartupType}
+use Rattle.tpm_types_common.specs.declared.startup_type.StartupType.TheVariants as type
 use Rattle.tpm_record.specs.declared.saved.SavedKind.{SavedKind}
 use Rattle.tpm_record.specs.declared.saved.SavedKind.TheVariants as kind
 

@@ -5,13 +5,13 @@ ghost use Rattle.tpm_record.specs.AnyObject.{AddsObject, AddsPersistent, next_ob
 ghost use Rattle.tpm_record.specs.AnyObject.{without_object_of};
 ghost use Rattle.tpm_record.specs.Entity.{object_of};
 ghost use Rattle.tpm_record.specs.Persistent.{can_persist};
-ghost use Rattle.tpm_types.specs.Handle.{is_persistent};
+ghost use Rattle.tpm_types_common.specs.Handle.{is_persistent};
 
 use crate::keep::Keep;
 use crate::persistent::PersistentObjects;
 use tpm_containers::{KeyFault, SlotFault, numbered};
 use tpm_object::{Object, TRANSIENT_BYTE};
-use tpm_types::{Handle, OBJECT_LIMIT};
+use tpm_types_common::{Handle, OBJECT_LIMIT};
 
 /// Adds a transient object with the lowest free handle, and returns the handle.
 pub fn add_object<K: Keep>(keep: &mut K, object: Object) -> Result<Handle, SlotFault>

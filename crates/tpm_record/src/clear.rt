@@ -2,12 +2,12 @@
 
 ghost use Rattle.std.specs.Prelude.{◌≡◌, None, if◌then◌else◌, length, option_copied, slice_set};
 ghost use Rattle.tpm_containers.specs.Slots.{at_place};
-ghost use Rattle.tpm_types.specs.Limits.{object_limit};
+ghost use Rattle.tpm_types_common.specs.Limits.{object_limit};
 ghost use Rattle.tpm_record.specs.Clear.{cleared_objects, is_cleared, is_place_cleared};
 
 use tpm_containers::{Choice, Slots};
 use tpm_object::Object;
-use tpm_types::{HierarchyHandle, OBJECT_LIMIT};
+use tpm_types_common::{HierarchyHandle, OBJECT_LIMIT};
 
 /// Whether TPM2_Clear removes the objects in a hierarchy.
 fn is_cleared(hierarchy: HierarchyHandle) -> bool

@@ -22,7 +22,7 @@ use tpm_containers::Slots;
 use tpm_nv::Indices;
 use tpm_object::Object;
 use tpm_session::{Session, Sessions};
-use tpm_types::{OBJECT_LIMIT, SESSION_LIMIT};
+use tpm_types_common::{OBJECT_LIMIT, SESSION_LIMIT};
 
 /// A type that contains the device's state. In contracts, a value of this type is the record that
 /// it represents.

@@ -13,7 +13,7 @@ use tpm_containers::{ListSlots, Slots};
 use tpm_nv::{Indices, ListIndices};
 use tpm_object::Object;
 use tpm_session::{Session, Sessions};
-use tpm_types::{OBJECT_LIMIT, SESSION_LIMIT};
+use tpm_types_common::{OBJECT_LIMIT, SESSION_LIMIT};
 
 /// The device's state, with any kind of containers for its sessions, its transient and persistent
 /// objects, and its NV indices.

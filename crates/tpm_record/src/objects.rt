@@ -1,6 +1,6 @@
 //! The transient objects of a device as a map keyed by handle, and laws about this map.
 
-ghost use Rattle.tpm_types.specs.Limits.{object_limit};
+ghost use Rattle.tpm_types_common.specs.Limits.{object_limit};
 ghost use Rattle.std.specs.Prelude.{◌≡◌, ◌<◌, is_some, length, option_copied};
 ghost use Rattle.tpm_object.specs.Object.{IsObject, transient_byte};
 ghost use Rattle.tpm_containers.specs.Numbered.{MapLaws};
@@ -13,7 +13,7 @@ use crate::clear::clear_places;
 use std::alloc::Global;
 use tpm_containers::{SlotFault, Slots, numbered};
 use tpm_object::{Object, TRANSIENT_BYTE};
-use tpm_types::{Handle, OBJECT_LIMIT};
+use tpm_types_common::{Handle, OBJECT_LIMIT};
 
 /// The transient objects of a device, at most [`OBJECT_LIMIT`], keyed by handle. `O` contains
 /// their slots.

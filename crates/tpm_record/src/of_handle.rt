@@ -1,14 +1,14 @@
 //! Facts about the entity that a handle names. Each call looks the handle up again.
 
 ghost use Rattle.std.specs.Prelude.{◌≡◌, ◌≤◌, length};
-ghost use Rattle.tpm_types.specs.AuthValue.{trimmed};
+ghost use Rattle.tpm_types_common.specs.AuthValue.{trimmed};
 ghost use Rattle.tpm_record.specs.Entity.{auth_value_of, is_present, name_of, protection_of};
 
 use crate::entity::resolve;
 use crate::keep::Keep;
 use tpm_name::Name;
 use tpm_session::Protection;
-use tpm_types::{AuthValue, Handle};
+use tpm_types_common::{AuthValue, Handle};
 
 /// Whether the entity that a handle names exists.
 #[tactic(auto, unfolding(crate::specs::Entity::is_present))]

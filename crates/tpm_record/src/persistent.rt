@@ -1,20 +1,20 @@
 //! The persistent objects of a device, keyed by handle: the trait, and the types that implement
 //! it.
 
-ghost use Rattle.tpm_types.specs.Limits.{persistent_limit};
+ghost use Rattle.tpm_types_common.specs.Limits.{persistent_limit};
 ghost use Rattle.std.specs.Prelude.{◌≡◌, Bool, is_some, length, option_copied, true};
 ghost use Rattle.tpm_containers.specs.SortedMap.{Entries, PutsKey};
 ghost use Rattle.tpm_object.specs.declared.object.Object.{Object as ObjectParts};
 ghost use Rattle.tpm_record.specs.Clear.{cleared_persistent};
 ghost use Rattle.tpm_record.specs.Persistent.{ArePersistent, can_persist, next_persistent, no_persistent, persistent_at, without_persistent};
-ghost use Rattle.tpm_types.specs.Handle.{is_persistent};
+ghost use Rattle.tpm_types_common.specs.Handle.{is_persistent};
 
 use crate::clear::Outlasting;
 use std::alloc::Global;
 use std::marker::Model;
 use tpm_containers::{KeyFault, ListMap, Sizes, SlotMap, SortedMap};
 use tpm_object::Object;
-use tpm_types::{Handle, PERSISTENT_LIMIT};
+use tpm_types_common::{Handle, PERSISTENT_LIMIT};
 
 /// The persistent objects of a device, at most [`PERSISTENT_LIMIT`], keyed by handle. The functions
 /// do not check whether the caller may make an object persistent or remove it.

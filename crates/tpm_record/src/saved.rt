@@ -6,7 +6,7 @@ ghost use Rattle.tpm_record.specs.Saved.{Clear, IsSavedState, Nothing, State, ki
 
 use std::marker::Model;
 use tpm_pcr::{Banks, SavedPcrs};
-use tpm_types::StartupType;
+use tpm_types_common::StartupType;
 
 /// The kind of the last TPM2_Shutdown; `Nothing` if there was no shutdown, or if the state that it
 /// saved was discarded.

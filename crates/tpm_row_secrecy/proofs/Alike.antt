@@ -5,7 +5,7 @@ use Rattle.std.specs.Prelude.{Bool, Err, None, Ok, Option, Result, Some, false, 
 use Rattle.tpm_bytes.specs.Reading.{or_fault, ◌>>=◌}
 use Rattle.tpm_containers.specs.Slots.{free}
 use Rattle.tpm_record.specs.rows.Refusals.{or_refusal}
-use Rattle.tpm_types.specs.declared.refused.Refused.{Refused}
+use Rattle.tpm_types_common.specs.declared.refused.Refused.{Refused}
 use Rattle.tpm_row_secrecy.specs.Alike.{Alike, outcome}
 
 pub alike_end : {A B E : Type 0} (see : A → B) (a b : A) → see a ≡ see b

@@ -12,7 +12,7 @@ use Rattle.tpm_record.specs.declared.fixed.Fixed.{Fixed}
 use Rattle.tpm_record.specs.declared.hierarchy.Hierarchies.{Hierarchies}
 use Rattle.tpm_session.specs.declared.session.Binding.{Binding}
 use Rattle.tpm_session.specs.declared.session.Session.{Session}
-use Rattle.tpm_types.specs.Limits.{object_limit, session_limit}
+use Rattle.tpm_types_common.specs.Limits.{object_limit, session_limit}
 use Rattle.tpm_row_secrecy.proofs.Each.{each, each_again, free_each, places, places_again}
 use Rattle.tpm_row_secrecy.specs.Secrecy.{Secrecy, bare_binding, bare_fixed, bare_hierarchies, bare_index, bare_nv, bare_object, bare_session, has_secret_key, unless, without_secrets}
 

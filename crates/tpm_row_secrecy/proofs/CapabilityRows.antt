@@ -23,9 +23,9 @@ use Rattle.tpm_record.specs.Record.{Record}
 use Rattle.tpm_record.specs.rows.Request.{Request}
 use Rattle.tpm_session.specs.Sessions.{handle_of}
 use Rattle.tpm_session.specs.declared.session.Session.{Session}
-use Rattle.tpm_types.specs.Handle.{numbered_handle}
-use Rattle.tpm_types.specs.Limits.{object_limit, session_limit}
-use Rattle.tpm_types.specs.declared.refused.Refused.{Refused}
+use Rattle.tpm_types_common.specs.Handle.{numbered_handle}
+use Rattle.tpm_types_common.specs.Limits.{object_limit, session_limit}
+use Rattle.tpm_types_common.specs.declared.refused.Refused.{Refused}
 use Rattle.tpm_row_secrecy.proofs.Each.{each, is_some_of, place_of_each}
 use Rattle.tpm_row_secrecy.proofs.Entities.{object_at_bare}
 use Rattle.tpm_row_secrecy.proofs.Steps.{same_both, same_step, same_unchanged}

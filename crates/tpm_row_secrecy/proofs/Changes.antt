@@ -18,7 +18,7 @@ use Rattle.tpm_nv.specs.Index.{NvContents, NvIndex, changed_index, has_room, ind
 use Rattle.tpm_nv.specs.Startup.{contents_after_startup, kept_written, started_index}
 use Rattle.tpm_nv.specs.declared.fault.ReadFault.{ReadFault}
 use Rattle.tpm_nv.specs.declared.fault.WriteFault.{WriteFault}
-use Rattle.tpm_types.specs.declared.handle.Handle.{Handle}
+use Rattle.tpm_types_common.specs.declared.handle.Handle.{Handle}
 use Rattle.tpm_types_nv.specs.NvAttributes.{has, is_of}
 use Rattle.tpm_types_nv.specs.declared.nv_attributes.NvAttribute.{NvAttribute}
 use Rattle.tpm_row_secrecy.proofs.Alike.{alike_end, alike_found, alike_step, either_free, success}

@@ -37,20 +37,20 @@ use Rattle.tpm_record.specs.rows.Answer.{AnswerParts, nothing}
 use Rattle.tpm_record.specs.rows.Refusals.{action_refusal, or_refusal}
 use Rattle.tpm_record.specs.rows.Request.{Request, first_handle}
 use Rattle.tpm_record.specs.rows.Rows.{all_read, only}
-use Rattle.tpm_types.specs.AuthValue.{auth_value_at}
-use Rattle.tpm_types.specs.Handle.{hierarchy_auth_of}
-use Rattle.tpm_types.specs.Rc.{plain}
-use Rattle.tpm_types.specs.StartupType.{startup_type_at}
-use Rattle.tpm_types.specs.declared.handle.HierarchyAuth.{HierarchyAuth}
+use Rattle.tpm_types_common.specs.AuthValue.{auth_value_at}
+use Rattle.tpm_types_common.specs.Handle.{hierarchy_auth_of}
+use Rattle.tpm_types_common.specs.Rc.{plain}
+use Rattle.tpm_types_common.specs.StartupType.{startup_type_at}
+use Rattle.tpm_types_common.specs.declared.handle.HierarchyAuth.{HierarchyAuth}
 use Rattle.tpm_row_secrecy.proofs.Bare.{hierarchies_again, object_again, objects_again, persistent_again, same_parts, sessions_again, unless_again, with_fixed}
 use Rattle.tpm_row_secrecy.proofs.Changes.{cleared_same, started_same}
 use Rattle.tpm_row_secrecy.proofs.Each.{all_places_same, kept_same, places}
 use Rattle.tpm_row_secrecy.proofs.Steps.{same_change, same_end, same_step, same_steps}
 use Rattle.tpm_row_secrecy.specs.Alike.{Same}
 use Rattle.tpm_row_secrecy.specs.Secrecy.{Secrecy, bare_fixed, bare_hierarchies, bare_nv, bare_object, without_secrets}
-use Rattle.tpm_types.specs.declared.action_check.ActionCheck.TheVariants as action
-use Rattle.tpm_types.specs.declared.rc.ResponseCode.TheVariants as code
-use Rattle.tpm_types.specs.declared.handle.HierarchyAuth.TheVariants as auth
+use Rattle.tpm_types_common.specs.declared.action_check.ActionCheck.TheVariants as action
+use Rattle.tpm_types_common.specs.declared.rc.ResponseCode.TheVariants as code
+use Rattle.tpm_types_common.specs.declared.handle.HierarchyAuth.TheVariants as auth
 
 module _ (s : Secrecy) (r : Record) (q : Request) where
   pub self_test_tells : Same s (self_test_row (without_secrets s r) q) (self_test_row r q)

@@ -16,15 +16,15 @@ use Rattle.tpm_record.specs.declared.entity.Means.{Means}
 use Rattle.tpm_record.specs.declared.hierarchy.Hierarchies.{Hierarchies}
 use Rattle.tpm_session.specs.Sessions.{session_at, session_byte}
 use Rattle.tpm_session.specs.declared.session.Session.{Session}
-use Rattle.tpm_types.specs.Handle.{hierarchy_auth_of, is_nv_index, is_persistent, is_session}
-use Rattle.tpm_types.specs.declared.handle.Handle.{Handle}
-use Rattle.tpm_types.specs.declared.handle.HierarchyAuth.{HierarchyAuth}
-use Rattle.tpm_types.specs.declared.nv_use.NvUse.{NvUse}
+use Rattle.tpm_types_common.specs.Handle.{hierarchy_auth_of, is_nv_index, is_persistent, is_session}
+use Rattle.tpm_types_common.specs.declared.handle.Handle.{Handle}
+use Rattle.tpm_types_common.specs.declared.handle.HierarchyAuth.{HierarchyAuth}
+use Rattle.tpm_types_common.specs.declared.nv_use.NvUse.{NvUse}
 use Rattle.tpm_row_secrecy.proofs.Bare.{unless_open}
 use Rattle.tpm_row_secrecy.proofs.Each.{at_each, at_number_each, chosen, each, is_some_of, places}
 use Rattle.tpm_row_secrecy.specs.Secrecy.{CoversKeys, Secrecy, bare_hierarchies, bare_index, bare_nv, bare_object, bare_session, entity_has_secret_value, has_secret_value, unless, without_secrets}
-use Rattle.tpm_types.specs.declared.handle.HierarchyAuth.TheVariants as auth
-use Rattle.tpm_types.specs.declared.nv_use.NvUse.TheVariants as does
+use Rattle.tpm_types_common.specs.declared.handle.HierarchyAuth.TheVariants as auth
+use Rattle.tpm_types_common.specs.declared.nv_use.NvUse.TheVariants as does
 use Rattle.tpm_record.specs.declared.entity.Means.TheVariants as means
 
 module _ (s : Secrecy) where

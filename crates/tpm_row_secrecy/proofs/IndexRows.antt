@@ -30,13 +30,13 @@ use Rattle.tpm_record.specs.rows.Refusals.{action_refusal, fault_refusal, handle
 use Rattle.tpm_record.specs.rows.Request.{Request, first_handle, second_handle}
 use Rattle.tpm_record.specs.rows.Rows.{Success, all_read, only, unchanged_success}
 use Rattle.tpm_record.specs.rows.Target.{reading_passes, target_of}
-use Rattle.tpm_types.specs.AuthValue.{auth_value_at}
-use Rattle.tpm_types.specs.Buffer.{buffer_at}
-use Rattle.tpm_types.specs.Handle.{platform_handle}
-use Rattle.tpm_types.specs.Limits.{data_limit}
-use Rattle.tpm_types.specs.Rc.{plain}
-use Rattle.tpm_types.specs.declared.handle.Handle.{Handle}
-use Rattle.tpm_types.specs.declared.refused.Refused.{Refused}
+use Rattle.tpm_types_common.specs.AuthValue.{auth_value_at}
+use Rattle.tpm_types_common.specs.Buffer.{buffer_at}
+use Rattle.tpm_types_common.specs.Handle.{platform_handle}
+use Rattle.tpm_types_common.specs.Limits.{data_limit}
+use Rattle.tpm_types_common.specs.Rc.{plain}
+use Rattle.tpm_types_common.specs.declared.handle.Handle.{Handle}
+use Rattle.tpm_types_common.specs.declared.refused.Refused.{Refused}
 use Rattle.tpm_row_secrecy.proofs.Alike.{alike_after, alike_both, alike_end, alike_fault, alike_step, either_free, refused_alike, success}
 use Rattle.tpm_row_secrecy.proofs.Bare.{with_nv}
 use Rattle.tpm_row_secrecy.proofs.Changes.{NvAlike, auth_alike, bits_alike, extended_alike, incremented_alike, is_there_bare, read_locked_alike, read_refused_alike, read_shown, room_bare, with_index_same, without_index_same, write_locked_alike, written_alike}
@@ -45,8 +45,8 @@ use Rattle.tpm_row_secrecy.specs.Alike.{Alike, Same, bare_success}
 use Rattle.tpm_row_secrecy.specs.Reads.{handle_passes, is_secret_counter, is_secret_index, names_index, reads_secret}
 use Rattle.tpm_row_secrecy.specs.Secrecy.{Secrecy, bare_nv, without_secrets}
 use Rattle.tpm_commands.specs.declared.command_code.CommandCode.TheVariants as command
-use Rattle.tpm_types.specs.declared.action_check.ActionCheck.TheVariants as action
-use Rattle.tpm_types.specs.declared.rc.ResponseCode.TheVariants as code
+use Rattle.tpm_types_common.specs.declared.action_check.ActionCheck.TheVariants as action
+use Rattle.tpm_types_common.specs.declared.rc.ResponseCode.TheVariants as code
 use Rattle.tpm_nvactions.specs.NvDefineSpace as definition
 use Rattle.tpm_nvactions.specs.NvRead as reading
 use Rattle.tpm_nvactions.specs.NvWrite as writing

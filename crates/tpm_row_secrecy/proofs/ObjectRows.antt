@@ -37,14 +37,14 @@ use Rattle.tpm_record.specs.rows.Answer.{AnswerParts, SizedFirst, nothing}
 use Rattle.tpm_record.specs.rows.Refusals.{action_refusal, handle_refusal}
 use Rattle.tpm_record.specs.rows.Request.{Request, first_handle, second_handle}
 use Rattle.tpm_record.specs.rows.Rows.{Success, all_read, only, unchanged_success}
-use Rattle.tpm_types.specs.Handle.{is_persistent, platform_handle}
-use Rattle.tpm_types.specs.Limits.{persistent_limit}
-use Rattle.tpm_types.specs.PersistentHandle.{persistent_handle_at}
-use Rattle.tpm_types.specs.Rc.{at, plain}
-use Rattle.tpm_types.specs.declared.action_check.ActionCheck.{ActionCheck}
-use Rattle.tpm_types.specs.declared.handle.Handle.{Handle}
-use Rattle.tpm_types.specs.declared.handle.HierarchyHandle.{HierarchyHandle}
-use Rattle.tpm_types.specs.declared.refused.Refused.{Refused}
+use Rattle.tpm_types_common.specs.Handle.{is_persistent, platform_handle}
+use Rattle.tpm_types_common.specs.Limits.{persistent_limit}
+use Rattle.tpm_types_common.specs.PersistentHandle.{persistent_handle_at}
+use Rattle.tpm_types_common.specs.Rc.{at, plain}
+use Rattle.tpm_types_common.specs.declared.action_check.ActionCheck.{ActionCheck}
+use Rattle.tpm_types_common.specs.declared.handle.Handle.{Handle}
+use Rattle.tpm_types_common.specs.declared.handle.HierarchyHandle.{HierarchyHandle}
+use Rattle.tpm_types_common.specs.declared.refused.Refused.{Refused}
 use Rattle.tpm_types_object.specs.ObjectAttributes.{has}
 use Rattle.tpm_types_object.specs.Public.{public_text}
 use Rattle.tpm_types_object.specs.declared.public.Public.{Public}
@@ -58,10 +58,10 @@ use Rattle.tpm_row_secrecy.specs.Alike.{Alike, Same, bare_success}
 use Rattle.tpm_row_secrecy.specs.Reads.{handle_passes, names_secret_object, reads_secret}
 use Rattle.tpm_row_secrecy.specs.Secrecy.{Secrecy, bare_hierarchies, bare_object, has_secret_data, unless, without_secrets}
 use Rattle.tpm_commands.specs.declared.command_code.CommandCode.TheVariants as command
-use Rattle.tpm_types.specs.declared.action_check.ActionCheck.TheVariants as action
-use Rattle.tpm_types.specs.declared.rc.ResponseCode.TheVariants as code
-use Rattle.tpm_types.specs.declared.rc.Place.TheVariants as place
-use Rattle.tpm_types.specs.declared.handle.HierarchyHandle.TheVariants as hierarchy
+use Rattle.tpm_types_common.specs.declared.action_check.ActionCheck.TheVariants as action
+use Rattle.tpm_types_common.specs.declared.rc.ResponseCode.TheVariants as code
+use Rattle.tpm_types_common.specs.declared.rc.Place.TheVariants as place
+use Rattle.tpm_types_common.specs.declared.handle.HierarchyHandle.TheVariants as hierarchy
 use Rattle.tpm_types_object.specs.declared.object_attributes.ObjectAttribute.TheVariants as attribute
 use Rattle.tpm_actions_object.specs.Creation as creation
 use Rattle.tpm_actions_object.specs.Load as loading

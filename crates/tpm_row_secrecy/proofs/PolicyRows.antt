@@ -29,15 +29,15 @@ use Rattle.tpm_record.specs.rows.Target.{reading_passes, target_of}
 use Rattle.tpm_session.specs.Session.{with_policy}
 use Rattle.tpm_session.specs.Sessions.{session_at, session_byte, with_session_policy}
 use Rattle.tpm_session.specs.declared.session.Session.{Session}
-use Rattle.tpm_types.specs.ActionFault.{plain_fault}
-use Rattle.tpm_types.specs.Buffer.{buffer_at}
-use Rattle.tpm_types.specs.DigestList.{digest_list_at}
-use Rattle.tpm_types.specs.Rc.{plain}
-use Rattle.tpm_types.specs.SessionType.{is_trial}
-use Rattle.tpm_types.specs.YesNo.{yes_no_at}
-use Rattle.tpm_types.specs.declared.action_fault.ActionFault.{ActionFault}
-use Rattle.tpm_types.specs.declared.handle.Handle.{Handle}
-use Rattle.tpm_types.specs.declared.refused.Refused.{Refused}
+use Rattle.tpm_types_common.specs.ActionFault.{plain_fault}
+use Rattle.tpm_types_common.specs.Buffer.{buffer_at}
+use Rattle.tpm_types_common.specs.DigestList.{digest_list_at}
+use Rattle.tpm_types_common.specs.Rc.{plain}
+use Rattle.tpm_types_common.specs.SessionType.{is_trial}
+use Rattle.tpm_types_common.specs.YesNo.{yes_no_at}
+use Rattle.tpm_types_common.specs.declared.action_fault.ActionFault.{ActionFault}
+use Rattle.tpm_types_common.specs.declared.handle.Handle.{Handle}
+use Rattle.tpm_types_common.specs.declared.refused.Refused.{Refused}
 use Rattle.tpm_row_secrecy.proofs.Alike.{alike_after, alike_both, alike_end, alike_found, alike_nested, alike_step_is, either_free}
 use Rattle.tpm_row_secrecy.proofs.Bare.{sessions_again, with_sessions}
 use Rattle.tpm_row_secrecy.proofs.Changes.{read_shown}
@@ -48,8 +48,8 @@ use Rattle.tpm_row_secrecy.specs.Alike.{Same, bare_success}
 use Rattle.tpm_row_secrecy.specs.Reads.{handle_passes, is_secret_index, names_index, names_policy_session, reads_secret}
 use Rattle.tpm_row_secrecy.specs.Secrecy.{Secrecy, bare_session, without_secrets}
 use Rattle.tpm_commands.specs.declared.command_code.CommandCode.TheVariants as command
-use Rattle.tpm_types.specs.declared.action_check.ActionCheck.TheVariants as action
-use Rattle.tpm_types.specs.declared.rc.ResponseCode.TheVariants as code
+use Rattle.tpm_types_common.specs.declared.action_check.ActionCheck.TheVariants as action
+use Rattle.tpm_types_common.specs.declared.rc.ResponseCode.TheVariants as code
 use Rattle.tpm_actions_policy.specs.PolicyNv as of_index
 use Rattle.tpm_actions_policy.specs.PolicySecret as of_secret
 use Rattle.tpm_policy.specs.Assertion as assertion

@@ -17,17 +17,17 @@ use Rattle.tpm_session.specs.Sessions.{session_at, session_byte, slots_without_s
 use Rattle.tpm_session.specs.declared.session.Binding.{Binding}
 use Rattle.tpm_session.specs.declared.session.Protection.{Protection}
 use Rattle.tpm_session.specs.declared.session.Session.{Session}
-use Rattle.tpm_types.specs.Handle.{is_session, null_handle}
-use Rattle.tpm_types.specs.Rc.{plain}
-use Rattle.tpm_types.specs.declared.handle.Handle.{Handle}
+use Rattle.tpm_types_common.specs.Handle.{is_session, null_handle}
+use Rattle.tpm_types_common.specs.Rc.{plain}
+use Rattle.tpm_types_common.specs.declared.handle.Handle.{Handle}
 use Rattle.tpm_row_secrecy.proofs.Bare.{object_again, session_again, unless_open, with_objects, with_sessions}
 use Rattle.tpm_row_secrecy.proofs.Each.{is_some_of, lowest_free_each, places, set_same, without_number_same}
 use Rattle.tpm_row_secrecy.proofs.Entities.{key_covered, name_bare, object_at_bare, protection_bare, session_at_bare, value_bare}
 use Rattle.tpm_row_secrecy.proofs.Steps.{same_both, same_end, same_step}
 use Rattle.tpm_row_secrecy.specs.Alike.{Same}
 use Rattle.tpm_row_secrecy.specs.Secrecy.{CoversKeys, Secrecy, bare_binding, bare_object, bare_session, has_secret_key, has_secret_value, unless, without_secrets}
-use Rattle.tpm_types.specs.declared.action_check.ActionCheck.TheVariants as action
-use Rattle.tpm_types.specs.declared.rc.ResponseCode.TheVariants as code
+use Rattle.tpm_types_common.specs.declared.action_check.ActionCheck.TheVariants as action
+use Rattle.tpm_types_common.specs.declared.rc.ResponseCode.TheVariants as code
 
 -- If the keys of sessions that are bound to a Name are not secret, erasing the secrets does not
 -- change a binding to this Name.

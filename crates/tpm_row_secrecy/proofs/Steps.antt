@@ -18,8 +18,8 @@ use Rattle.tpm_record.specs.rows.Rows.{Success, unchanged_success}
 use Rattle.tpm_record.specs.rows.Target.{attributes_of, index_or_refusal, target_of}
 use Rattle.tpm_session.specs.Sessions.{session_at}
 use Rattle.tpm_session.specs.declared.session.Session.{Session}
-use Rattle.tpm_types.specs.declared.handle.Handle.{Handle}
-use Rattle.tpm_types.specs.declared.refused.Refused.{Refused}
+use Rattle.tpm_types_common.specs.declared.handle.Handle.{Handle}
+use Rattle.tpm_types_common.specs.declared.refused.Refused.{Refused}
 use Rattle.tpm_types_nv.specs.declared.nv_attributes.NvAttributes.{NvAttributes}
 use Rattle.tpm_row_secrecy.proofs.Alike.{alike_after, alike_both, alike_end, alike_found, alike_refusal, alike_step, alike_step_is}
 use Rattle.tpm_row_secrecy.proofs.Bare.{record_again, with_nv}

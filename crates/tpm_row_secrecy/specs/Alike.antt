@@ -2,7 +2,7 @@
 -- visible part.
 use Rattle.std.specs.Prelude.{Err, Ok, Result, ◌≡◌}
 use Rattle.tpm_record.specs.rows.Rows.{Success}
-use Rattle.tpm_types.specs.declared.refused.Refused.{Refused}
+use Rattle.tpm_types_common.specs.declared.refused.Refused.{Refused}
 use Rattle.tpm_row_secrecy.specs.Secrecy.{Secrecy, without_secrets}
 
 -- a result in which a success is replaced by its visible part

@@ -14,13 +14,13 @@ use Rattle.tpm_record.specs.declared.hierarchy.Hierarchies.{Hierarchies}
 use Rattle.tpm_record.specs.declared.hierarchy.Hierarchy.{Hierarchy}
 use Rattle.tpm_session.specs.declared.session.Binding.{Binding}
 use Rattle.tpm_session.specs.declared.session.Session.{Session}
-use Rattle.tpm_types.specs.Handle.{hierarchy_auth_of}
-use Rattle.tpm_types.specs.declared.handle.Handle.{Handle}
-use Rattle.tpm_types.specs.declared.handle.HierarchyAuth.{HierarchyAuth}
+use Rattle.tpm_types_common.specs.Handle.{hierarchy_auth_of}
+use Rattle.tpm_types_common.specs.declared.handle.Handle.{Handle}
+use Rattle.tpm_types_common.specs.declared.handle.HierarchyAuth.{HierarchyAuth}
 use Rattle.tpm_types_name.specs.Name.{handle_name}
 use Rattle.tpm_types_nv.specs.declared.nv_public.NvPublic.{NvPublic}
 use Rattle.tpm_types_object.specs.declared.public.Public.{Public}
-use Rattle.tpm_types.specs.declared.handle.HierarchyAuth.TheVariants as auth
+use Rattle.tpm_types_common.specs.declared.handle.HierarchyAuth.TheVariants as auth
 
 -- a choice of what is secret on a device. Only public facts about an entity decide whether its
 -- values are secret

@@ -27,9 +27,9 @@ use Rattle.tpm_step.specs.step.Granted.{Granted, granted_entries}
 use Rattle.tpm_step.specs.step.Parameters.{asks_for, encrypted_answer, entry_parameters, session_bytes, session_parameters}
 use Rattle.tpm_step.specs.step.Step.{request_in}
 use Rattle.tpm_step.specs.declared.direction.Direction.{Direction}
-use Rattle.tpm_types.specs.SessionAttributes.{continues_session}
-use Rattle.tpm_types.specs.declared.handle.Handle.{Handle}
-use Rattle.tpm_types.specs.declared.session_type.SessionType.{SessionType}
+use Rattle.tpm_types_common.specs.SessionAttributes.{continues_session}
+use Rattle.tpm_types_common.specs.declared.handle.Handle.{Handle}
+use Rattle.tpm_types_common.specs.declared.session_type.SessionType.{SessionType}
 use Rattle.tpm_types_command.specs.AuthEntry.{Entry}
 use Rattle.tpm_types_command.specs.Command.{Whole}
 use Rattle.tpm_row_secrecy.proofs.Each.{changed_at_each, chosen, places, without_number_each}
@@ -39,7 +39,7 @@ use Rattle.tpm_secrecy.proofs.Authorizing.{neither, not_second, seen_session, se
 use Rattle.tpm_secrecy.proofs.Granted.{session_unused}
 use Rattle.tpm_secrecy.specs.Guesses.{NoneUses, demands_value, is_hmac_session, session_uses, uses_encryption, uses_secret}
 use Rattle.tpm_step.specs.declared.direction.Direction.TheVariants as direction
-use Rattle.tpm_types.specs.declared.session_type.SessionType.TheVariants as type
+use Rattle.tpm_types_common.specs.declared.session_type.SessionType.TheVariants as type
 
 module _ (s : Secrecy) (covers : CoversKeys s) where
   -- ---- new nonces

@@ -31,11 +31,11 @@ use Rattle.tpm_step.specs.step.Table.{row_of}
 use Rattle.tpm_step.specs.rows.Acceptance.{IsAcceptance}
 use Rattle.tpm_step.specs.rows.Handles.{HandlesFit}
 use Rattle.tpm_step.specs.rows.Sessions.{HasSession, HaveSessions}
-use Rattle.tpm_types.proofs.Named.{none}
-use Rattle.tpm_types.specs.Handle.{session_kind}
-use Rattle.tpm_types.specs.declared.handle.Handle.{Handle}
-use Rattle.tpm_types.specs.declared.handle.SessionKind.{SessionKind}
-use Rattle.tpm_types.specs.declared.refused.Refused.{Refused}
+use Rattle.tpm_types_common.proofs.Named.{none}
+use Rattle.tpm_types_common.specs.Handle.{session_kind}
+use Rattle.tpm_types_common.specs.declared.handle.Handle.{Handle}
+use Rattle.tpm_types_common.specs.declared.handle.SessionKind.{SessionKind}
+use Rattle.tpm_types_common.specs.declared.refused.Refused.{Refused}
 use Rattle.tpm_types_command.specs.AuthEntry.{Entry}
 use Rattle.tpm_types_command.specs.Command.{Whole}
 use Rattle.tpm_types_nv.specs.NvAttributes.{has}
@@ -46,7 +46,7 @@ use Rattle.tpm_secrecy.proofs.Granted.{comparison_gives, password_gives, weaker}
 use Rattle.tpm_secrecy.proofs.KeptSessions.{RowKeeps, SessionsKeep, rolled_starts, sessions_keep, start_of_session, starts_at}
 use Rattle.tpm_secrecy.proofs.KeptValues.{FirstStays, StaysOpen, first_stays}
 use Rattle.tpm_secrecy.specs.Guesses.{NoneUses, authorizes_secret, demands_value, is_hmac_session, session_uses, uses_by, uses_encryption}
-use Rattle.tpm_types.specs.declared.handle.SessionKind.TheVariants as kind
+use Rattle.tpm_types_common.specs.declared.handle.SessionKind.TheVariants as kind
 use Rattle.tpm_commands.specs.declared.command_code.CommandCode.TheVariants as command
 
 -- ---- the handle that an entry authorizes

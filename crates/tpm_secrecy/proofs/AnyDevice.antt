@@ -29,15 +29,15 @@ use Rattle.tpm_step.specs.step.Events.{Cycled, Given, Placed, PlainEvent}
 use Rattle.tpm_step.specs.step.General.{general}
 use Rattle.tpm_step.specs.step.Step.{Accepted, acceptance_in, request_in}
 use Rattle.tpm_step.specs.rows.Handles.{HandlesFit}
-use Rattle.tpm_types.specs.Algorithm.{hash_number}
-use Rattle.tpm_types.specs.Handle.{session_kind}
-use Rattle.tpm_types.specs.Rc.{plain}
-use Rattle.tpm_types.specs.Refused.{refusal}
-use Rattle.tpm_types.specs.SessionType.{is_trial}
-use Rattle.tpm_types.specs.declared.handle.Handle.{Handle}
-use Rattle.tpm_types.specs.declared.handle.SessionKind.{SessionKind}
-use Rattle.tpm_types.specs.declared.refused.Refused.{Refused}
-use Rattle.tpm_types.specs.declared.session_type.SessionType.{SessionType}
+use Rattle.tpm_types_common.specs.Algorithm.{hash_number}
+use Rattle.tpm_types_common.specs.Handle.{session_kind}
+use Rattle.tpm_types_common.specs.Rc.{plain}
+use Rattle.tpm_types_common.specs.Refused.{refusal}
+use Rattle.tpm_types_common.specs.SessionType.{is_trial}
+use Rattle.tpm_types_common.specs.declared.handle.Handle.{Handle}
+use Rattle.tpm_types_common.specs.declared.handle.SessionKind.{SessionKind}
+use Rattle.tpm_types_common.specs.declared.refused.Refused.{Refused}
+use Rattle.tpm_types_common.specs.declared.session_type.SessionType.{SessionType}
 use Rattle.tpm_types_command.specs.AuthEntry.{Entry}
 use Rattle.tpm_types_command.specs.Command.{Whole}
 use Rattle.tpm_types_object.specs.ObjectAttributes.{has}
@@ -49,10 +49,10 @@ use Rattle.tpm_secrecy.specs.SealedData.{sealed_secrecy}
 use Rattle.tpm_secrecy.specs.Tells.{is_reading}
 use Rattle.tpm_commands.specs.declared.command_code.CommandCode.TheVariants as command
 use Rattle.tpm_record.specs.declared.entity.Means.TheVariants as means
-use Rattle.tpm_types.specs.declared.check.Check.TheVariants as check
-use Rattle.tpm_types.specs.declared.handle.SessionKind.TheVariants as kind
-use Rattle.tpm_types.specs.declared.rc.ResponseCode.TheVariants as code
-use Rattle.tpm_types.specs.declared.session_type.SessionType.TheVariants as type
+use Rattle.tpm_types_common.specs.declared.check.Check.TheVariants as check
+use Rattle.tpm_types_common.specs.declared.handle.SessionKind.TheVariants as kind
+use Rattle.tpm_types_common.specs.declared.rc.ResponseCode.TheVariants as code
+use Rattle.tpm_types_common.specs.declared.session_type.SessionType.TheVariants as type
 use Rattle.tpm_types_object.specs.declared.object_attributes.ObjectAttribute.TheVariants as attribute
 
 -- ---- entries that authorize an object without userWithAuth

@@ -27,15 +27,15 @@ use Rattle.tpm_session.specs.declared.session.Binding.{Binding}
 use Rattle.tpm_session.specs.declared.session.Protection.{Protection}
 use Rattle.tpm_session.specs.declared.session.Session.{Session}
 use Rattle.tpm_step.proofs.rows.Binding.{asked}
-use Rattle.tpm_types.proofs.Spelled.{first}
-use Rattle.tpm_types.specs.Handle.{session_kind}
-use Rattle.tpm_types.specs.Refused.{checked_result}
-use Rattle.tpm_types.specs.SessionAttributes.{uses_cipher}
-use Rattle.tpm_types.specs.Symmetric.{is_null}
-use Rattle.tpm_types.specs.declared.handle.Handle.{Handle}
-use Rattle.tpm_types.specs.declared.handle.SessionKind.{SessionKind}
-use Rattle.tpm_types.specs.declared.refused.Refused.{Refused}
-use Rattle.tpm_types.specs.declared.session_type.SessionType.{SessionType}
+use Rattle.tpm_types_common.proofs.Spelled.{first}
+use Rattle.tpm_types_common.specs.Handle.{session_kind}
+use Rattle.tpm_types_common.specs.Refused.{checked_result}
+use Rattle.tpm_types_common.specs.SessionAttributes.{uses_cipher}
+use Rattle.tpm_types_common.specs.Symmetric.{is_null}
+use Rattle.tpm_types_common.specs.declared.handle.Handle.{Handle}
+use Rattle.tpm_types_common.specs.declared.handle.SessionKind.{SessionKind}
+use Rattle.tpm_types_common.specs.declared.refused.Refused.{Refused}
+use Rattle.tpm_types_common.specs.declared.session_type.SessionType.{SessionType}
 use Rattle.tpm_types_command.specs.AuthEntry.{Entry}
 use Rattle.tpm_types_command.specs.Command.{Whole}
 use Rattle.tpm_row_secrecy.proofs.Bare.{unless_open}
@@ -44,9 +44,9 @@ use Rattle.tpm_row_secrecy.specs.Secrecy.{CoversKeys, Secrecy, bare_binding, bar
 use Rattle.tpm_secrecy.specs.Guesses.{BindingHolds, is_demanding, is_hmac_session, session_uses, uses_encryption}
 use Rattle.tpm_policy.specs.declared.state.Demand.TheVariants as demand
 use Rattle.tpm_session.specs.declared.session.Protection.TheVariants as protection
-use Rattle.tpm_types.specs.declared.check.Check.TheVariants as check
-use Rattle.tpm_types.specs.declared.handle.SessionKind.TheVariants as kind
-use Rattle.tpm_types.specs.declared.session_type.SessionType.TheVariants as type
+use Rattle.tpm_types_common.specs.declared.check.Check.TheVariants as check
+use Rattle.tpm_types_common.specs.declared.handle.SessionKind.TheVariants as kind
+use Rattle.tpm_types_common.specs.declared.session_type.SessionType.TheVariants as type
 use Rattle.tpm_record.specs.declared.entity.Means.TheVariants as means
 
 pub then_same : {A B E : Type 0} (x y : Result A E) (f g : A → Result B E) → x ≡ y

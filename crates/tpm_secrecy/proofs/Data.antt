@@ -20,12 +20,12 @@ use Rattle.tpm_step.specs.step.General.{general}
 use Rattle.tpm_step.specs.step.Granted.{Granted, granted_entries}
 use Rattle.tpm_step.specs.step.Step.{request_in, step_where}
 use Rattle.tpm_step.specs.declared.refused_command.RefusedCommand.{RefusedCommand}
-use Rattle.tpm_types.proofs.Named.{none}
-use Rattle.tpm_types.specs.Handle.{hierarchy_auth_of, session_kind}
-use Rattle.tpm_types.specs.declared.handle.Handle.{Handle}
-use Rattle.tpm_types.specs.declared.handle.HierarchyAuth.{HierarchyAuth}
-use Rattle.tpm_types.specs.declared.handle.SessionKind.{SessionKind}
-use Rattle.tpm_types.specs.declared.refused.Refused.{Refused}
+use Rattle.tpm_types_common.proofs.Named.{none}
+use Rattle.tpm_types_common.specs.Handle.{hierarchy_auth_of, session_kind}
+use Rattle.tpm_types_common.specs.declared.handle.Handle.{Handle}
+use Rattle.tpm_types_common.specs.declared.handle.HierarchyAuth.{HierarchyAuth}
+use Rattle.tpm_types_common.specs.declared.handle.SessionKind.{SessionKind}
+use Rattle.tpm_types_common.specs.declared.refused.Refused.{Refused}
 use Rattle.tpm_types_command.specs.AuthEntry.{Entry}
 use Rattle.tpm_types_command.specs.Command.{Whole}
 use Rattle.tpm_types_object.specs.declared.public.Public.{Public}
@@ -34,7 +34,7 @@ use Rattle.tpm_row_secrecy.specs.Secrecy.{CoversKeys, DifferInSecrets, Secrecy, 
 use Rattle.tpm_secrecy.proofs.Stepping.{authorized_same, general_same, reads_both, requests_same, runs_on, same_event, told_nothing}
 use Rattle.tpm_secrecy.specs.Guesses.{BindingHolds, BindingsHold, GuessesFail, NoneUses, authorizes_secret, demand_uses, demands_value, guesses_by, is_hmac_session, session_guesses, session_uses, uses_by, uses_encryption}
 use Rattle.tpm_secrecy.specs.Tells.{EventKeepsSecrets, EventTellsNothing, EventsAlike, KeepsSecrets, ReadOnBoth, RunTellsNothing, TellsNothing, command_reads, decoded_reads, granted_reads, is_reading}
-use Rattle.tpm_types.specs.declared.handle.SessionKind.TheVariants as kind
+use Rattle.tpm_types_common.specs.declared.handle.SessionKind.TheVariants as kind
 
 module _ (indices : ℕ → Bool) (objects : Public → Bool) where
   abbrev data_alone : Secrecy

@@ -18,8 +18,8 @@ use Rattle.tpm_step.specs.history.History.{AcceptedCommand, History}
 use Rattle.tpm_step.specs.history.Pcrs.{digest_in, values_in}
 use Rattle.tpm_step.specs.uses.PolicyReviews.{HavePcrValues, IsUsedBySession}
 use Rattle.tpm_step.specs.uses.PolicyUses.{HasPcrsNow, IsMetBy, PolicyUse, ShowsAuthValue}
-use Rattle.tpm_types.proofs.Named.{none}
-use Rattle.tpm_types.specs.declared.pcr_selection.BankSelection.{BankSelection}
+use Rattle.tpm_types_common.proofs.Named.{none}
+use Rattle.tpm_types_common.specs.declared.pcr_selection.BankSelection.{BankSelection}
 use Rattle.tpm_types_object.specs.declared.public.Public.{Public}
 use Rattle.tpm_secrecy.proofs.SealedData.{all_stay, history_followed}
 use Rattle.tpm_secrecy.specs.SealedData.{DiskKeyStaysSecret, FollowedDiskKeyStaysSecret, IsDiskKey, OpensDiskKey, ReadsSealed, disk_policy}

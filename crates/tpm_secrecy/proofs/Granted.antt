@@ -17,20 +17,20 @@ use Rattle.tpm_session.specs.Sessions.{session_at, session_byte}
 use Rattle.tpm_session.specs.declared.session.Session.{Session}
 use Rattle.tpm_step.proofs.rows.Binding.{ok_at, ok_bind, ok_bind_is}
 use Rattle.tpm_step.specs.step.Granted.{granted_entries}
-use Rattle.tpm_types.specs.Handle.{is_session, password_handle, session_kind}
-use Rattle.tpm_types.specs.SessionType.{type_byte}
-use Rattle.tpm_types.specs.declared.handle.Handle.{Handle}
-use Rattle.tpm_types.specs.declared.handle.SessionKind.{SessionKind}
-use Rattle.tpm_types.specs.declared.refused.Refused.{Refused}
-use Rattle.tpm_types.specs.declared.session_type.SessionType.{SessionType}
+use Rattle.tpm_types_common.specs.Handle.{is_session, password_handle, session_kind}
+use Rattle.tpm_types_common.specs.SessionType.{type_byte}
+use Rattle.tpm_types_common.specs.declared.handle.Handle.{Handle}
+use Rattle.tpm_types_common.specs.declared.handle.SessionKind.{SessionKind}
+use Rattle.tpm_types_common.specs.declared.refused.Refused.{Refused}
+use Rattle.tpm_types_common.specs.declared.session_type.SessionType.{SessionType}
 use Rattle.tpm_types_command.specs.AuthEntry.{Entry}
 use Rattle.tpm_types_command.specs.Command.{Whole}
 use Rattle.tpm_row_secrecy.proofs.Each.{each}
 use Rattle.tpm_row_secrecy.specs.Secrecy.{Secrecy}
 use Rattle.tpm_secrecy.proofs.Authorizing.{neither}
 use Rattle.tpm_secrecy.specs.Guesses.{GuessesFail, NoneUses, authorizes_secret, demand_uses, guesses_by, is_guess, session_guesses, session_uses, uses_by, uses_secret}
-use Rattle.tpm_types.specs.declared.handle.SessionKind.TheVariants as kind
-use Rattle.tpm_types.specs.declared.session_type.SessionType.TheVariants as type
+use Rattle.tpm_types_common.specs.declared.handle.SessionKind.TheVariants as kind
+use Rattle.tpm_types_common.specs.declared.session_type.SessionType.TheVariants as type
 
 -- ---- entries that name no session
 

@@ -18,12 +18,12 @@ use Rattle.tpm_record.specs.Record.{Record}
 use Rattle.tpm_session.specs.FirstBuffer.{has_first_buffer}
 use Rattle.tpm_session.specs.declared.session.Protection.{Protection}
 use Rattle.tpm_session.specs.declared.session.Session.{Session}
-use Rattle.tpm_types.specs.Handle.{session_kind}
-use Rattle.tpm_types.specs.Rc.{at, entry_fault, plain}
-use Rattle.tpm_types.specs.Refused.{checked_result, refusal}
-use Rattle.tpm_types.specs.declared.handle.Handle.{Handle}
-use Rattle.tpm_types.specs.declared.handle.SessionKind.{SessionKind}
-use Rattle.tpm_types.specs.declared.refused.Refused.{Refused}
+use Rattle.tpm_types_common.specs.Handle.{session_kind}
+use Rattle.tpm_types_common.specs.Rc.{at, entry_fault, plain}
+use Rattle.tpm_types_common.specs.Refused.{checked_result, refusal}
+use Rattle.tpm_types_common.specs.declared.handle.Handle.{Handle}
+use Rattle.tpm_types_common.specs.declared.handle.SessionKind.{SessionKind}
+use Rattle.tpm_types_common.specs.declared.refused.Refused.{Refused}
 use Rattle.tpm_types_command.specs.AuthEntry.{Entry}
 use Rattle.tpm_types_command.specs.Command.{Whole}
 use Rattle.tpm_row_secrecy.proofs.Bare.{key_still_secret}
@@ -31,10 +31,10 @@ use Rattle.tpm_row_secrecy.proofs.Entities.{available_bare, protection_bare, sec
 use Rattle.tpm_row_secrecy.specs.Secrecy.{CoversKeys, Secrecy, bare_session, has_secret_key, without_secrets}
 use Rattle.tpm_secrecy.proofs.Authorizing.{all_own_same, comparison_same, demanded_same, then_same, wrong_comparison, wrong_same}
 use Rattle.tpm_secrecy.specs.Guesses.{BindingHolds, BindingsHold, GuessesFail, authorizes_secret, demand_uses, demands_value, guesses_by, is_guess, is_hmac_session, session_guesses, session_uses, uses_encryption}
-use Rattle.tpm_types.specs.declared.check.Check.TheVariants as check
-use Rattle.tpm_types.specs.declared.handle.SessionKind.TheVariants as kind
-use Rattle.tpm_types.specs.declared.rc.Place.TheVariants as place
-use Rattle.tpm_types.specs.declared.rc.ResponseCode.TheVariants as code
+use Rattle.tpm_types_common.specs.declared.check.Check.TheVariants as check
+use Rattle.tpm_types_common.specs.declared.handle.SessionKind.TheVariants as kind
+use Rattle.tpm_types_common.specs.declared.rc.Place.TheVariants as place
+use Rattle.tpm_types_common.specs.declared.rc.ResponseCode.TheVariants as code
 use Rattle.tpm_record.specs.declared.entity.Means.TheVariants as means
 
 -- ---- guesses that are assumed to be wrong

@@ -31,9 +31,9 @@ use Rattle.tpm_step.specs.step.Table.{row_of}
 use Rattle.tpm_step.specs.history.View.{OfObject, View}
 use Rattle.tpm_step.specs.declared.refused_command.RefusedCommand.{RefusedCommand}
 use Rattle.tpm_step.specs.rows.Handles.{HandlesFit}
-use Rattle.tpm_types.proofs.Named.{none}
-use Rattle.tpm_types.proofs.Spelled.{first}
-use Rattle.tpm_types.specs.declared.refused.Refused.{Refused}
+use Rattle.tpm_types_common.proofs.Named.{none}
+use Rattle.tpm_types_common.proofs.Spelled.{first}
+use Rattle.tpm_types_common.specs.declared.refused.Refused.{Refused}
 use Rattle.tpm_types_command.specs.Command.{Whole}
 use Rattle.tpm_types_object.specs.declared.public.Public.{Public}
 use Rattle.tpm_row_secrecy.specs.Reads.{reads_secret}

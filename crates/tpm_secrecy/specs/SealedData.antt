@@ -19,7 +19,7 @@ use Rattle.tpm_step.specs.uses.PolicyReviews.{HavePcrValues, IsUsedBySession, by
 use Rattle.tpm_step.specs.uses.PolicyUses.{IsMetBy, ShowsAuthValue}
 use Rattle.tpm_step.specs.step.Step.{Stepped, Steps}
 use Rattle.tpm_step.specs.history.View.{OfObject}
-use Rattle.tpm_types.specs.declared.pcr_selection.BankSelection.{BankSelection}
+use Rattle.tpm_types_common.specs.declared.pcr_selection.BankSelection.{BankSelection}
 use Rattle.tpm_types_object.specs.ObjectAttributes.{has}
 use Rattle.tpm_types_object.specs.declared.public.Public.{Public}
 use Rattle.tpm_row_secrecy.specs.Secrecy.{DifferInSecrets, Secrecy, of_data}

@@ -12,7 +12,7 @@ use Rattle.tpm_step.specs.step.Step.{Stepped, request_in, step_where}
 use Rattle.tpm_step.specs.history.Tries.{HasNoReset, failures_in, tries_within}
 use Rattle.tpm_step.specs.declared.event.Row.{Row}
 use Rattle.tpm_step.specs.declared.refused_command.RefusedCommand.{RefusedCommand}
-use Rattle.tpm_types.specs.declared.refused.Refused.{Refused}
+use Rattle.tpm_types_common.specs.declared.refused.Refused.{Refused}
 use Rattle.tpm_types_command.specs.Command.{Whole}
 use Rattle.tpm_types_object.specs.declared.public.Public.{Public}
 use Rattle.tpm_row_secrecy.specs.Reads.{reads_secret}

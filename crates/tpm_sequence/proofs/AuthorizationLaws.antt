@@ -6,8 +6,8 @@ use Rattle.std.specs.Str.{bytes_eq}
 use Rattle.std.proofs.lemmas.Bool.{ltb-true}
 use Rattle.std.proofs.lemmas.List.{reverse-append}
 use Rattle.std.proofs.lemmas.Slice.Eq.{bytes_eq-Decides}
-use Rattle.tpm_types.proofs.Trimming.{trimmed_twice}
-use Rattle.tpm_types.specs.AuthValue.{trimmed}
+use Rattle.tpm_types_common.proofs.Trimming.{trimmed_twice}
+use Rattle.tpm_types_common.specs.AuthValue.{trimmed}
 use Rattle.tpm_sequence.specs.Authorization.{padded}
 use Rattle.tpm_sequence.specs.Meaning.{AuthorizesByValue}
 

@@ -2,7 +2,7 @@
 -- is stored and compared without trailing zeros.
 use Rattle.std.specs.Prelude.{ℕ, ◌-◌, Bool, false, List, ◌++◌, if◌then◌else◌, length, nat_lt, replicate}
 use Rattle.std.specs.Str.{bytes_eq}
-use Rattle.tpm_types.specs.AuthValue.{trimmed}
+use Rattle.tpm_types_common.specs.AuthValue.{trimmed}
 use Rattle.tpm_sequence.specs.declared.object.SequenceObject.{SequenceObject}
 
 -- the value without trailing zeros, followed by zeros up to 32 bytes

@@ -8,7 +8,7 @@ use Rattle.tpm_mac.specs.Hmac.{hmac_of}
 use Rattle.tpm_mac.specs.declared.algorithm.HashAlg.{HashAlg}
 use Rattle.tpm_mac.specs.declared.algorithm.HashAlg.TheVariants as alg
 use Rattle.tpm_hash_state.specs.State.{empty_state, state_after_bytes}
-use Rattle.tpm_types.specs.AuthValue.{trimmed}
+use Rattle.tpm_types_common.specs.AuthValue.{trimmed}
 use Rattle.tpm_sequence.specs.Authorization.{is_authorized}
 use Rattle.tpm_sequence.specs.Beginning.{beginning_after, is_generated}
 use Rattle.tpm_sequence.specs.Sequence.{event_sequence, hash_sequence, hmac_sequence, object_of, sequence_digests, sequence_updated, updates}

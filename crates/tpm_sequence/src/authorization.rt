@@ -3,7 +3,7 @@
 ghost use Rattle.std.specs.Prelude.{◌≡◌, ◌++◌, ◌-◌, ◌≤◌, length, replicate};
 ghost use Rattle.tpm_sequence.specs.Authorization.{padded};
 
-use tpm_types::trimmed;
+use tpm_types_common::trimmed;
 
 /// The authorization value without trailing zeros, followed by zeros up to 32 bytes.
 #[tactic(auto, unfolding(crate::specs::Authorization::padded))]

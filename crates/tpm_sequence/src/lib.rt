@@ -4,7 +4,7 @@
 //! receive their data in parts.
 //!
 //! A [`SequenceObject`] is a plain value, which is copied, compared and saved like any other value.
-//! The crate uses `tpm_hash_state` for the states of hashes and HMACs, and `tpm_types` for
+//! The crate uses `tpm_hash_state` for the states of hashes and HMACs, and `tpm_types_common` for
 //! authorization values.
 //!
 //! The digest of a sequence is the hash or the HMAC of all its data, no matter how the data were

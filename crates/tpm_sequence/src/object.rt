@@ -7,7 +7,7 @@ ghost use Rattle.tpm_sequence.specs.Sequence.{object_of, object_updated};
 use crate::authorization::{followed_by_zeros, padded};
 use crate::sequence::Sequence;
 use tpm_bytes::is_equal;
-use tpm_types::trimmed;
+use tpm_types_common::trimmed;
 
 /// A sequence object, which consists of an authorization value and a sequence.
 #[derive(Clone, Copy, PartialEq, Eq)]

@@ -7,8 +7,8 @@ use Rattle.tpm_image_text.specs.Fields.{malformed_fault}
 use Rattle.tpm_bytes.proofs.Fields.{wide8}
 use Rattle.tpm_sequence.specs.declared.beginning.Beginning.{Beginning}
 use Rattle.tpm_sequence.specs.declared.beginning.Beginning.TheVariants as begun
-use Rattle.tpm_types.proofs.Named.{link, none}
-use Rattle.tpm_types.proofs.Spelled.{Spelled}
+use Rattle.tpm_types_common.proofs.Named.{link, none}
+use Rattle.tpm_types_common.proofs.Spelled.{Spelled}
 use Rattle.tpm_sequence_text.specs.Kind.{beginning_in, beginning_named, beginning_number, kind_in, kind_named, kind_number}
 use Rattle.tpm_sequence_text.specs.declared.kind.SequenceKind.{SequenceKind}
 use Rattle.tpm_sequence_text.specs.declared.kind.SequenceKind.TheVariants as kind

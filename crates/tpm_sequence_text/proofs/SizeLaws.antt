@@ -9,7 +9,7 @@ use Rattle.tpm_hash_state.specs.declared.state.HashState.{HashState}
 use Rattle.tpm_sequence.specs.declared.object.SequenceObject.{SequenceObject}
 use Rattle.tpm_sequence.specs.declared.sequence.Sequence.{Sequence}
 use Rattle.tpm_sequence.specs.declared.sequence.Sequence.TheVariants.{Event, Hash, Hmac}
-use Rattle.tpm_types.specs.Algorithm.{hash_number}
+use Rattle.tpm_types_common.specs.Algorithm.{hash_number}
 use Rattle.tpm_sequence_text.specs.HashState.{IsHashState, IsValue, hash_state_text, value_text, words_text}
 use Rattle.tpm_sequence_text.specs.Kind.{beginning_number, kind_number, slot_kind}
 use Rattle.tpm_sequence_text.specs.Meaning.{StaysSmall}

@@ -6,7 +6,7 @@ use Rattle.tpm_sequence.specs.declared.beginning.Beginning.{Beginning}
 use Rattle.tpm_sequence.specs.declared.object.SequenceObject.{SequenceObject}
 use Rattle.tpm_sequence.specs.declared.sequence.Sequence.{Sequence}
 use Rattle.tpm_sequence.specs.declared.sequence.Sequence.TheVariants.{Event, Hash, Hmac}
-use Rattle.tpm_types.proofs.Spelled.{Spelled, first, for_each, respelled}
+use Rattle.tpm_types_common.proofs.Spelled.{Spelled, first, for_each, respelled}
 use Rattle.tpm_sequence_text.proofs.KindLaws.{beginning_spelled, kind_spelled}
 use Rattle.tpm_sequence_text.proofs.Spelling.{both_spelled, made_from}
 use Rattle.tpm_sequence_text.proofs.StateLaws.{hash_state_spelled}

@@ -10,7 +10,7 @@ use Rattle.tpm_bytes.specs.Reading.{◌>>=◌}
 use Rattle.tpm_image_text.proofs.FieldSpelling.{many_spelled, number_in_spelled, wide64}
 use Rattle.tpm_image_text.specs.Fields.{number_in}
 use Rattle.tpm_image_text.specs.declared.fault.Malformed.{Malformed}
-use Rattle.tpm_types.proofs.Spelled.{Spelled, all_read, first, respelled, then, two_texts}
+use Rattle.tpm_types_common.proofs.Spelled.{Spelled, all_read, first, respelled, then, two_texts}
 use Rattle.tpm_sequence_text.specs.HashState.{AreWords}
 use Rattle.tpm_sequence_text.specs.Slot.{both_in}
 

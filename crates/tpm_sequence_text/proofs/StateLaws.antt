@@ -9,8 +9,8 @@ use Rattle.tpm_hash_state.specs.declared.state.HashState as declared
 use Rattle.tpm_image_text.proofs.FieldSpelling.{bytes_spelled, in_body_spelled, three_texts}
 use Rattle.tpm_mac.specs.declared.algorithm.HashAlg.{HashAlg}
 use Rattle.tpm_mac.specs.declared.algorithm.HashAlg.TheVariants as alg
-use Rattle.tpm_types.proofs.HashLaws.{hash_spelled}
-use Rattle.tpm_types.proofs.Spelled.{Spelled, all_read, first, for_each, respelled, then}
+use Rattle.tpm_types_common.proofs.HashLaws.{hash_spelled}
+use Rattle.tpm_types_common.proofs.Spelled.{Spelled, all_read, first, for_each, respelled, then}
 use Rattle.tpm_sequence_text.proofs.Spelling.{made_from, n64, words_spelled}
 use Rattle.tpm_sequence_text.specs.HashState.{AreWords, IsHashState, IsValue, hash_state_in, hash_state_text, value_after, value_in, value_text, words_text}
 

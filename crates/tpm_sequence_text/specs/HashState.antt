@@ -13,7 +13,7 @@ use Rattle.tpm_image_text.specs.Fields.{bytes_in, in_body, number_in}
 use Rattle.tpm_image_text.specs.declared.fault.Malformed.{Malformed}
 use Rattle.tpm_mac.specs.declared.algorithm.HashAlg.{HashAlg}
 use Rattle.tpm_mac.specs.declared.algorithm.HashAlg.TheVariants as alg
-use Rattle.tpm_types.specs.Algorithm.{hash_at, hash_number}
+use Rattle.tpm_types_common.specs.Algorithm.{hash_at, hash_number}
 
 -- ---- the hash value
 

@@ -6,7 +6,7 @@ ghost use Rattle.std.specs.List.{flat_map};
 ghost use Rattle.tpm_bytes.specs.Many.{many_at};
 ghost use Rattle.tpm_bytes.specs.Reading.{Reads};
 ghost use Rattle.tpm_image_text.specs.Fields.{in_body, number_in};
-ghost use Rattle.tpm_types.specs.Algorithm.{hash_at};
+ghost use Rattle.tpm_types_common.specs.Algorithm.{hash_at};
 ghost use Rattle.tpm_sequence_text.specs.HashState.{hash_state_in, hash_state_text, value_after, value_in, value_text};
 ghost use Rattle.tpm_sequence_text.specs.Sizes.{hash_state_size, value_size};
 
@@ -14,7 +14,7 @@ use tpm_bytes::{Cursor, Sink};
 use tpm_hash_state::{ChainingValue, HashState};
 use tpm_image_text::{Malformed, read_array, read_u32, read_u64};
 use tpm_mac::HashAlg;
-use tpm_types::{hash_number, read_hash};
+use tpm_types_common::{hash_number, read_hash};
 
 fn read_algorithm(text: &mut Cursor) -> Result<HashAlg, Malformed>
     ensures { Reads (λ hash. hash) (in_body hash_at text.old) text.old result text.new }

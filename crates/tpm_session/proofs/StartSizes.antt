@@ -3,8 +3,8 @@ use Rattle.std.proofs.Common.{◌≡◌, true, List, ℕ, length, Option, refl}
 use Rattle.std.proofs.lemmas.Bool.{eq-eqb}
 use Rattle.tpm_mac.specs.declared.algorithm.HashAlg.{HashAlg}
 use Rattle.tpm_policy.proofs.Sizes.{starting_sized}
-use Rattle.tpm_types.specs.declared.session_type.SessionType.{SessionType}
-use Rattle.tpm_types.specs.declared.symmetric.SymmetricDefinition.{SymmetricDefinition}
+use Rattle.tpm_types_common.specs.declared.session_type.SessionType.{SessionType}
+use Rattle.tpm_types_common.specs.declared.symmetric.SymmetricDefinition.{SymmetricDefinition}
 use Rattle.tpm_session.specs.Key.{is_nonce_size}
 use Rattle.tpm_session.specs.Session.{has_hash_sizes}
 use Rattle.tpm_session.specs.Sessions.{new_session}

@@ -4,8 +4,8 @@ use Rattle.std.specs.Prelude.{ℕ, List, [], ◌∷◌, ◌++◌, length, take, 
 use Rattle.tpm_aes.specs.Cfb.{cfb_decrypt_of, cfb_encrypt_of}
 use Rattle.tpm_aes.specs.Cipher.{xor_of}
 use Rattle.tpm_mac.specs.Kdf.{kdfa_of}
-use Rattle.tpm_types.specs.declared.symmetric.SymmetricDefinition.{SymmetricDefinition}
-use Rattle.tpm_types.specs.declared.symmetric.SymmetricDefinition.TheVariants.{Null, Aes128Cfb, Xor}
+use Rattle.tpm_types_common.specs.declared.symmetric.SymmetricDefinition.{SymmetricDefinition}
+use Rattle.tpm_types_common.specs.declared.symmetric.SymmetricDefinition.TheVariants.{Null, Aes128Cfb, Xor}
 use Rattle.tpm_session.specs.declared.session.Session.{Session}
 
 -- KDFa's label for a CFB key: "CFB"

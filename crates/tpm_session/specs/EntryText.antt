@@ -1,7 +1,7 @@
 -- The HMAC of an authorization entry. TPM 2.0 Library, Part 1, section 19.6.5 (HMAC computation).
 use Rattle.std.specs.Prelude.{ℕ, List, [], ◌∷◌, ◌++◌}
 use Rattle.tpm_mac.specs.Hmac.{hmac_of}
-use Rattle.tpm_types.specs.declared.session_attributes.SessionAttributes.{SessionAttributes}
+use Rattle.tpm_types_common.specs.declared.session_attributes.SessionAttributes.{SessionAttributes}
 use Rattle.tpm_session.specs.declared.entry.CommandText.{CommandText}
 use Rattle.tpm_session.specs.declared.session.Session.{Session}
 

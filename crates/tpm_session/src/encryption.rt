@@ -2,15 +2,15 @@
 //! sections 21.2 and 21.3).
 
 ghost use Rattle.std.specs.Prelude.{◌≡◌, ◌≤◌, ◌↔◌, false, IsOk, OnErr, length};
-ghost use Rattle.tpm_types.specs.Limits.{buffer_limit};
-ghost use Rattle.tpm_types.specs.Symmetric.{is_null};
+ghost use Rattle.tpm_types_common.specs.Limits.{buffer_limit};
+ghost use Rattle.tpm_types_common.specs.Symmetric.{is_null};
 ghost use Rattle.tpm_session.specs.Encryption.{cipher_bytes, cipher_iv, cipher_key, cipher_label};
 ghost use Rattle.tpm_session.specs.Encryption.{encrypted_parameter, mask_bytes, masked_parameter, plain_parameter};
 
 use crate::session::Session;
 use tpm_aes::{Aes128, xor_with};
 use tpm_mac::kdfa;
-use tpm_types::{BUFFER_LIMIT, SymmetricDefinition};
+use tpm_types_common::{BUFFER_LIMIT, SymmetricDefinition};
 
 /// The error for a session without a symmetric algorithm.
 #[derive(Clone, Copy, PartialEq, Eq)]

@@ -12,7 +12,7 @@ use arrayvec::ArrayVec;
 use std::marker::Model;
 use tpm_bytes::{Full, Sink, append};
 use tpm_mac::{Digest, HashAlg, KeyedMac};
-use tpm_types::SessionAttributes;
+use tpm_types_common::SessionAttributes;
 
 /// The data that the HMAC of a command's authorization entry covers, except the nonceTPM of the
 /// entry's session (TPM 2.0 Library, Part 1, section 19.6.5).

@@ -5,7 +5,7 @@
 //!
 //! The crate uses `tpm_policy` for the state of a policy session, `tpm_mac` and `tpm_aes` for
 //! HMACs, keys and encryption, and `tpm_types_name` for the Names that cpHash covers. It uses
-//! `tpm_containers` for the slots of sessions, and `tpm_types`. Contracts treat
+//! `tpm_containers` for the slots of sessions, and `tpm_types_common`. Contracts treat
 //! [`sessions::Sessions`] as a list of slots, each of which is free or contains a session, no
 //! matter which container stores the slots (`tpm_containers::slots::Slots`). If a session cannot be
 //! started, nothing changes. Only starting a session, or storing a session in a slot, may allocate

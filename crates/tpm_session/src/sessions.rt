@@ -1,7 +1,7 @@
 //! The sessions of a device, found by handle: how they start, change and end (TPM 2.0 Library, Part
 //! 3, section 11.1).
 
-ghost use Rattle.tpm_types.specs.Limits.{session_limit};
+ghost use Rattle.tpm_types_common.specs.Limits.{session_limit};
 ghost use Rattle.std.specs.Prelude.{◌≡◌, ◌<◌, true, IfSome, is_some, length, option_copied};
 ghost use Rattle.tpm_containers.specs.Slots.{AreAll, Puts, at_place, free};
 ghost use Rattle.tpm_mac.specs.Digest.{digest_size};
@@ -16,7 +16,7 @@ use std::alloc::Global;
 use tpm_containers::{SlotFault, Slots, numbered};
 use tpm_mac::HashAlg;
 use tpm_policy::PolicyState;
-use tpm_types::{Handle, SESSION_LIMIT, SessionType, SymmetricDefinition};
+use tpm_types_common::{Handle, SESSION_LIMIT, SessionType, SymmetricDefinition};
 
 /// The parameters for starting a session (TPM 2.0 Library, Part 3, section 11.1).
 #[derive(Drop)]

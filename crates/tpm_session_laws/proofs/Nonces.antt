@@ -3,9 +3,9 @@ use Rattle.std.proofs.Common.{◌≡◌, ℕ, Bool, true, false, cond, List, [],
 use Rattle.std.specs.Prelude.{is_some}
 use Rattle.std.specs.List.{zip}
 use Rattle.std.proofs.lemmas.Option.{same_Some}
-use Rattle.tpm_types.specs.SessionAttributes.{continues_session}
-use Rattle.tpm_types.specs.declared.session_type.SessionType.{SessionType}
-use Rattle.tpm_types.specs.declared.session_type.SessionType.TheVariants as type
+use Rattle.tpm_types_common.specs.SessionAttributes.{continues_session}
+use Rattle.tpm_types_common.specs.declared.session_type.SessionType.{SessionType}
+use Rattle.tpm_types_common.specs.declared.session_type.SessionType.TheVariants as type
 use Rattle.tpm_types_command.specs.AuthEntry.{Entry}
 use Rattle.tpm_auth.specs.declared.session_grant.Grant.{Grant}
 use Rattle.tpm_step.specs.history.History.{AcceptedCommand, Done, History}

@@ -2,7 +2,7 @@
 -- 19.7 (enhanced authorization), and Part 3, section 11.2 (TPM2_PolicyRestart).
 use Rattle.std.specs.Prelude.{◌≡◌, ◌⊎◌, ◌∷◌, ◌++◌, Some, Ok}
 use Rattle.tpm_policy.specs.Assertion.{Assertion}
-use Rattle.tpm_types.specs.declared.handle.Handle.{Handle}
+use Rattle.tpm_types_common.specs.declared.handle.Handle.{Handle}
 use Rattle.tpm_commands.specs.declared.command_code.CommandCode.TheVariants as command
 use Rattle.tpm_record.specs.rows.Request.{first_handle}
 use Rattle.tpm_step.specs.uses.AssertedBy.{StandsThrough}

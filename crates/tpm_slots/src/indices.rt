@@ -5,7 +5,7 @@ use tpm_nv::{
     DefineFault, Head, Indices, LockFault, ReadFault, RestoreFault, SlotIndices, Undefined,
     WriteFault,
 };
-use tpm_types::{AuthValue, Handle};
+use tpm_types_common::{AuthValue, Handle};
 use tpm_types_nv::NvPublic;
 
 /// A slot for each NV index that a device can have, and space for its data.

@@ -8,7 +8,7 @@ use tpm_nv::Indices;
 use tpm_object::Object;
 use tpm_record::{Keep, PersistentObjects};
 use tpm_session::Session;
-use tpm_types::{OBJECT_LIMIT, SESSION_LIMIT};
+use tpm_types_common::{OBJECT_LIMIT, SESSION_LIMIT};
 
 /// With the state in fixed slots, neither creating the state nor adding a value to it ever runs out
 /// of memory. The same holds for each container of the state. This function is only a proof: it has

@@ -3,7 +3,7 @@
 use std::alloc::Global;
 use tpm_containers::{FixedSlots, SlotFault, Slots};
 use tpm_object::Object;
-use tpm_types::OBJECT_LIMIT;
+use tpm_types_common::OBJECT_LIMIT;
 
 /// A slot for each transient object that a device can have.
 #[derive(Drop)]

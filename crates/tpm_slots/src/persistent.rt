@@ -5,7 +5,7 @@ use tpm_containers::KeyFault;
 use tpm_object::Object;
 use tpm_record::PersistentObjects;
 use tpm_record::persistent::SlotObjects;
-use tpm_types::Handle;
+use tpm_types_common::Handle;
 
 /// A slot for each persistent object that a device can have.
 #[derive(Drop)]

@@ -3,7 +3,7 @@
 use std::alloc::Global;
 use tpm_containers::{FixedSlots, SlotFault, Slots};
 use tpm_session::Session;
-use tpm_types::SESSION_LIMIT;
+use tpm_types_common::SESSION_LIMIT;
 
 /// A slot for each session that a device can have.
 #[derive(Drop)]

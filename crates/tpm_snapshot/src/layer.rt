@@ -8,7 +8,7 @@ ghost use Rattle.tpm_snapshot.specs.Layer.{completion_of, layer_of};
 use crate::sequences::{sequences_of, with_width};
 use tpm_completion::Completion;
 use tpm_state_text::Layer;
-use tpm_types::SESSION_LIMIT;
+use tpm_types_common::SESSION_LIMIT;
 
 fn sessions_of(sessions: &[u64; 16]) -> [u64; 16]
     ensures value { result ≡ sessions.now }

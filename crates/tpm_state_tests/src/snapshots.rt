@@ -13,7 +13,7 @@ use tpm_state_text::{
     RestoreFault, STATE_TEXT_LIMIT, StateFault, restore_into, restored, snapshot_into,
 };
 use tpm_step::{Event, Outcome};
-use tpm_types::Locality;
+use tpm_types_common::Locality;
 
 /// TPM2_Startup(CLEAR).
 const STARTUP: &[u8] = b"\x80\x01\0\0\0\x0c\0\0\x01\x44\0\0";

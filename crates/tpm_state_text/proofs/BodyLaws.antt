@@ -6,13 +6,13 @@ use Rattle.tpm_bytes.proofs.Fields.{AreBytes}
 use Rattle.tpm_lockout.specs.Lockout.{IsLockout, milliseconds}
 use Rattle.tpm_object.specs.Object.{IsObject}
 use Rattle.tpm_containers.specs.Slots.{AreAll}
-use Rattle.tpm_types.specs.Limits.{object_limit}
+use Rattle.tpm_types_common.specs.Limits.{object_limit}
 use Rattle.tpm_object.specs.declared.object.Object.{Object}
 use Rattle.tpm_pcr.specs.Values.{BankValues, IsBank, IsBanks}
 use Rattle.tpm_record.specs.IsRecord.{IsRecord}
 use Rattle.tpm_record.specs.Record.{Record}
 use Rattle.tpm_session.specs.declared.session.Session.{Session}
-use Rattle.tpm_types.proofs.Spelled.{Spelled, all_read, first, respelled, then, two_texts}
+use Rattle.tpm_types_common.proofs.Spelled.{Spelled, all_read, first, respelled, then, two_texts}
 use Rattle.tpm_image_text.specs.Body.{image_body_text}
 use Rattle.tpm_image_text.specs.Fields.{yes_no_text}
 use Rattle.tpm_image_text.specs.NonVolatile.{NonVolatile, kept_of, nv_of}

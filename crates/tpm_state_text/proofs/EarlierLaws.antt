@@ -16,8 +16,8 @@ use Rattle.tpm_object.specs.declared.object.Object.{Object}
 use Rattle.tpm_record.specs.IsRecord.{IsRecord}
 use Rattle.tpm_record.specs.Objects.{object_handle, without_object}
 use Rattle.tpm_record.specs.Record.{Record}
-use Rattle.tpm_types.proofs.Spelled.{Spelled, all_read, first, four_texts, respelled, then, two_texts}
-use Rattle.tpm_types.specs.Limits.{object_limit, session_limit}
+use Rattle.tpm_types_common.proofs.Spelled.{Spelled, all_read, first, four_texts, respelled, then, two_texts}
+use Rattle.tpm_types_common.specs.Limits.{object_limit, session_limit}
 use Rattle.tpm_image_text.proofs.FieldSpelling.{filling_again, filling_taken}
 use Rattle.tpm_state_text.specs.Body.{IsWholeState, device_text}
 use Rattle.tpm_state_text.specs.Earlier.{EarlierState, IsEarlierLayer, IsEarlierState, IsHeld, current, device_of, earlier_body_in, earlier_body_text, earlier_layer_in, earlier_layer_text, earlier_state_of_body, held_in, held_text, layer_of, without_one, without_waiting}

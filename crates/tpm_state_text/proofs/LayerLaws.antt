@@ -9,9 +9,9 @@ use Rattle.tpm_bytes.proofs.Fields.{Takes, wide8}
 use Rattle.tpm_sequence.specs.declared.object.SequenceObject.{SequenceObject}
 use Rattle.tpm_sequence_text.specs.Slot.{IsSlot}
 use Rattle.tpm_sequence_text.proofs.SlotLaws.{slot_spelled}
-use Rattle.tpm_types.proofs.Named.{link, none}
-use Rattle.tpm_types.proofs.Spelled.{Spelled, all_read, first, for_each, four_texts, respelled, then}
-use Rattle.tpm_types.specs.Limits.{session_limit}
+use Rattle.tpm_types_common.proofs.Named.{link, none}
+use Rattle.tpm_types_common.proofs.Spelled.{Spelled, all_read, first, for_each, four_texts, respelled, then}
+use Rattle.tpm_types_common.specs.Limits.{session_limit}
 use Rattle.tpm_image_text.specs.declared.fault.Malformed.{Malformed}
 use Rattle.tpm_image_text.specs.Fields.{malformed_fault, number_in}
 use Rattle.tpm_image_text.proofs.FieldSpelling.{many_spelled, names_spelled, number_in_spelled, only, passing_spelled, wide64}

@@ -6,7 +6,7 @@ use Rattle.tpm_containers.specs.Slots.{AreAll}
 use Rattle.tpm_image_text.specs.Fields.{yes_no_text}
 use Rattle.tpm_image_text.specs.declared.fault.Malformed.{Malformed}
 use Rattle.tpm_image_text.proofs.FieldSpelling.{many_spelled, only, yes_no_spelled}
-use Rattle.tpm_types.proofs.Spelled.{Spelled, first, for_each, respelled}
+use Rattle.tpm_types_common.proofs.Spelled.{Spelled, first, for_each, respelled}
 use Rattle.tpm_state_text.specs.Places.{optional_after, optional_in, optional_text, places_in, places_text}
 
 -- ---- slots whose values have a property

@@ -14,19 +14,19 @@ use Rattle.tpm_session.specs.declared.session.Binding.{Binding}
 use Rattle.tpm_session.specs.declared.session.Protection.{Protection}
 use Rattle.tpm_session.specs.declared.session.Protection.TheVariants as protection
 use Rattle.tpm_session.specs.declared.session.Session.{Session}
-use Rattle.tpm_types.specs.Algorithm.{hash_number}
-use Rattle.tpm_types.specs.Limits.{session_limit}
-use Rattle.tpm_types.specs.Rc.{plain}
-use Rattle.tpm_types.specs.SessionType.{session_type_at, type_named, type_number}
-use Rattle.tpm_types.specs.Symmetric.{symmetric_at, symmetric_text}
-use Rattle.tpm_types.specs.declared.rc.ResponseCode.TheVariants as code
-use Rattle.tpm_types.specs.declared.session_type.SessionType.{SessionType}
-use Rattle.tpm_types.specs.declared.session_type.SessionType.TheVariants as kind
-use Rattle.tpm_types.specs.declared.symmetric.SymmetricDefinition.{SymmetricDefinition}
-use Rattle.tpm_types.proofs.HashLaws.{hash_spelled}
-use Rattle.tpm_types.proofs.Named.{link, none}
-use Rattle.tpm_types.proofs.Spelled.{Spelled, all_read, first, respelled, seven_texts, takes, then}
-use Rattle.tpm_types.proofs.SymmetricLaws.{symmetric_again, symmetric_takes}
+use Rattle.tpm_types_common.specs.Algorithm.{hash_number}
+use Rattle.tpm_types_common.specs.Limits.{session_limit}
+use Rattle.tpm_types_common.specs.Rc.{plain}
+use Rattle.tpm_types_common.specs.SessionType.{session_type_at, type_named, type_number}
+use Rattle.tpm_types_common.specs.Symmetric.{symmetric_at, symmetric_text}
+use Rattle.tpm_types_common.specs.declared.rc.ResponseCode.TheVariants as code
+use Rattle.tpm_types_common.specs.declared.session_type.SessionType.{SessionType}
+use Rattle.tpm_types_common.specs.declared.session_type.SessionType.TheVariants as kind
+use Rattle.tpm_types_common.specs.declared.symmetric.SymmetricDefinition.{SymmetricDefinition}
+use Rattle.tpm_types_common.proofs.HashLaws.{hash_spelled}
+use Rattle.tpm_types_common.proofs.Named.{link, none}
+use Rattle.tpm_types_common.proofs.Spelled.{Spelled, all_read, first, respelled, seven_texts, takes, then}
+use Rattle.tpm_types_common.proofs.SymmetricLaws.{symmetric_again, symmetric_takes}
 use Rattle.tpm_image_text.specs.Fields.{malformed_fault, yes_no_text}
 use Rattle.tpm_image_text.proofs.FieldSpelling.{auth_value_spelled, buffer_in_spelled, in_body_spelled, names_spelled, number_in_spelled, passing_spelled, three_texts, wide64, yes_no_spelled}
 use Rattle.tpm_state_text.specs.Places.{optional_text}

@@ -17,9 +17,9 @@ use Rattle.tpm_sequence_text.proofs.SizeLaws.{stays_small}
 use Rattle.tpm_session.specs.Session.{IsBinding, IsSession}
 use Rattle.tpm_session.specs.declared.session.Binding.{Binding}
 use Rattle.tpm_session.specs.declared.session.Session.{Session}
-use Rattle.tpm_types.specs.Symmetric.{symmetric_text}
-use Rattle.tpm_types.specs.declared.symmetric.SymmetricDefinition.{SymmetricDefinition}
-use Rattle.tpm_types.specs.declared.symmetric.SymmetricDefinition.TheVariants.{Null, Aes128Cfb, Xor}
+use Rattle.tpm_types_common.specs.Symmetric.{symmetric_text}
+use Rattle.tpm_types_common.specs.declared.symmetric.SymmetricDefinition.{SymmetricDefinition}
+use Rattle.tpm_types_common.specs.declared.symmetric.SymmetricDefinition.TheVariants.{Null, Aes128Cfb, Xor}
 use Rattle.tpm_image_text.specs.Sizes.{body_size, object_fields_size}
 use Rattle.tpm_image_text.specs.Body.{object_fields_text}
 use Rattle.tpm_image_text.proofs.ObjectLaws.{object_fields_small}

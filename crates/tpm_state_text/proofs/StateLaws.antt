@@ -26,7 +26,7 @@ use Rattle.tpm_state_text.specs.declared.version.StateVersion.TheVariants.{One, 
 use Rattle.tpm_state_text.proofs.BodyLaws.{body_again, body_taken}
 use Rattle.tpm_state_text.proofs.EarlierLaws.{body_again as earlier_again, body_small as earlier_small, body_taken as earlier_taken, current_is}
 use Rattle.tpm_image_text.proofs.FrameLaws.{AreNumbered, cut_behind, cut_short, framed_again, framed_taken, length-framed}
-use Rattle.tpm_types.proofs.Named.{link, none}
+use Rattle.tpm_types_common.proofs.Named.{link, none}
 use Rattle.tpm_state_text.proofs.SizeLaws.{whole_small}
 
 -- ---- encoding and decoding

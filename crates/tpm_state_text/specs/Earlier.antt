@@ -15,7 +15,7 @@ use Rattle.tpm_object.specs.declared.object.Object.{Object}
 use Rattle.tpm_record.specs.IsRecord.{IsRecord}
 use Rattle.tpm_record.specs.Objects.{object_handle, without_object}
 use Rattle.tpm_record.specs.Record.{Record}
-use Rattle.tpm_types.specs.Limits.{object_limit, session_limit}
+use Rattle.tpm_types_common.specs.Limits.{object_limit, session_limit}
 use Rattle.tpm_state_text.specs.Body.{WholeState, device_in, device_text}
 use Rattle.tpm_state_text.specs.Places.{optional_in, optional_text}
 use Rattle.tpm_state_text.specs.Sequences.{free_sequences}

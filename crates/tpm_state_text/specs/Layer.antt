@@ -9,7 +9,7 @@ use Rattle.tpm_bytes.specs.Reading.{◌>>=◌}
 use Rattle.tpm_image_text.specs.Fields.{number_in}
 use Rattle.tpm_image_text.specs.declared.fault.Malformed.{Malformed}
 use Rattle.tpm_sequence_text.specs.Slot.{IsSlot}
-use Rattle.tpm_types.specs.Limits.{session_limit}
+use Rattle.tpm_types_common.specs.Limits.{session_limit}
 use Rattle.tpm_state_text.specs.Places.{named_in, optional_after}
 use Rattle.tpm_state_text.specs.Sequences.{has_sequence, sequence_slots, slots_in, slots_text}
 use Rattle.tpm_state_text.specs.declared.layer.Layer.{Layer}

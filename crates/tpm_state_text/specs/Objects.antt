@@ -5,7 +5,7 @@ use Rattle.std.specs.Prelude.{ℕ, List, Option, Result}
 use Rattle.tpm_image_text.specs.Body.{object_fields_in, object_fields_text}
 use Rattle.tpm_image_text.specs.declared.fault.Malformed.{Malformed}
 use Rattle.tpm_object.specs.declared.object.Object.{Object}
-use Rattle.tpm_types.specs.Limits.{object_limit}
+use Rattle.tpm_types_common.specs.Limits.{object_limit}
 use Rattle.tpm_state_text.specs.Places.{places_in, places_text}
 
 -- the encoding of the transient objects, slot by slot

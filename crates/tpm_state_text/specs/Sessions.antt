@@ -13,10 +13,10 @@ use Rattle.tpm_session.specs.declared.session.Binding.{Binding}
 use Rattle.tpm_session.specs.declared.session.Protection.{Protection}
 use Rattle.tpm_session.specs.declared.session.Protection.TheVariants as protection
 use Rattle.tpm_session.specs.declared.session.Session.{Session}
-use Rattle.tpm_types.specs.Algorithm.{hash_at, hash_number}
-use Rattle.tpm_types.specs.Limits.{session_limit}
-use Rattle.tpm_types.specs.SessionType.{session_type_at, type_number}
-use Rattle.tpm_types.specs.Symmetric.{symmetric_at, symmetric_text}
+use Rattle.tpm_types_common.specs.Algorithm.{hash_at, hash_number}
+use Rattle.tpm_types_common.specs.Limits.{session_limit}
+use Rattle.tpm_types_common.specs.SessionType.{session_type_at, type_number}
+use Rattle.tpm_types_common.specs.Symmetric.{symmetric_at, symmetric_text}
 use Rattle.tpm_state_text.specs.Places.{named_in, optional_in, optional_text, places_in, places_text}
 use Rattle.tpm_state_text.specs.Policies.{policy_in, policy_text}
 

@@ -3,7 +3,7 @@
 use Rattle.std.specs.Prelude.{ℕ, ◌+◌, ◌*◌}
 use Rattle.tpm_image_text.specs.Sizes.{body_size, object_fields_size}
 use Rattle.tpm_sequence_text.specs.Sizes.{slot_size}
-use Rattle.tpm_types.specs.Limits.{object_limit, session_limit}
+use Rattle.tpm_types_common.specs.Limits.{object_limit, session_limit}
 use Rattle.tpm_state_text.specs.Sequences.{sequence_slots}
 
 -- the largest sizes of a policy, of a session with its policy, and of all sessions; one byte for

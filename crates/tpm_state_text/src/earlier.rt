@@ -10,7 +10,7 @@ ghost use Rattle.tpm_state_text.specs.Filling.{FillsState};
 ghost use Rattle.tpm_state_text.specs.Places.{optional_in};
 ghost use Rattle.tpm_state_text.specs.State.{state_in_body};
 ghost use Rattle.tpm_state_text.specs.declared.version.StateVersion.TheVariants.{One};
-ghost use Rattle.tpm_types.specs.Limits.{object_limit};
+ghost use Rattle.tpm_types_common.specs.Limits.{object_limit};
 
 use crate::body::read_device;
 use crate::layer::{Layer, read_sessions};
@@ -20,7 +20,7 @@ use tpm_image_text::{FillFault, Malformed, read_bool, read_u64};
 use tpm_object::{Object, TRANSIENT_BYTE};
 use tpm_record::Keep;
 use tpm_record::objects::Objects;
-use tpm_types::{Handle, OBJECT_LIMIT};
+use tpm_types_common::{Handle, OBJECT_LIMIT};
 
 /// What the completing layer remembers about a transient object: the number of its context, and the
 /// number of its flush. The first number is 0 if the object has no context; the second is 0 if the

@@ -14,7 +14,7 @@ use crate::sequences::{has_sequence, read_sequences, write_sequences};
 use tpm_bytes::Cursor;
 use tpm_image_text::{Malformed, Text, read_u8, read_u64, write_u64};
 use tpm_sequence::SequenceObject;
-use tpm_types::SESSION_LIMIT;
+use tpm_types_common::SESSION_LIMIT;
 
 /// The state of the completing layer.
 #[derive(Clone, Copy, PartialEq, Eq)]

@@ -11,7 +11,7 @@ ghost use Rattle.tpm_state_text.specs.Filling.{FillsPlace};
 ghost use Rattle.tpm_state_text.specs.Objects.{transients_in, transients_text};
 ghost use Rattle.tpm_state_text.specs.Places.{optional_in, optional_text};
 ghost use Rattle.tpm_state_text.specs.Sizes.{transients_size};
-ghost use Rattle.tpm_types.specs.Limits.{object_limit};
+ghost use Rattle.tpm_types_common.specs.Limits.{object_limit};
 
 use tpm_bytes::Cursor;
 use tpm_containers::Slots;
@@ -20,7 +20,7 @@ use tpm_image_text::{
 };
 use tpm_object::Object;
 use tpm_record::objects::Objects;
-use tpm_types::OBJECT_LIMIT;
+use tpm_types_common::OBJECT_LIMIT;
 
 /// Reads the object in a slot, or None if the slot is free.
 fn read_optional_object(text: &mut Cursor) -> Result<Option<Object>, Malformed>

@@ -7,9 +7,9 @@ ghost use Rattle.tpm_image_text.specs.Sizes.{text_size};
 ghost use Rattle.tpm_state_text.specs.Places.{optional_in, optional_text};
 ghost use Rattle.tpm_state_text.specs.Sessions.{session_in, session_text};
 ghost use Rattle.tpm_state_text.specs.Sizes.{session_size};
-ghost use Rattle.tpm_types.specs.Algorithm.{hash_at};
-ghost use Rattle.tpm_types.specs.SessionType.{session_type_at};
-ghost use Rattle.tpm_types.specs.Symmetric.{symmetric_at};
+ghost use Rattle.tpm_types_common.specs.Algorithm.{hash_at};
+ghost use Rattle.tpm_types_common.specs.SessionType.{session_type_at};
+ghost use Rattle.tpm_types_common.specs.Symmetric.{symmetric_at};
 
 use crate::bindings::{read_optional_binding, write_optional_binding};
 use crate::policies::{read_policy, write_policy};
@@ -17,7 +17,7 @@ use tpm_bytes::Cursor;
 use tpm_image_text::{Malformed, Text, read_bool, read_sized, write_bool, write_sized, write_u16};
 use tpm_mac::HashAlg;
 use tpm_session::{Nonce, Session, SessionKey};
-use tpm_types::{SessionType, SymmetricDefinition, hash_number, read_hash};
+use tpm_types_common::{SessionType, SymmetricDefinition, hash_number, read_hash};
 
 fn read_type(text: &mut Cursor) -> Result<SessionType, Malformed>
     ensures { Reads (λ kind. kind) (in_body session_type_at text.old) text.old result text.new }

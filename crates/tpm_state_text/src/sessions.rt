@@ -9,14 +9,14 @@ ghost use Rattle.tpm_state_text.specs.Filling.{FillsPlace};
 ghost use Rattle.tpm_state_text.specs.Places.{optional_in};
 ghost use Rattle.tpm_state_text.specs.Sessions.{session_in, sessions_in, sessions_text};
 ghost use Rattle.tpm_state_text.specs.Sizes.{sessions_size};
-ghost use Rattle.tpm_types.specs.Limits.{session_limit};
+ghost use Rattle.tpm_types_common.specs.Limits.{session_limit};
 
 use crate::session::{read_optional_session, write_optional_session};
 use tpm_bytes::Cursor;
 use tpm_containers::Slots;
 use tpm_image_text::{FillFault, Text};
 use tpm_session::{Session, Sessions};
-use tpm_types::SESSION_LIMIT;
+use tpm_types_common::SESSION_LIMIT;
 
 /// Reads a slot. If it contains a session, stores the session in the same slot of the device,
 /// which is still free.

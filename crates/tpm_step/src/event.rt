@@ -4,7 +4,7 @@
 ghost use Rattle.std.specs.Prelude.{◌≡◌};
 
 use arrayvec::ArrayVec;
-use tpm_types::{BUFFER_LIMIT, Locality};
+use tpm_types_common::{BUFFER_LIMIT, Locality};
 
 /// All bytes of a response.
 pub type Response = ArrayVec<u8, BUFFER_LIMIT>;

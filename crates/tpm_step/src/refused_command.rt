@@ -4,7 +4,7 @@ ghost use Rattle.std.specs.Prelude.{◌≡◌};
 ghost use Rattle.tpm_commands.specs.CommandCode.{code_number};
 
 use tpm_commands::CommandCode;
-use tpm_types::Refused;
+use tpm_types_common::Refused;
 
 /// A refusal, and the code of the refused command, or 0 if no code was found.
 #[derive(Clone, Copy, PartialEq, Eq)]

@@ -10,15 +10,15 @@
 
 ghost use Rattle.std.specs.Prelude.{◌≡◌, ◌≢◌, ℕ, ◌+◌, ◌*◌, ◌≤◌, Bool, IfOk, List, [], ◌∷◌, Ok, Option};
 ghost use Rattle.std.specs.Prelude.{IfErr, false, length, true};
-ghost use Rattle.tpm_types.specs.declared.refused.Counted.TheVariants as counted;
+ghost use Rattle.tpm_types_common.specs.declared.refused.Counted.TheVariants as counted;
 ghost use Rattle.std.specs.List.{AllByRecursion};
-ghost use Rattle.tpm_types.specs.Check.{check_number};
-ghost use Rattle.tpm_types.specs.declared.check.Check.TheVariants as check;
+ghost use Rattle.tpm_types_common.specs.Check.{check_number};
+ghost use Rattle.tpm_types_common.specs.declared.check.Check.TheVariants as check;
 ghost use Rattle.tpm_types_command.specs.Command.{Whole, command_at};
 ghost use Rattle.tpm_commands.specs.CommandCode.{part_of, shape_of};
 ghost use Rattle.tpm_commands.specs.declared.command_code.CommandCode.{CommandCode};
 ghost use Rattle.tpm_commands.specs.declared.shape.HandleRule.{HandleRule};
-ghost use Rattle.tpm_types.specs.declared.handle.Handle.{Handle};
+ghost use Rattle.tpm_types_common.specs.declared.handle.Handle.{Handle};
 ghost use Rattle.tpm_record.specs.Cycle.{after_cycle};
 ghost use Rattle.tpm_record.specs.Record.{Record, manufactured};
 ghost use Rattle.tpm_auth.specs.Entries.{entries_pass};

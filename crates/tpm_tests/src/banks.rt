@@ -5,7 +5,7 @@ use super::comparison::check;
 use arrayvec::ArrayVec;
 use tpm_mac::HashAlg;
 use tpm_pcr::{Banks, SavedPcrs};
-use tpm_types::{BankSelection, Locality, PcrIndex, PcrSelect, PcrSelection};
+use tpm_types_common::{BankSelection, Locality, PcrIndex, PcrSelect, PcrSelection};
 
 /// The digests of the PCR selection in the test below, on a new device.
 const DIGESTS: [(HashAlg, &[u8]); 2] = [

@@ -4,7 +4,7 @@
 use super::comparison::check;
 use arrayvec::ArrayVec;
 use tpm_bytes::{Cursor, Sink};
-use tpm_types::ResponseCode;
+use tpm_types_common::ResponseCode;
 use tpm_types_nv::{NvAttribute, NvAttributes, NvPublic, NvType};
 
 /// The public area of an ordinary index of eight bytes with nameAlg SHA-256, in a sized buffer.

@@ -9,7 +9,7 @@ use tpm_object::{
     CreationFault, Object, TemplateFault, check_creation, check_template, create, derive_primary,
     drawn_by, is_storage_parent, unwrap, wrap,
 };
-use tpm_types::HierarchyHandle;
+use tpm_types_common::HierarchyHandle;
 use tpm_types_name::Name;
 use tpm_types_object::{CreationData, Public, Sensitive, SensitiveCreate};
 

@@ -6,7 +6,7 @@ use std::process::Abort;
 use tpm_bytes::Cursor;
 use tpm_mac::HashAlg;
 use tpm_policy::{Demand, EntityPolicy, PcrAssertion, PolicyState, SecretAssertion, Use};
-use tpm_types::{
+use tpm_types_common::{
     ActionCheck, ActionFault, DigestList, Handle, Locality, PcrSelection, Rc, ResponseCode, Role,
     SessionType,
 };

@@ -6,11 +6,11 @@ use arrayvec::ArrayVec;
 use tpm_bytes::{Cursor, Sink};
 use tpm_commands::{CommandCode, HandleKind, ParameterKind, read_handles};
 use tpm_mac::HashAlg;
-use tpm_types::{
+use tpm_types_command::{AuthEntry, Command};
+use tpm_types_common::{
     BankSelection, DigestList, DigestValue, DigestValues, Handle, PcrSelect, PcrSelection, Rc,
     ResponseCode, SessionAttributes, SessionType, StartupType, read_buffer, read_yes_no,
 };
-use tpm_types_command::{AuthEntry, Command};
 use tpm_types_name::Name;
 
 /// The buffer of TPM2_PCR_Reset for PCR 16, with a nonce of two bytes and the password "abc": the

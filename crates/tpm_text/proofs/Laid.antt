@@ -1,11 +1,11 @@
 -- Lemmas about tokens that are read one after another, and about the encodings that are written for
 -- their values.
-use Rattle.tpm_types.specs.Limits.{buffer_limit}
+use Rattle.tpm_types_common.specs.Limits.{buffer_limit}
 use Rattle.std.proofs.Common.{◌≡◌, ℕ, zero, suc, ◌≤◌, true, false, List, [], ◌∷◌, ◌++◌, length, take, Option, Some, None, Result, Ok, Err, refl, sym, ap, ◌∙◌, append-nil, arith}
 use Rattle.std.specs.Option.{ForSome, option_map}
 use Rattle.std.proofs.lemmas.Grind.{common_steps}
 use Rattle.tpm_bytes.specs.Reading.{◌>>=◌}
-use Rattle.tpm_types.specs.declared.handle.Handle.{Handle}
+use Rattle.tpm_types_common.specs.declared.handle.Handle.{Handle}
 use Rattle.tpm_commands.specs.declared.shape.ParameterKind.{ParameterKind}
 use Rattle.tpm_types_command.specs.AuthEntry.{Entry, auth_entry_text}
 use Rattle.tpm_types_command.specs.Command.{handle_text, handles_text}

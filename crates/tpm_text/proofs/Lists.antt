@@ -2,7 +2,7 @@
 use Rattle.std.proofs.Common.{◌≡◌, ℕ, List, [], ◌∷◌, Option, Result, Ok, Err, refl, sym, ap, ◌∙◌, append-nil}
 use Rattle.std.specs.List.{flat_map, fold}
 use Rattle.tpm_bytes.specs.Reading.{◌>>=◌}
-use Rattle.tpm_types.specs.Pcr.{with_pcr}
+use Rattle.tpm_types_common.specs.Pcr.{with_pcr}
 use Rattle.tpm_text.specs.Draft.{Drafts, grown_draft}
 use Rattle.tpm_number.specs.Number.{number_in}
 use Rattle.tpm_text.specs.Parameter.{element_text, elements_text, pcrs_in}

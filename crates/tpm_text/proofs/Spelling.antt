@@ -1,5 +1,5 @@
 -- Parsing the buffer of a line yields the command that the line encodes.
-use Rattle.tpm_types.specs.Limits.{buffer_limit}
+use Rattle.tpm_types_common.specs.Limits.{buffer_limit}
 use Rattle.std.proofs.Common.{◌≡◌, ℕ, zero, suc, ◌<◌, ◌≤◌, ◌^◌, Bool, true, false, cond, List, [], ◌∷◌, length, drop, Result, Ok, Err, refl, ap, subst, arith, length-append}
 use Rattle.std.specs.Int.{Width, w8, w32, from_be_bytes, to_be_bytes}
 use Rattle.std.specs.List.{AllByRecursion}
@@ -7,8 +7,8 @@ use Rattle.std.specs.Prelude.{◌==◌, not}
 use Rattle.tpm_bytes.specs.Reading.{◌>>=◌, refused_if}
 use Rattle.tpm_bytes.proofs.Fields.{IsWide, bind_ok, ok_is, or_fault_ok, wide32, wide8}
 use Rattle.hex.proofs.HexLemmas.{decode_of-ok}
-use Rattle.tpm_types.specs.declared.handle.Handle.{Handle}
-use Rattle.tpm_types.specs.Handle.{endorsement_handle, lockout_handle, null_handle, owner_handle, password_handle, platform_handle}
+use Rattle.tpm_types_common.specs.declared.handle.Handle.{Handle}
+use Rattle.tpm_types_common.specs.Handle.{endorsement_handle, lockout_handle, null_handle, owner_handle, password_handle, platform_handle}
 use Rattle.tpm_types_command.specs.AuthArea.{entries_text}
 use Rattle.tpm_types_command.specs.AuthEntry.{Entry, IsEntry, auth_entry_text}
 use Rattle.tpm_types_command.specs.Command.{IsCommand, IsHandle, Whole, command_at, command_size, command_text, sessions_text}

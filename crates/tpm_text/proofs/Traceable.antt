@@ -1,10 +1,10 @@
 -- The row of every step is in the table, and the response to every command contains a header.
 use Rattle.std.proofs.Common.{◌≡◌, ℕ, ◌≤◌, ◌⊎◌, inl, inr, Bool, true, false, cond, List, [], ◌∷◌, length, Option, Result, Ok, Err, refl, sym, subst, arith}
 use Rattle.tpm_bytes.specs.Reading.{◌>>=◌}
-use Rattle.tpm_types.specs.Rc.{rc_number}
-use Rattle.tpm_types.specs.declared.check.Check.TheVariants.{Memory}
-use Rattle.tpm_types.specs.declared.handle.Handle.{Handle}
-use Rattle.tpm_types.specs.declared.refused.Refused.{Refused}
+use Rattle.tpm_types_common.specs.Rc.{rc_number}
+use Rattle.tpm_types_common.specs.declared.check.Check.TheVariants.{Memory}
+use Rattle.tpm_types_common.specs.declared.handle.Handle.{Handle}
+use Rattle.tpm_types_common.specs.declared.refused.Refused.{Refused}
 use Rattle.tpm_types_command.specs.AuthEntry.{Entry}
 use Rattle.tpm_commands.specs.CommandCode.{code_number, shape_of}
 use Rattle.tpm_types_command.specs.Header.{header_at}

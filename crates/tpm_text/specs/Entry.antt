@@ -4,8 +4,8 @@ use Rattle.std.specs.Prelude.{Result, Ok, Err}
 use Rattle.std.specs.Int.{w8, w32, from_be_bytes}
 use Rattle.std.specs.List.{starts_with}
 use Rattle.tpm_bytes.specs.Reading.{◌>>=◌, refused_if}
-use Rattle.tpm_types.specs.declared.handle.Handle.{Handle}
-use Rattle.tpm_types.specs.Handle.{endorsement_handle, lockout_handle, null_handle, numbered_handle, owner_handle, password_handle, platform_handle}
+use Rattle.tpm_types_common.specs.declared.handle.Handle.{Handle}
+use Rattle.tpm_types_common.specs.Handle.{endorsement_handle, lockout_handle, null_handle, numbered_handle, owner_handle, password_handle, platform_handle}
 use Rattle.tpm_types_command.specs.AuthEntry.{Entry, auth_entry_text}
 use Rattle.tpm_number.specs.declared.fault.TokenFault.{TokenFault}
 use Rattle.tpm_number.specs.declared.fault.TokenFault.TheVariants.{Bad}

@@ -1,10 +1,10 @@
 -- Lines: commands in words, with tokens separated by single spaces. The tokens are in the order of
 -- TPM 2.0 Library, Part 3: the name, the handles, the authorization entries, the parameters.
-use Rattle.tpm_types.specs.Limits.{buffer_limit}
+use Rattle.tpm_types_common.specs.Limits.{buffer_limit}
 use Rattle.std.specs.Prelude.{◌≡◌, ℕ, zero, suc, nat_lt, cond, List, [], ◌∷◌, ◌++◌}
 use Rattle.std.specs.Prelude.{Result, Ok, Err, ok_or}
 use Rattle.tpm_bytes.specs.Reading.{◌>>=◌, refused_if}
-use Rattle.tpm_types.specs.declared.handle.Handle.{Handle}
+use Rattle.tpm_types_common.specs.declared.handle.Handle.{Handle}
 use Rattle.tpm_commands.specs.declared.command_code.CommandCode.{CommandCode}
 use Rattle.tpm_commands.specs.declared.shape.ParameterKind.{ParameterKind}
 use Rattle.tpm_types_command.specs.AuthEntry.{Entry}

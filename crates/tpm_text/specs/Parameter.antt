@@ -8,12 +8,12 @@ use Rattle.tpm_bytes.specs.Writing.{sized_text}
 use Rattle.tpm_mac.specs.declared.algorithm.HashAlg.{HashAlg}
 use Rattle.tpm_mac.specs.declared.algorithm.HashAlg.TheVariants.{Sha1, Sha256}
 use Rattle.tpm_mac.specs.Digest.{digest_size}
-use Rattle.tpm_types.specs.declared.symmetric.SymmetricDefinition.{SymmetricDefinition}
-use Rattle.tpm_types.specs.declared.symmetric.SymmetricDefinition.TheVariants as symmetric
-use Rattle.tpm_types.specs.Algorithm.{hash_number, hash_or_null_number}
-use Rattle.tpm_types.specs.Pcr.{with_pcr}
-use Rattle.tpm_types.specs.PcrSelection.{bank_text}
-use Rattle.tpm_types.specs.Symmetric.{symmetric_text}
+use Rattle.tpm_types_common.specs.declared.symmetric.SymmetricDefinition.{SymmetricDefinition}
+use Rattle.tpm_types_common.specs.declared.symmetric.SymmetricDefinition.TheVariants as symmetric
+use Rattle.tpm_types_common.specs.Algorithm.{hash_number, hash_or_null_number}
+use Rattle.tpm_types_common.specs.Pcr.{with_pcr}
+use Rattle.tpm_types_common.specs.PcrSelection.{bank_text}
+use Rattle.tpm_types_common.specs.Symmetric.{symmetric_text}
 use Rattle.tpm_commands.specs.declared.shape.ParameterKind.{ParameterKind}
 use Rattle.tpm_commands.specs.declared.shape.ParameterKind.TheVariants as kind
 use Rattle.tpm_text.specs.declared.element.Element.{Element}

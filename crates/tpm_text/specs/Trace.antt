@@ -5,8 +5,8 @@ use Rattle.std.specs.Prelude.{List, ◌++◌, length, codes, option_map, unwrap_
 use Rattle.std.specs.List.{slice_range}
 use Rattle.std.specs.Fmt.{decimal}
 use Rattle.hex.specs.Hex.{encode_lower}
-use Rattle.tpm_types.specs.Check.{check_number}
-use Rattle.tpm_types.specs.declared.check.Check.{Check}
+use Rattle.tpm_types_common.specs.Check.{check_number}
+use Rattle.tpm_types_common.specs.declared.check.Check.{Check}
 use Rattle.tpm_commands.specs.CommandCode.{code_name, code_named, code_number}
 use Rattle.tpm_commands.specs.declared.command_code.CommandCode.{CommandCode}
 use Rattle.tpm_step.specs.step.Events.{PlainEvent, Given, Cycled, Placed}

@@ -1,7 +1,7 @@
 //! The buffer of a command while it is being written. It records whether the command has become
 //! too long; the header is written last.
 
-ghost use Rattle.tpm_types.specs.Limits.{buffer_limit};
+ghost use Rattle.tpm_types_common.specs.Limits.{buffer_limit};
 ghost use Rattle.std.specs.Prelude.{◌≡◌, ◌≤◌, length, [], Some, IfSome, IsSome};
 ghost use Rattle.std.specs.Option.{ForSome};
 ghost use Rattle.tpm_types_command.specs.Header.{header_text};
@@ -11,8 +11,8 @@ use crate::fault::AsmFault;
 use tpm_bytes::Sink;
 use tpm_commands::CommandCode;
 use tpm_number::TokenFault;
-use tpm_types::BUFFER_LIMIT;
 use tpm_types_command::{HEADER_SIZE, Tag};
+use tpm_types_common::BUFFER_LIMIT;
 
 /// The encoding of a command that is being written. If the command becomes too long, the draft
 /// records only this fact.

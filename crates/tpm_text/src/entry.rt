@@ -11,7 +11,7 @@ ghost use Rattle.tpm_text.specs.Pieces.{colon, pieces_of};
 use crate::draft::Draft;
 use crate::token::cut;
 use tpm_number::{TokenFault, is_word};
-use tpm_types::Handle;
+use tpm_types_common::Handle;
 
 /// Parses a handle of eight hex digits.
 #[tactic(auto, unfolding(crate::specs::Entry::hex_handle_in))]

@@ -1,7 +1,7 @@
 //! Assembles a line in words into the buffer of a command. Parsing the buffer yields the command
 //! that the line encodes.
 
-ghost use Rattle.tpm_types.specs.Limits.{buffer_limit};
+ghost use Rattle.tpm_types_common.specs.Limits.{buffer_limit};
 ghost use Rattle.std.specs.Prelude.{◌≡◌, ◌≤◌, ℕ, List, [], length, IfOk, Ok};
 ghost use Rattle.std.specs.List.{flat_map};
 ghost use Rattle.tpm_types_command.specs.AuthArea.{entries_text};

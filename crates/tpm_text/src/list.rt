@@ -16,7 +16,7 @@ use crate::word::hash_in;
 use tpm_bytes::Sink;
 use tpm_mac::HashAlg;
 use tpm_number::{TokenFault, is_word, number_in};
-use tpm_types::{BankSelection, PcrIndex, PcrSelect, hash_number};
+use tpm_types_common::{BankSelection, PcrIndex, PcrSelect, hash_number};
 
 /// Returns the hash algorithm that is named before the first colon, and all text after the colon.
 #[tactic(auto, unfolding(crate::specs::Parameter::hash_and_rest_in))]

@@ -5,8 +5,8 @@ ghost use Rattle.std.specs.Prelude.{◌≡◌, ℕ, ◌+◌, ◌≤◌, ◌++◌
 ghost use Rattle.std.specs.Fmt.{decimal};
 ghost use Rattle.std.specs.String.{string_bytes};
 ghost use Rattle.arrayvec.specs.ArrayString.{array_string_len};
-ghost use Rattle.tpm_types.specs.Check.{check_number};
-ghost use Rattle.tpm_types.specs.declared.check.Check.{Check};
+ghost use Rattle.tpm_types_common.specs.Check.{check_number};
+ghost use Rattle.tpm_types_common.specs.declared.check.Check.{Check};
 ghost use Rattle.tpm_record.specs.Record.{Record};
 ghost use Rattle.tpm_step.specs.step.Events.{PlainEvent, plain_event};
 ghost use Rattle.tpm_step.specs.step.Execution.{Executes};

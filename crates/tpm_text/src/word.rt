@@ -9,7 +9,7 @@ use crate::draft::Draft;
 use tpm_bytes::Sink;
 use tpm_mac::HashAlg;
 use tpm_number::{TokenFault, is_word};
-use tpm_types::{SymmetricDefinition, hash_number, hash_or_null_number};
+use tpm_types_common::{SymmetricDefinition, hash_number, hash_or_null_number};
 
 /// The hash algorithm that a word stands for.
 pub fn hash_in(word: &[u8]) -> Result<HashAlg, TokenFault>

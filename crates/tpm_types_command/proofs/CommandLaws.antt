@@ -5,8 +5,8 @@ use Rattle.std.specs.List.{flat_map, AllByRecursion}
 use Rattle.tpm_bytes.specs.Reading.{◌>>=◌, Reads}
 use Rattle.tpm_bytes.proofs.Fields.{AreBytes, Takes, Takes-then, bind_ok, ok_is}
 use Rattle.tpm_types_command.specs.declared.header.HeaderFault.{HeaderFault}
-use Rattle.tpm_types.specs.declared.handle.Handle.{Handle}
-use Rattle.tpm_types.specs.declared.rc.Rc.{Rc}
+use Rattle.tpm_types_common.specs.declared.handle.Handle.{Handle}
+use Rattle.tpm_types_common.specs.declared.rc.Rc.{Rc}
 use Rattle.tpm_types_command.specs.declared.tag.Tag.{Tag}
 use Rattle.tpm_types_command.specs.declared.tag.Tag.TheVariants.{NoSessions, Sessions}
 use Rattle.tpm_types_command.specs.declared.command.Command.{Command}

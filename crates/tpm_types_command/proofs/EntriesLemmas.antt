@@ -9,9 +9,9 @@ use Rattle.tpm_bytes.specs.Reading.{◌>>=◌}
 use Rattle.tpm_types_command.specs.AuthEntry.{Entry, HasSizes, entry_at, entry_of, auth_entry_text}
 use Rattle.tpm_types_command.specs.AuthArea.{entries_in, entries_text}
 use Rattle.tpm_types_command.proofs.EntryLaws.{length-auth_entry_text}
-use Rattle.tpm_types.specs.declared.rc.Rc.{Rc}
-use Rattle.tpm_types.specs.declared.rc.ResponseCode.TheVariants as code
-use Rattle.tpm_types.specs.Rc.{plain}
+use Rattle.tpm_types_common.specs.declared.rc.Rc.{Rc}
+use Rattle.tpm_types_common.specs.declared.rc.ResponseCode.TheVariants as code
+use Rattle.tpm_types_common.specs.Rc.{plain}
 
 -- the result of a read, with the previously read entries prepended
 abbrev pub behind : List Entry → Result (List Entry) Rc → Result (List Entry) Rc

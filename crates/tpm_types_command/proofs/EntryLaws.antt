@@ -8,11 +8,11 @@ use Rattle.tpm_bytes.specs.Reading.{◌>>=◌, bytes_at, number_at, or_fault, re
 use Rattle.tpm_bytes.specs.Writing.{sized_text}
 use Rattle.tpm_bytes.proofs.Fields.{AreBytes, Takes, Takes-then, bind_ok, or_fault_ok, passed, bytes_take, bytes_again, number_or_takes, number_or_again, sized_takes, sized_again, wide8, wide32, ok_is}
 use Rattle.tpm_bytes.proofs.Spelling.{IsAgain, IsTaken}
-use Rattle.tpm_types.specs.declared.rc.ResponseCode.TheVariants as code
-use Rattle.tpm_types.specs.Rc.{plain}
+use Rattle.tpm_types_common.specs.declared.rc.ResponseCode.TheVariants as code
+use Rattle.tpm_types_common.specs.Rc.{plain}
 use Rattle.tpm_types_command.specs.AuthEntry.{Entry, IsEntry, entry_at, auth_entry_text}
-use Rattle.tpm_types.proofs.FieldLaws.{number_spelled}
-use Rattle.tpm_types.proofs.Spelled.{Spelled, all_read, first, four_texts, respelled, then}
+use Rattle.tpm_types_common.proofs.FieldLaws.{number_spelled}
+use Rattle.tpm_types_common.proofs.Spelled.{Spelled, all_read, first, four_texts, respelled, then}
 use Rattle.tpm_types_command.specs.AuthArea.{area_at, area_text, entries_in, entries_text}
 
 -- ---- an entry

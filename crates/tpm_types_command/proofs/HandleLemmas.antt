@@ -4,12 +4,12 @@ use Rattle.std.specs.List.{flat_map, AllByRecursion}
 use Rattle.std.specs.Int.{w32, to_be_bytes}
 use Rattle.tpm_bytes.specs.Reading.{◌>>=◌, number_at, or_fault}
 use Rattle.tpm_bytes.proofs.Fields.{AreBytes, Takes, Takes-then, bind_ok, number_or_takes, number_or_again, wide32, ok_is}
-use Rattle.tpm_types.specs.declared.handle.Handle.{Handle}
-use Rattle.tpm_types.specs.declared.rc.Rc.{Rc}
-use Rattle.tpm_types.specs.declared.rc.ResponseCode.TheVariants as code
-use Rattle.tpm_types.specs.declared.rc.Place.TheVariants as place
+use Rattle.tpm_types_common.specs.declared.handle.Handle.{Handle}
+use Rattle.tpm_types_common.specs.declared.rc.Rc.{Rc}
+use Rattle.tpm_types_common.specs.declared.rc.ResponseCode.TheVariants as code
+use Rattle.tpm_types_common.specs.declared.rc.Place.TheVariants as place
 use Rattle.tpm_types_command.specs.Command.{IsHandle, handle_text, handles_at, handles_text}
-use Rattle.tpm_types.specs.Rc.{at, plain}
+use Rattle.tpm_types_common.specs.Rc.{at, plain}
 use Rattle.tpm_bytes.proofs.Joining.{behind, moved}
 
 abbrev pub cut_at : ℕ → Rc

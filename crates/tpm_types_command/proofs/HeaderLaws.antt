@@ -1,5 +1,5 @@
 -- A read returns the header of a command exactly when the input starts with its encoding.
-use Rattle.tpm_types.specs.Limits.{buffer_limit}
+use Rattle.tpm_types_common.specs.Limits.{buffer_limit}
 use Rattle.std.proofs.Common.{◌≡◌, ℕ, ◌+◌, ◌^◌, ◌≤◌, Bool, true, false, ltb, List, ◌++◌, length, take, drop, Option, Some, Result, Ok, refl, sym, ap, subst, ◌∙◌, arith}
 use Rattle.std.specs.Prelude.{◌==◌, ◌||◌, not, ok_or}
 use Rattle.std.specs.Int.{Width, w16, w32, byte_len, from_be_bytes, to_be_bytes}
@@ -18,7 +18,7 @@ use Rattle.tpm_types_command.specs.Header.{code_field, header_at, header_text, s
 use Rattle.tpm_types_command.specs.Tag.{tag_named, tag_number}
 use Rattle.tpm_commands.proofs.Codes.{code_named-again, code_named-is, code_number-small}
 use Rattle.tpm_types_command.proofs.Tags.{tag_named-again, tag_named-is, tag_number-small}
-use Rattle.tpm_types.proofs.SelectionLaws.{is_equal}
+use Rattle.tpm_types_common.proofs.SelectionLaws.{is_equal}
 
 neither : (a b : Bool) → (a || b) ≡ false → (a ≡ false) × (b ≡ false)
 neither true b e = absurd cc

@@ -1,6 +1,6 @@
 -- Looking up a number finds a tag with that number, and each tag is found by its number.
 use Rattle.std.proofs.Common.{◌≡◌, ℕ, ◌<◌, ◌^◌, Some, None, refl, arith}
-use Rattle.tpm_types.proofs.Named.{link, none}
+use Rattle.tpm_types_common.proofs.Named.{link, none}
 use Rattle.tpm_types_command.specs.declared.tag.Tag.{Tag}
 use Rattle.tpm_types_command.specs.declared.tag.Tag.TheVariants.{NoSessions, Sessions}
 use Rattle.tpm_types_command.specs.Tag.{tag_named, tag_number}

@@ -6,10 +6,10 @@ use Rattle.std.specs.List.{flat_map}
 use Rattle.std.specs.Int.{w32, to_be_bytes}
 use Rattle.tpm_bytes.specs.Reading.{◌>>=◌, bytes_at, number_at, or_fault, refused_if}
 use Rattle.tpm_types_command.specs.declared.auth_entry.AuthEntry.{AuthEntry}
-use Rattle.tpm_types.specs.declared.rc.Rc.{Rc}
-use Rattle.tpm_types.specs.declared.rc.ResponseCode.TheVariants as code
+use Rattle.tpm_types_common.specs.declared.rc.Rc.{Rc}
+use Rattle.tpm_types_common.specs.declared.rc.ResponseCode.TheVariants as code
 use Rattle.tpm_types_command.specs.AuthEntry.{Entry, entry_at, entry_of, auth_entry_text}
-use Rattle.tpm_types.specs.Rc.{plain}
+use Rattle.tpm_types_common.specs.Rc.{plain}
 
 abbrev pub entries_text : List Entry → List ℕ
 entries_text entries = flat_map auth_entry_text entries

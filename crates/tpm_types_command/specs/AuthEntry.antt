@@ -5,11 +5,11 @@ use Rattle.std.specs.Int.{w8, w32, to_be_bytes}
 use Rattle.tpm_bytes.specs.Reading.{◌>>=◌, number_at, or_fault, sized_at}
 use Rattle.tpm_bytes.specs.Writing.{sized_text}
 use Rattle.tpm_types_command.specs.declared.auth_entry.AuthEntry.{AuthEntry}
-use Rattle.tpm_types.specs.declared.session_attributes.SessionAttributes.{SessionAttributes}
-use Rattle.tpm_types.specs.declared.handle.Handle.{Handle}
-use Rattle.tpm_types.specs.declared.rc.Rc.{Rc}
-use Rattle.tpm_types.specs.declared.rc.ResponseCode.TheVariants as code
-use Rattle.tpm_types.specs.Rc.{plain}
+use Rattle.tpm_types_common.specs.declared.session_attributes.SessionAttributes.{SessionAttributes}
+use Rattle.tpm_types_common.specs.declared.handle.Handle.{Handle}
+use Rattle.tpm_types_common.specs.declared.rc.Rc.{Rc}
+use Rattle.tpm_types_common.specs.declared.rc.ResponseCode.TheVariants as code
+use Rattle.tpm_types_common.specs.Rc.{plain}
 
 -- an entry, regardless of where its bytes are in memory
 pub record Entry : Type 0 where

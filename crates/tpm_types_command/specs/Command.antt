@@ -1,6 +1,6 @@
 -- Whole commands. TPM 2.0 Library, Part 1, sections 18.2 to 18.6: the header, the handles, the
 -- authorization area (if there are sessions), and the parameters.
-use Rattle.tpm_types.specs.Limits.{buffer_limit}
+use Rattle.tpm_types_common.specs.Limits.{buffer_limit}
 use Rattle.std.specs.Prelude.{◌≡◌, ℕ, zero, suc, ◌+◌, ◌<◌, ◌≤◌, ◌^◌, ◌↔◌}
 use Rattle.std.specs.Prelude.{List, [], ◌∷◌, ◌++◌, length, map}
 use Rattle.std.specs.Prelude.{Result, Ok, Err, IsOk, OnOk, OnErr}
@@ -9,17 +9,17 @@ use Rattle.std.specs.Int.{w32, to_be_bytes}
 use Rattle.tpm_bytes.specs.Reading.{◌>>=◌, number_at, or_fault}
 use Rattle.tpm_types_command.specs.declared.header.HeaderFault.{HeaderFault}
 use Rattle.tpm_commands.specs.declared.command_code.CommandCode.{CommandCode}
-use Rattle.tpm_types.specs.declared.handle.Handle.{Handle}
-use Rattle.tpm_types.specs.declared.rc.Rc.{Rc}
-use Rattle.tpm_types.specs.declared.rc.ResponseCode.TheVariants as code
-use Rattle.tpm_types.specs.declared.rc.Place.TheVariants as place
+use Rattle.tpm_types_common.specs.declared.handle.Handle.{Handle}
+use Rattle.tpm_types_common.specs.declared.rc.Rc.{Rc}
+use Rattle.tpm_types_common.specs.declared.rc.ResponseCode.TheVariants as code
+use Rattle.tpm_types_common.specs.declared.rc.Place.TheVariants as place
 use Rattle.tpm_types_command.specs.declared.tag.Tag.{Tag}
 use Rattle.tpm_types_command.specs.declared.tag.Tag.TheVariants.{NoSessions, Sessions}
 use Rattle.tpm_types_command.specs.declared.command.Command.{Command}
 use Rattle.tpm_types_command.specs.AuthArea.{area_at, area_text}
 use Rattle.tpm_types_command.specs.AuthEntry.{Entry, HasSizes, IsEntry, entry_of}
 use Rattle.tpm_types_command.specs.Header.{header_at, header_fault_rc, header_text}
-use Rattle.tpm_types.specs.Rc.{at, plain}
+use Rattle.tpm_types_common.specs.Rc.{at, plain}
 use Rattle.tpm_commands.specs.CommandCode.{handle_count}
 
 -- a command, regardless of where its bytes are in memory

@@ -1,5 +1,5 @@
 -- The header of a command: tag, commandSize and commandCode. TPM 2.0 Library, Part 1, section 18.2.
-use Rattle.tpm_types.specs.Limits.{buffer_limit}
+use Rattle.tpm_types_common.specs.Limits.{buffer_limit}
 use Rattle.std.specs.Prelude.{ℕ, ◌==◌, ◌||◌, not, nat_lt}
 use Rattle.std.specs.Prelude.{List, ◌++◌, length, drop, take, Result, Ok, ok_or}
 use Rattle.std.specs.Int.{w16, w32, from_be_bytes, to_be_bytes}
@@ -8,10 +8,10 @@ use Rattle.tpm_types_command.specs.declared.header.Header.{Header}
 use Rattle.tpm_types_command.specs.declared.header.HeaderFault.{HeaderFault}
 use Rattle.tpm_types_command.specs.declared.header.HeaderFault.TheVariants as fault
 use Rattle.tpm_commands.specs.declared.command_code.CommandCode.{CommandCode}
-use Rattle.tpm_types.specs.declared.rc.Rc.{Rc}
-use Rattle.tpm_types.specs.declared.rc.ResponseCode.TheVariants as code
+use Rattle.tpm_types_common.specs.declared.rc.Rc.{Rc}
+use Rattle.tpm_types_common.specs.declared.rc.ResponseCode.TheVariants as code
 use Rattle.tpm_types_command.specs.declared.tag.Tag.{Tag}
-use Rattle.tpm_types.specs.Rc.{plain}
+use Rattle.tpm_types_common.specs.Rc.{plain}
 use Rattle.tpm_types_command.specs.Tag.{tag_named, tag_number}
 use Rattle.tpm_commands.specs.CommandCode.{code_named, code_number}
 

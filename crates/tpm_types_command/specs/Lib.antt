@@ -5,6 +5,6 @@ pub mod Header
 pub mod Command
 pub use Rattle.tpm_bytes.specs.Reading
 pub use Rattle.tpm_bytes.specs.Writing
-pub use Rattle.tpm_types.specs.Handle
-pub use Rattle.tpm_types.specs.SessionAttributes
+pub use Rattle.tpm_types_common.specs.Handle
+pub use Rattle.tpm_types_common.specs.SessionAttributes
 pub use Rattle.tpm_commands.specs.CommandCode

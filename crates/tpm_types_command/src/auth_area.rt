@@ -7,7 +7,7 @@ ghost use Rattle.tpm_bytes.specs.Reading.{Reads};
 use crate::auth_entry::AuthEntry;
 use arrayvec::ArrayVec;
 use tpm_bytes::Cursor;
-use tpm_types::{Rc, ResponseCode};
+use tpm_types_common::{Rc, ResponseCode};
 
 /// The maximum number of entries in an authorization area.
 pub const ENTRY_LIMIT: usize = 3;

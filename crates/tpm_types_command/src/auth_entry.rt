@@ -6,7 +6,7 @@ ghost use Rattle.std.specs.Option.{SomeIff};
 ghost use Rattle.tpm_bytes.specs.Reading.{AreBytes, Reads};
 
 use tpm_bytes::{Cursor, Full, Sink};
-use tpm_types::{Handle, Rc, ResponseCode, SessionAttributes};
+use tpm_types_common::{Handle, Rc, ResponseCode, SessionAttributes};
 
 /// One entry of a command's authorization area: TPMS_AUTH_COMMAND (Part 2, section 10.13.2). The
 /// nonce and the HMAC (or password) may be of any length that fits their size fields.

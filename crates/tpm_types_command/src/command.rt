@@ -7,7 +7,7 @@ ghost use Rattle.tpm_commands.specs.CommandCode.{handle_count};
 use crate::auth_entry::AuthEntry;
 use arrayvec::ArrayVec;
 use tpm_commands::CommandCode;
-use tpm_types::Handle;
+use tpm_types_common::Handle;
 
 pub mod reading;
 mod writing;

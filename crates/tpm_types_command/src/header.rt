@@ -9,7 +9,7 @@ use crate::tag::Tag;
 use arrayvec::ArrayVec;
 use tpm_bytes::Cursor;
 use tpm_commands::CommandCode;
-use tpm_types::{BUFFER_LIMIT, Handle, Rc, ResponseCode};
+use tpm_types_common::{BUFFER_LIMIT, Handle, Rc, ResponseCode};
 
 /// The size of a command's header in bytes.
 pub const HEADER_SIZE: usize = 10;

@@ -3,7 +3,7 @@
 //! Whole commands (TPM 2.0 Library, Part 1, section 18): their headers, handles, authorization
 //! areas and entries.
 //!
-//! The crate uses `tpm_commands` for the supported commands, and `tpm_types` for handles and
+//! The crate uses `tpm_commands` for the supported commands, and `tpm_types_common` for handles and
 //! response codes. A read returns the value, or the standard's response code for the first fault. A
 //! read that fails leaves the input unchanged, and a write that fails writes nothing. Entries are
 //! read into an array that the caller passes. After a read that fails, the contents of this array

@@ -4,8 +4,8 @@
 //! to the entities that its handles name. This crate defines the type of a Name, the Name of a
 //! handle, and qualified Names.
 //!
-//! The crate uses `tpm_types` for handles and `tpm_mac` for digests; `tpm_name` computes the Names
-//! of objects and NV indices. No function of this crate allocates memory or fails.
+//! The crate uses `tpm_types_common` for handles and `tpm_mac` for digests; `tpm_name` computes the
+//! Names of objects and NV indices. No function of this crate allocates memory or fails.
 
 mod name;
 

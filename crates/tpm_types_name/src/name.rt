@@ -10,7 +10,7 @@ use arrayvec::ArrayVec;
 use std::marker::Model;
 use tpm_bytes::{append, copied};
 use tpm_mac::{HashAlg, digest_parts};
-use tpm_types::{Handle, hash_number};
+use tpm_types_common::{Handle, hash_number};
 
 /// The Name of an entity: at most 34 bytes. Contracts represent it by its list of bytes.
 #[derive(Drop)]

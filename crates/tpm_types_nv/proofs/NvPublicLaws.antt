@@ -6,23 +6,23 @@ use Rattle.tpm_bytes.specs.Reading.{◌>>=◌, number_at, or_fault, refused_if}
 use Rattle.tpm_bytes.specs.Writing.{sized_text}
 use Rattle.tpm_bytes.proofs.Fields.{Takes, bind_ok, ok_is, passed, number_or_again, number_or_takes, wide16, wide32}
 use Rattle.tpm_mac.specs.declared.algorithm.HashAlg.{HashAlg}
-use Rattle.tpm_types.specs.Handle.{is_nv_index}
-use Rattle.tpm_types.specs.declared.handle.Handle.{Handle}
-use Rattle.tpm_types.specs.declared.rc.ResponseCode.TheVariants as code
-use Rattle.tpm_types.specs.Algorithm.{hash_number}
-use Rattle.tpm_types.specs.Handle.{numbered_handle}
-use Rattle.tpm_types.specs.Rc.{plain}
-use Rattle.tpm_types.specs.AttributeBits.{attribute_bits_at}
-use Rattle.tpm_types.proofs.AttributeBitsLaws.{attribute_bits_spelled}
-use Rattle.tpm_types.proofs.FieldLaws.{buffer_spelled, number_spelled}
-use Rattle.tpm_types.proofs.HashLaws.{hash_spelled}
-use Rattle.tpm_types.proofs.Spelled.{Spelled, all_read, first, respelled, then}
+use Rattle.tpm_types_common.specs.Handle.{is_nv_index}
+use Rattle.tpm_types_common.specs.declared.handle.Handle.{Handle}
+use Rattle.tpm_types_common.specs.declared.rc.ResponseCode.TheVariants as code
+use Rattle.tpm_types_common.specs.Algorithm.{hash_number}
+use Rattle.tpm_types_common.specs.Handle.{numbered_handle}
+use Rattle.tpm_types_common.specs.Rc.{plain}
+use Rattle.tpm_types_common.specs.AttributeBits.{attribute_bits_at}
+use Rattle.tpm_types_common.proofs.AttributeBitsLaws.{attribute_bits_spelled}
+use Rattle.tpm_types_common.proofs.FieldLaws.{buffer_spelled, number_spelled}
+use Rattle.tpm_types_common.proofs.HashLaws.{hash_spelled}
+use Rattle.tpm_types_common.proofs.Spelled.{Spelled, all_read, first, respelled, then}
 use Rattle.tpm_types_nv.specs.declared.nv_attributes.NvAttributes.{NvAttributes}
 use Rattle.tpm_types_nv.specs.declared.nv_public.NvPublic.{NvPublic}
 use Rattle.tpm_types_nv.specs.NvAttributes.{IsNvAttributes, nv_attributes_at, nv_attributes_text, reserved_bits}
 use Rattle.tpm_types_nv.specs.NvPublic.{IsNvIndex, IsNvPublic, nv_index_at, nv_index_text, nv_public_at, nv_public_text}
-use Rattle.tpm_types.specs.Filled.{filled_by}
-use Rattle.tpm_types.proofs.FilledLaws.{filled_spelled}
+use Rattle.tpm_types_common.specs.Filled.{filled_by}
+use Rattle.tpm_types_common.proofs.FilledLaws.{filled_spelled}
 
 -- ---- attributes
 

@@ -4,4 +4,4 @@ pub mod AreNvAttributes
 pub mod NvPublic
 pub use Rattle.tpm_bytes.specs.Reading
 pub use Rattle.tpm_bytes.specs.Writing
-pub use Rattle.tpm_types.specs.Filled
+pub use Rattle.tpm_types_common.specs.Filled

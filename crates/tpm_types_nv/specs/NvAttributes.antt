@@ -9,8 +9,8 @@ use Rattle.tpm_types_nv.specs.declared.nv_attributes.NvAttribute.TheVariants as 
 use Rattle.tpm_types_nv.specs.declared.nv_attributes.NvAttributes.{NvAttributes}
 use Rattle.tpm_types_nv.specs.declared.nv_type.NvType.{NvType}
 use Rattle.tpm_types_nv.specs.NvType.{nv_type_named, nv_type_number}
-use Rattle.tpm_types.specs.AttributeBits.{AreAttributeBits, attribute_bits_at}
-use Rattle.tpm_types.specs.declared.rc.Rc.{Rc}
+use Rattle.tpm_types_common.specs.AttributeBits.{AreAttributeBits, attribute_bits_at}
+use Rattle.tpm_types_common.specs.declared.rc.Rc.{Rc}
 
 -- the bit number of an attribute, counted from 0
 abbrev pub attribute_bit : NvAttribute → ℕ

@@ -6,7 +6,7 @@ ghost use Rattle.tpm_bytes.specs.Reading.{Reads};
 
 use crate::nv_type::NvType;
 use tpm_bytes::Cursor;
-use tpm_types::{Rc, read_attribute_bits};
+use tpm_types_common::{Rc, read_attribute_bits};
 
 /// The bits that are used neither for an attribute nor for the type: 8, 9 and 20 to 24.
 const RESERVED_BITS: u32 = 0x01f0_0300;

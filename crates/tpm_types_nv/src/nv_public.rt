@@ -7,7 +7,7 @@ ghost use Rattle.tpm_bytes.specs.Writing.{Puts, sized_text};
 use crate::nv_attributes::NvAttributes;
 use tpm_bytes::{Cursor, Full, Readable, Sink};
 use tpm_mac::HashAlg;
-use tpm_types::{Handle, Octets, Rc, ResponseCode, hash_number, read_filled, read_hash};
+use tpm_types_common::{Handle, Octets, Rc, ResponseCode, hash_number, read_filled, read_hash};
 
 /// The public area of an NV index: TPMS_NV_PUBLIC (Part 2, section 13.5).
 #[derive(Drop)]
@@ -25,7 +25,7 @@ pub struct NvPublic {
 impl NvPublic {
     ghost use Rattle.tpm_types_nv.specs.NvPublic.{IsNvPublic, nv_index_at, nv_public_at, nv_public_text};
     ghost use Rattle.tpm_types_nv.specs.declared.nv_public.NvPublic.{NvPublic};
-    ghost use Rattle.tpm_types.specs.Filled.{filled_by};
+    ghost use Rattle.tpm_types_common.specs.Filled.{filled_by};
 
     /// Reads a public area. Fails with INSUFFICIENT if it is truncated, or else with the first
     /// fault of a field.
@@ -44,7 +44,7 @@ impl NvPublic {
     }
 
     /// Reads a public area that fills a sized buffer (TPM2B_NV_PUBLIC). Fails under the same
-    /// conditions as [`tpm_types::read_filled`].
+    /// conditions as [`tpm_types_common::read_filled`].
     pub fn read_sized(text: &mut Cursor) -> Result<NvPublic, Rc>
         ensures exact { Reads (λ public. public) (filled_by nv_public_at text.old) text.old
             result text.new }

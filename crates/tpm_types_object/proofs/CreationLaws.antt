@@ -5,18 +5,18 @@ use Rattle.tpm_bytes.specs.Writing.{sized_text}
 use Rattle.tpm_bytes.proofs.Fields.{wide8}
 use Rattle.tpm_mac.specs.declared.algorithm.HashAlg.{HashAlg}
 use Rattle.tpm_types_object.specs.declared.creation_data.CreationData.{CreationData}
-use Rattle.tpm_types.specs.declared.pcr_selection.BankSelection.{BankSelection}
-use Rattle.tpm_types.specs.declared.rc.ResponseCode.TheVariants as code
-use Rattle.tpm_types.specs.Algorithm.{hash_or_null_number}
+use Rattle.tpm_types_common.specs.declared.pcr_selection.BankSelection.{BankSelection}
+use Rattle.tpm_types_common.specs.declared.rc.ResponseCode.TheVariants as code
+use Rattle.tpm_types_common.specs.Algorithm.{hash_or_null_number}
 use Rattle.tpm_types_object.specs.CreationData.{IsCreationData, creation_data_at, creation_data_text}
-use Rattle.tpm_types.specs.Filled.{filled_by}
-use Rattle.tpm_types.specs.PcrSelection.{selection_text}
-use Rattle.tpm_types.specs.Rc.{plain}
-use Rattle.tpm_types.proofs.BanksLemmas.{length-selection_text}
-use Rattle.tpm_types.proofs.FieldLaws.{buffer_spelled, number_spelled, selection_spelled}
-use Rattle.tpm_types.proofs.FilledLaws.{filled_spelled}
-use Rattle.tpm_types.proofs.HashLaws.{hash_or_null_spelled}
-use Rattle.tpm_types.proofs.Spelled.{Spelled, all_read, first, respelled, seven_texts, then}
+use Rattle.tpm_types_common.specs.Filled.{filled_by}
+use Rattle.tpm_types_common.specs.PcrSelection.{selection_text}
+use Rattle.tpm_types_common.specs.Rc.{plain}
+use Rattle.tpm_types_common.proofs.BanksLemmas.{length-selection_text}
+use Rattle.tpm_types_common.proofs.FieldLaws.{buffer_spelled, number_spelled, selection_spelled}
+use Rattle.tpm_types_common.proofs.FilledLaws.{filled_spelled}
+use Rattle.tpm_types_common.proofs.HashLaws.{hash_or_null_spelled}
+use Rattle.tpm_types_common.proofs.Spelled.{Spelled, all_read, first, respelled, seven_texts, then}
 
 -- the fields of creation data, in order
 abbrev Fields : Type 0

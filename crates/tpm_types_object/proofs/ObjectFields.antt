@@ -1,10 +1,10 @@
 -- A read returns an object type exactly when the input starts with its encoding. The same holds for
 -- the attributes of an object.
 use Rattle.std.proofs.Common.{◌≡◌, ℕ, ◌^◌, ◌<◌, Some, None, refl, arith}
-use Rattle.tpm_types.specs.declared.rc.ResponseCode.TheVariants as code
-use Rattle.tpm_types.proofs.Named.{link, named_spelled, none}
-use Rattle.tpm_types.proofs.AttributeBitsLaws.{attribute_bits_spelled}
-use Rattle.tpm_types.proofs.Spelled.{Spelled}
+use Rattle.tpm_types_common.specs.declared.rc.ResponseCode.TheVariants as code
+use Rattle.tpm_types_common.proofs.Named.{link, named_spelled, none}
+use Rattle.tpm_types_common.proofs.AttributeBitsLaws.{attribute_bits_spelled}
+use Rattle.tpm_types_common.proofs.Spelled.{Spelled}
 use Rattle.tpm_types_object.specs.declared.public.ObjectType.{ObjectType}
 use Rattle.tpm_types_object.specs.declared.public.ObjectType.TheVariants as object
 use Rattle.tpm_types_object.specs.ObjectAttributes.{IsAttributes, attributes_at, attributes_text, reserved_bits}

@@ -14,22 +14,22 @@ use Rattle.tpm_types_object.specs.declared.public.ObjectType.TheVariants as obje
 use Rattle.tpm_types_object.specs.declared.public.Public.{Public}
 use Rattle.tpm_types_object.specs.declared.public.PublicParameters.{PublicParameters}
 use Rattle.tpm_types_object.specs.declared.public.PublicParameters.TheVariants as parameters_of
-use Rattle.tpm_types.specs.declared.rc.Rc.{Rc}
-use Rattle.tpm_types.specs.declared.rc.ResponseCode.TheVariants as code
-use Rattle.tpm_types.specs.declared.symmetric.SymmetricDefinition.TheVariants as symmetric
-use Rattle.tpm_types.specs.Algorithm.{hash_at, hash_number}
-use Rattle.tpm_types.specs.Buffer.{buffer_at}
-use Rattle.tpm_types.specs.Filled.{filled_by}
+use Rattle.tpm_types_common.specs.declared.rc.Rc.{Rc}
+use Rattle.tpm_types_common.specs.declared.rc.ResponseCode.TheVariants as code
+use Rattle.tpm_types_common.specs.declared.symmetric.SymmetricDefinition.TheVariants as symmetric
+use Rattle.tpm_types_common.specs.Algorithm.{hash_at, hash_number}
+use Rattle.tpm_types_common.specs.Buffer.{buffer_at}
+use Rattle.tpm_types_common.specs.Filled.{filled_by}
 use Rattle.tpm_types_object.specs.ObjectAttributes.{attributes_at, attributes_text}
 use Rattle.tpm_types_object.specs.Public.{IsPublic, behind_scheme_at, sym_cipher_at, hmac_at, object_type, object_type_text, parameters_at, parameters_text, public_at, public_text, scheme_at, scheme_text, type_of_parameters}
-use Rattle.tpm_types.specs.Rc.{plain}
-use Rattle.tpm_types.specs.Symmetric.{cipher_at, symmetric_text}
-use Rattle.tpm_types.proofs.FieldLaws.{buffer_spelled}
+use Rattle.tpm_types_common.specs.Rc.{plain}
+use Rattle.tpm_types_common.specs.Symmetric.{cipher_at, symmetric_text}
+use Rattle.tpm_types_common.proofs.FieldLaws.{buffer_spelled}
 use Rattle.tpm_types_object.proofs.ObjectFields.{attributes_spelled, object_type_spelled}
-use Rattle.tpm_types.proofs.FilledLaws.{filled_spelled}
-use Rattle.tpm_types.proofs.HashLaws.{hash_spelled}
-use Rattle.tpm_types.proofs.Spelled.{Spelled, all_read, first, for_each, respelled, six_texts, takes, then}
-use Rattle.tpm_types.proofs.SymmetricLaws.{chosen, cipher_again, cipher_takes}
+use Rattle.tpm_types_common.proofs.FilledLaws.{filled_spelled}
+use Rattle.tpm_types_common.proofs.HashLaws.{hash_spelled}
+use Rattle.tpm_types_common.proofs.Spelled.{Spelled, all_read, first, for_each, respelled, six_texts, takes, then}
+use Rattle.tpm_types_common.proofs.SymmetricLaws.{chosen, cipher_again, cipher_takes}
 
 -- ---- schemes
 

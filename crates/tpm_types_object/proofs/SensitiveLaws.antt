@@ -4,14 +4,14 @@ use Rattle.std.proofs.Common.{ℕ, ◌^◌, ◌<◌, List, ◌++◌, length, ref
 use Rattle.tpm_bytes.specs.Writing.{sized_text}
 use Rattle.tpm_types_object.specs.declared.public.ObjectType.{ObjectType}
 use Rattle.tpm_types_object.specs.declared.sensitive.Sensitive.{Sensitive}
-use Rattle.tpm_types.specs.Filled.{filled_by}
+use Rattle.tpm_types_common.specs.Filled.{filled_by}
 use Rattle.tpm_types_object.specs.Public.{object_type_text}
 use Rattle.tpm_types_object.specs.Sensitive.{IsSensitive, sensitive_at, sensitive_text}
 use Rattle.tpm_types_object.specs.SensitiveCreate.{IsSensitiveCreate, SensitiveValues, sensitive_create_at, sensitive_create_text}
-use Rattle.tpm_types.proofs.FieldLaws.{buffer_spelled}
+use Rattle.tpm_types_common.proofs.FieldLaws.{buffer_spelled}
 use Rattle.tpm_types_object.proofs.ObjectFields.{object_type_spelled}
-use Rattle.tpm_types.proofs.FilledLaws.{filled_spelled}
-use Rattle.tpm_types.proofs.Spelled.{Spelled, all_read, first, four_texts, respelled, then, two_texts}
+use Rattle.tpm_types_common.proofs.FilledLaws.{filled_spelled}
+use Rattle.tpm_types_common.proofs.Spelled.{Spelled, all_read, first, four_texts, respelled, then, two_texts}
 
 -- the fields of a sensitive area, in order
 abbrev Fields : Type 0

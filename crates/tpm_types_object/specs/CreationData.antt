@@ -5,12 +5,12 @@ use Rattle.std.specs.Int.{w8, w16, to_be_bytes}
 use Rattle.tpm_bytes.specs.Reading.{◌>>=◌, number_at, or_fault}
 use Rattle.tpm_bytes.specs.Writing.{sized_text}
 use Rattle.tpm_types_object.specs.declared.creation_data.CreationData.{CreationData}
-use Rattle.tpm_types.specs.declared.rc.Rc.{Rc}
-use Rattle.tpm_types.specs.declared.rc.ResponseCode.TheVariants as code
-use Rattle.tpm_types.specs.Algorithm.{hash_or_null_at, hash_or_null_number}
-use Rattle.tpm_types.specs.Buffer.{buffer_at}
-use Rattle.tpm_types.specs.PcrSelection.{IsSelection, selection_at, selection_text}
-use Rattle.tpm_types.specs.Rc.{plain}
+use Rattle.tpm_types_common.specs.declared.rc.Rc.{Rc}
+use Rattle.tpm_types_common.specs.declared.rc.ResponseCode.TheVariants as code
+use Rattle.tpm_types_common.specs.Algorithm.{hash_or_null_at, hash_or_null_number}
+use Rattle.tpm_types_common.specs.Buffer.{buffer_at}
+use Rattle.tpm_types_common.specs.PcrSelection.{IsSelection, selection_at, selection_text}
+use Rattle.tpm_types_common.specs.Rc.{plain}
 
 -- the encoding of creation data: the selected PCRs and the digest of their values, the locality,
 -- the parent's nameAlg, Name and qualified Name, and the caller's data

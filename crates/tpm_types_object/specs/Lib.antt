@@ -5,5 +5,5 @@ pub mod SensitiveCreate
 pub mod CreationData
 pub use Rattle.tpm_bytes.specs.Reading
 pub use Rattle.tpm_bytes.specs.Writing
-pub use Rattle.tpm_types.specs.PcrSelection
-pub use Rattle.tpm_types.specs.Filled
+pub use Rattle.tpm_types_common.specs.PcrSelection
+pub use Rattle.tpm_types_common.specs.Filled

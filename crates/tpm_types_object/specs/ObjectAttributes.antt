@@ -4,8 +4,8 @@ use Rattle.std.specs.List.{sum_by}
 use Rattle.std.specs.Int.{w32, bit_at, to_be_bytes}
 use Rattle.tpm_types_object.specs.declared.object_attributes.ObjectAttribute.{ObjectAttribute}
 use Rattle.tpm_types_object.specs.declared.object_attributes.ObjectAttribute.TheVariants as attribute
-use Rattle.tpm_types.specs.AttributeBits.{AreAttributeBits, attribute_bits_at}
-use Rattle.tpm_types.specs.declared.rc.Rc.{Rc}
+use Rattle.tpm_types_common.specs.AttributeBits.{AreAttributeBits, attribute_bits_at}
+use Rattle.tpm_types_common.specs.declared.rc.Rc.{Rc}
 
 -- the bit number of an attribute, counted from 0
 abbrev pub attribute_bit : ObjectAttribute → ℕ

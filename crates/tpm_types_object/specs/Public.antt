@@ -14,14 +14,14 @@ use Rattle.tpm_types_object.specs.declared.public.ObjectType.TheVariants as obje
 use Rattle.tpm_types_object.specs.declared.public.Public.{Public}
 use Rattle.tpm_types_object.specs.declared.public.PublicParameters.{PublicParameters}
 use Rattle.tpm_types_object.specs.declared.public.PublicParameters.TheVariants as parameters_of
-use Rattle.tpm_types.specs.declared.rc.Rc.{Rc}
-use Rattle.tpm_types.specs.declared.rc.ResponseCode.TheVariants as code
-use Rattle.tpm_types.specs.declared.symmetric.SymmetricDefinition.TheVariants as symmetric
-use Rattle.tpm_types.specs.Algorithm.{hash_at, hash_number}
-use Rattle.tpm_types.specs.Buffer.{buffer_at}
+use Rattle.tpm_types_common.specs.declared.rc.Rc.{Rc}
+use Rattle.tpm_types_common.specs.declared.rc.ResponseCode.TheVariants as code
+use Rattle.tpm_types_common.specs.declared.symmetric.SymmetricDefinition.TheVariants as symmetric
+use Rattle.tpm_types_common.specs.Algorithm.{hash_at, hash_number}
+use Rattle.tpm_types_common.specs.Buffer.{buffer_at}
 use Rattle.tpm_types_object.specs.ObjectAttributes.{IsAttributes, attributes_at, attributes_text}
-use Rattle.tpm_types.specs.Rc.{plain}
-use Rattle.tpm_types.specs.Symmetric.{cipher_at, symmetric_text}
+use Rattle.tpm_types_common.specs.Rc.{plain}
+use Rattle.tpm_types_common.specs.Symmetric.{cipher_at, symmetric_text}
 
 -- ---- the types of objects
 

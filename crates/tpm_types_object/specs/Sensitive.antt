@@ -2,10 +2,10 @@
 use Rattle.std.specs.Prelude.{ℕ, ◌≤◌, List, ◌++◌, length, Result, Ok}
 use Rattle.tpm_bytes.specs.Reading.{◌>>=◌}
 use Rattle.tpm_bytes.specs.Writing.{sized_text}
-use Rattle.tpm_types.specs.Limits.{sensitive_limit}
-use Rattle.tpm_types.specs.declared.rc.Rc.{Rc}
+use Rattle.tpm_types_common.specs.Limits.{sensitive_limit}
+use Rattle.tpm_types_common.specs.declared.rc.Rc.{Rc}
 use Rattle.tpm_types_object.specs.declared.sensitive.Sensitive.{Sensitive}
-use Rattle.tpm_types.specs.Buffer.{buffer_at}
+use Rattle.tpm_types_common.specs.Buffer.{buffer_at}
 use Rattle.tpm_types_object.specs.Public.{object_type_at, object_type_text}
 
 -- the encoding of a sensitive area: the type of the object, its authorization value including

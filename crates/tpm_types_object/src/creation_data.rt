@@ -7,7 +7,7 @@ ghost use Rattle.tpm_bytes.specs.Writing.{Puts, sized_text};
 
 use tpm_bytes::{Cursor, Full, Readable, Sink};
 use tpm_mac::HashAlg;
-use tpm_types::{
+use tpm_types_common::{
     Octets, PcrSelection, Rc, ResponseCode, hash_or_null_number, read_filled, read_hash_or_null,
 };
 
@@ -30,7 +30,7 @@ pub struct CreationData {
 
 impl CreationData {
     ghost use Rattle.tpm_types_object.specs.CreationData.{IsCreationData, creation_data_at, creation_data_text};
-    ghost use Rattle.tpm_types.specs.Filled.{filled_by};
+    ghost use Rattle.tpm_types_common.specs.Filled.{filled_by};
     ghost use Rattle.tpm_types_object.specs.declared.creation_data.CreationData.{CreationData};
 
     /// Reads creation data. Fails with INSUFFICIENT if the data are truncated, or else with the

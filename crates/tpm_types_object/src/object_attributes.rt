@@ -5,7 +5,7 @@ ghost use Rattle.tpm_bytes.specs.Reading.{Reads};
 
 use std::marker::Model;
 use tpm_bytes::Cursor;
-use tpm_types::{Rc, read_attribute_bits};
+use tpm_types_common::{Rc, read_attribute_bits};
 
 /// The bits of the 32-bit field that are not used for attributes.
 const RESERVED_BITS: u32 = 0xfff8_f309;

@@ -8,7 +8,7 @@ ghost use Rattle.tpm_bytes.specs.Writing.{Puts, sized_text};
 use crate::object_attributes::ObjectAttributes;
 use tpm_bytes::{Cursor, Full, Readable, Sink};
 use tpm_mac::HashAlg;
-use tpm_types::{
+use tpm_types_common::{
     Octets, Rc, ResponseCode, SymmetricDefinition, hash_number, read_filled, read_hash,
 };
 
@@ -170,7 +170,7 @@ impl PublicParameters {
 
     /// Appends the encoded parameters, which are at most six bytes long. If they do not fit, writes
     /// nothing and returns an error.
-    #[tactic(auto, unfolding(tpm_types::specs::Symmetric::symmetric_text))]
+    #[tactic(auto, unfolding(tpm_types_common::specs::Symmetric::symmetric_text))]
     pub fn write<const N: usize>(self, sink: &mut Sink<N>) -> Result<(), Full>
         ensures written { Puts N (parameters_text self) sink.old result sink.new }
         ensures small { length (parameters_text self) ≤ 6 }
@@ -182,7 +182,7 @@ impl PublicParameters {
     }
 
     /// Appends the encoded parameters. The sink must have room for the longest encoding, six bytes.
-    #[tactic(auto, unfolding(tpm_types::specs::Symmetric::symmetric_text))]
+    #[tactic(auto, unfolding(tpm_types_common::specs::Symmetric::symmetric_text))]
     pub fn append_to<const N: usize>(self, sink: &mut Sink<N>)
         requires { length sink.old + 6 ≤ N }
         ensures written { sink.new ≡ sink.old ++ parameters_text self }
@@ -208,7 +208,7 @@ pub struct Public {
 
 impl Public {
     ghost use Rattle.tpm_types_object.specs.Public.{IsPublic, object_type, public_at, public_text};
-    ghost use Rattle.tpm_types.specs.Filled.{filled_by};
+    ghost use Rattle.tpm_types_common.specs.Filled.{filled_by};
     ghost use Rattle.tpm_types_object.specs.declared.public.Public.{Public};
 
     /// Reads a public area. Fails with INSUFFICIENT if it is truncated, or else with the first

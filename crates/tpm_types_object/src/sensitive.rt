@@ -7,7 +7,7 @@ ghost use Rattle.tpm_bytes.specs.Writing.{Puts, sized_text};
 
 use crate::public::ObjectType;
 use tpm_bytes::{Cursor, Full, Readable, Sink};
-use tpm_types::{Octets, Rc, SENSITIVE_LIMIT, read_filled};
+use tpm_types_common::{Octets, Rc, SENSITIVE_LIMIT, read_filled};
 
 /// The sensitive area of an object: TPMT_SENSITIVE (Part 2, section 12.3.2.4).
 #[derive(Drop)]
@@ -24,7 +24,7 @@ pub struct Sensitive {
 
 impl Sensitive {
     ghost use Rattle.tpm_types_object.specs.Sensitive.{IsSensitive, sensitive_at, sensitive_text};
-    ghost use Rattle.tpm_types.specs.Filled.{filled_by};
+    ghost use Rattle.tpm_types_common.specs.Filled.{filled_by};
     ghost use Rattle.tpm_types_object.specs.declared.sensitive.Sensitive.{Sensitive};
 
     /// Reads a sensitive area. Fails with INSUFFICIENT if it is truncated, with TYPE if its type is

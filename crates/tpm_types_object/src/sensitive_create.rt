@@ -4,11 +4,11 @@
 ghost use Rattle.std.specs.Prelude.{◌≡◌, ◌≤◌, ℕ, List, ◌++◌, length, Ok, IfOk};
 ghost use Rattle.tpm_bytes.specs.Reading.{AreBytes, Reads};
 ghost use Rattle.tpm_bytes.specs.Writing.{sized_text};
-ghost use Rattle.tpm_types.specs.Limits.{sensitive_limit};
-ghost use Rattle.tpm_types.specs.Filled.{filled_by};
+ghost use Rattle.tpm_types_common.specs.Limits.{sensitive_limit};
+ghost use Rattle.tpm_types_common.specs.Filled.{filled_by};
 
 use tpm_bytes::{Cursor, Readable, Sink};
-use tpm_types::{Rc, SENSITIVE_LIMIT, read_buffer, read_filled};
+use tpm_types_common::{Rc, SENSITIVE_LIMIT, read_buffer, read_filled};
 
 /// The values that a caller provides for a new object's sensitive area: TPMS_SENSITIVE_CREATE (Part
 /// 2, section 11.1.15).

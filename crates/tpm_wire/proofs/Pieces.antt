@@ -1,5 +1,5 @@
 -- Lemmas about the pieces in which a stream is read.
-use Rattle.tpm_types.specs.Limits.{buffer_limit}
+use Rattle.tpm_types_common.specs.Limits.{buffer_limit}
 use Rattle.std.proofs.Common.{◌≡◌, ℕ, ◌+◌, ◌<◌, ◌≤◌, List, [], ◌∷◌, ◌++◌, length, None, false, refl, sym, ap, subst, ◌∙◌, append-nil, append_assoc, length-append, arith}
 use Rattle.std.proofs.lemmas.Fn.{FoldsTo-push}
 use Rattle.std.specs.List.{FoldsTo}

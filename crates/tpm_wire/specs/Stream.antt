@@ -1,7 +1,7 @@
 -- The bytes of a connection, and how they are divided into command buffers. TPM 2.0 Library, Part
 -- 1, section 18 (command structure): after a tag of two bytes a command has commandSize, a
 -- four-byte number, which is the size of the whole command.
-use Rattle.tpm_types.specs.Limits.{buffer_limit}
+use Rattle.tpm_types_common.specs.Limits.{buffer_limit}
 use Rattle.std.specs.Prelude.{◌≡◌, ℕ, ◌==◌, ◌-◌, ◌≤◌, ◌&&◌, nat_le, not, Bool, false}
 use Rattle.std.specs.Prelude.{List, [], ◌∷◌, ◌++◌, length, take, drop, min, fold}
 use Rattle.std.specs.Prelude.{Option, Some, None, option_map, option_and_then, if◌then◌else◌}

@@ -1,7 +1,7 @@
 -- A machine with its connections, and the effect of each call on them.
 use Rattle.std.specs.Prelude.{◌≡◌, ℕ, Bool, List, length, take, slice_set, if◌then◌else◌}
 use Rattle.std.specs.Prelude.{Option, Some, None, Result, Ok, Err}
-use Rattle.tpm_types.specs.Locality.{locality_number}
+use Rattle.tpm_types_common.specs.Locality.{locality_number}
 use Rattle.tpm_containers.specs.Slots.{at_place, free, lowest_free}
 use Rattle.tpm_record.specs.Record.{Record}
 use Rattle.tpm_step.specs.step.Events.{PlainEvent, Given}

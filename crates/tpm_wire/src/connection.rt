@@ -1,7 +1,7 @@
 //! A connection: stores the received bytes until they are executed, and returns them buffer by
 //! buffer.
 
-ghost use Rattle.tpm_types.specs.Limits.{buffer_limit};
+ghost use Rattle.tpm_types_common.specs.Limits.{buffer_limit};
 ghost use Rattle.std.specs.Prelude.{◌≡◌, ◌+◌, ◌≤◌, drop, false, length, take};
 ghost use Rattle.arrayvec.specs.ArrayVec.{array_vec_len};
 ghost use Rattle.tpm_wire.specs.Stream.{IsFront, cut_at, fed_stream, fitting_count, new_stream};
@@ -10,7 +10,7 @@ use crate::front::{Front, front_of};
 use arrayvec::ArrayVec;
 use std::marker::Model;
 use tpm_bytes::append;
-use tpm_types::BUFFER_LIMIT;
+use tpm_types_common::BUFFER_LIMIT;
 
 /// The received bytes of a connection that are not yet executed, and whether the connection has
 /// ended, so that no more buffers follow.

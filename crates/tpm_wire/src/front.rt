@@ -3,7 +3,7 @@
 ghost use Rattle.std.specs.Prelude.{◌≡◌, false};
 ghost use Rattle.tpm_wire.specs.Stream.{IsFront};
 
-use tpm_types::BUFFER_LIMIT;
+use tpm_types_common::BUFFER_LIMIT;
 
 /// The minimum size of a command: the size of its header.
 const HEADER_SIZE: usize = 10;

@@ -7,7 +7,7 @@ ghost use Rattle.tpm_wire.specs.Serve.{Fills};
 use crate::connection::Connection;
 use std::io::Read;
 use tpm_bytes::{Failed, Tap};
-use tpm_types::BUFFER_LIMIT;
+use tpm_types_common::BUFFER_LIMIT;
 
 /// Reads once, at most as many bytes as fit into the connection, and returns the number of bytes
 /// read. The bytes pass through `piece`, which the caller creates once for all reads.

@@ -1,7 +1,7 @@
 //! Serves one connection to its end, over any reader and writer: reads and executes buffers, and
 //! writes their responses.
 
-ghost use Rattle.tpm_types.specs.Limits.{buffer_limit};
+ghost use Rattle.tpm_types_common.specs.Limits.{buffer_limit};
 ghost use Rattle.std.specs.Prelude.{◌≡◌, ◌≢◌, ◌+◌, ◌≤◌, Err, IfOk, List, None, OnOk, length, take};
 ghost use Rattle.tpm_bytes.specs.Tap.{device_of, first_marks, marks_of};
 ghost use Rattle.tpm_machine.specs.State.{state_of};
@@ -25,7 +25,7 @@ use tpm_bytes::Tap;
 use tpm_machine::{Machine, SavesNothing, Witness};
 use tpm_record::Keep;
 use tpm_step::Outcome;
-use tpm_types::BUFFER_LIMIT;
+use tpm_types_common::BUFFER_LIMIT;
 
 /// The maximum number of reads that return bytes, for one connection.
 const READS: u32 = 1_048_576;

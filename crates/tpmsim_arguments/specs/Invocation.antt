@@ -5,7 +5,7 @@ use Rattle.std.specs.Option.{option_map_or}
 use Rattle.std.specs.Str.{bytes_eq}
 use Rattle.clap.specs.Words.{Row, Text, first_of, kind_of, subcommand_of}
 use Rattle.clap.specs.declared.error.kind.ErrorKind.{ErrorKind}
-use Rattle.tpm_types.specs.Locality.{locality_number}
+use Rattle.tpm_types_common.specs.Locality.{locality_number}
 use Rattle.tpm_number.specs.Number.{decimal_of, locality_of}
 use Rattle.tpmsim_arguments.specs.CommandLine.{program}
 use Rattle.tpmsim_arguments.specs.declared.arguments.Arguments.{Arguments}

@@ -4,7 +4,7 @@ ghost use Rattle.std.specs.Prelude.{◌≡◌, codes, map, ok_or, option_map};
 ghost use Rattle.clap.specs.Words.{first_of, found_of, rows_of, subcommand_rows_of};
 ghost use Rattle.tpm_bytes.specs.Reading.{Gives};
 ghost use Rattle.tpmsim_arguments.specs.Answers.{Answers};
-ghost use Rattle.tpm_types.specs.Locality.{locality_number};
+ghost use Rattle.tpm_types_common.specs.Locality.{locality_number};
 ghost use Rattle.tpmsim_arguments.specs.Invocation.{asked_in, asked_of, completes_by, invocation_of};
 ghost use Rattle.tpmsim_arguments.specs.Invocation.{connections_by, entropy_by, is_set, kept_of};
 ghost use Rattle.tpmsim_arguments.specs.Invocation.{locality_by, log_by, past_by, past_in, past_of};
@@ -22,7 +22,7 @@ use clap::ArgMatches;
 use std::alloc::Global;
 use std::convert::AsStr;
 use tpm_number::{decimal, locality};
-use tpm_types::Locality;
+use tpm_types_common::Locality;
 
 /// What a command line requests.
 #[derive(Drop)]

@@ -5,7 +5,7 @@ ghost use Rattle.std.specs.Prelude.{◌≡◌, ◌-◌, ◌^◌};
 ghost use Rattle.std.specs.Option.{option_map_or};
 
 use crate::place::Place;
-use tpm_types::Locality;
+use tpm_types_common::Locality;
 
 /// The settings with which a device is served.
 #[derive(Clone, Copy)]

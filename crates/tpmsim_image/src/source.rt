@@ -11,7 +11,7 @@ use std::fs::File;
 use std::io;
 use std::io::{BufReader, Read};
 use std::time::{Clock, Instant};
-use tpm_types::Locality;
+use tpm_types_common::Locality;
 use tpm_wire::Host;
 
 /// The source of the values for each command: a reader of random bytes, and a stopwatch on the

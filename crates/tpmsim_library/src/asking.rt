@@ -19,7 +19,7 @@ use crate::shown::put_answer;
 use crate::told::{DONE, NO_ANSWER, NO_DEVICE, NO_LOCALITY, NO_MEMORY};
 use std::alloc::Global;
 use tpm_kept_device::answer::read_answer;
-use tpm_types::Locality;
+use tpm_types_common::Locality;
 
 /// Begins the execution of a TPM command. `now_ms` is the time of the host's clock. If `completes`
 /// is not 0, the completing layer is used. On failure, nothing changes.

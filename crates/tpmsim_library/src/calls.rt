@@ -33,7 +33,7 @@ use crate::holder::Holder;
 use crate::told::{DONE, NO_DEVICE, NO_LOCALITY, NO_MEMORY, fault_number};
 use std::alloc::Global;
 use tpm_step::Event;
-use tpm_types::Locality;
+use tpm_types_common::Locality;
 
 /// Returns the version as one number: 65,536 times major, plus 256 times minor, plus patch.
 #[unsafe(no_mangle)]

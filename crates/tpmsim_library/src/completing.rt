@@ -14,7 +14,7 @@ use crate::holder::Holder;
 use crate::told::{DONE, NO_DEVICE, NO_LOCALITY};
 use std::alloc::Global;
 use tpm_step::Event;
-use tpm_types::Locality;
+use tpm_types_common::Locality;
 
 /// Like tpmsim_execute, but executes the command with the completing layer above the device.
 #[unsafe(no_mangle)]

@@ -22,7 +22,7 @@ ghost use Rattle.tpm_journal.specs.Replay.{Replays};
 ghost use Rattle.tpm_journal.specs.State.{journal_of};
 ghost use Rattle.tpm_journal_text.specs.Head.{head_text};
 ghost use Rattle.tpm_journal_text.specs.declared.head.HeadKind.TheVariants.{Image};
-ghost use Rattle.tpm_types.specs.Locality.{locality_number};
+ghost use Rattle.tpm_types_common.specs.Locality.{locality_number};
 ghost use Rattle.tpmsim_library.specs.Journal.{CheckpointsIfFits, checkpoint_clock, checkpoint_head};
 ghost use Rattle.tpmsim_library.specs.Journal.{BeginsIfRoom, HasFault, IsOfJournal, OpensDevice};
 ghost use Rattle.tpmsim_library.specs.Journal.{Records, command_by, image_at_power};
@@ -43,7 +43,7 @@ use tpm_machine::Machine;
 use tpm_slots::SlotKeep;
 use tpm_snapshot::{RestoreFault, completion_of, layer_of, restore_new};
 use tpm_step::{Event, Outcome};
-use tpm_types::Locality;
+use tpm_types_common::Locality;
 
 /// A device, the outcome of its last event, the state of its journal, and a buffer for what is
 /// saved. The next event overwrites the outcome.

@@ -21,7 +21,7 @@ use crate::device::{Answered, Device};
 use crate::holder::Holder;
 use crate::told::{DONE, NO_DEVICE, NO_LOCALITY, NO_MEMORY, follow_number, open_number};
 use std::alloc::Global;
-use tpm_types::Locality;
+use tpm_types_common::Locality;
 
 /// Power-cycles the device, and writes the head of its new journal to the start of a buffer.
 /// Returns the size of the head, or 0 if the holder is empty. If the buffer is too small, the call

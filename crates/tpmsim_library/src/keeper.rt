@@ -7,7 +7,7 @@ ghost use Rattle.tpm_keeping.specs.Holder.{newborn};
 ghost use Rattle.tpm_keeping.specs.View.{ask_of};
 ghost use Rattle.tpm_keeping.specs.declared.holder.Job.TheVariants.{Begin, Execute};
 ghost use Rattle.tpm_kept_device.specs.Texts.{cycle_text, seed_text, text_at};
-ghost use Rattle.tpm_types.specs.Locality.{locality_number};
+ghost use Rattle.tpm_types_common.specs.Locality.{locality_number};
 ghost use Rattle.tpmsim_library.specs.Keeping.{Begins, GoesOn, call_of, content_at, executed_by};
 ghost use Rattle.tpmsim_library.specs.Keeping.{request_of, response_of, shown_by, text_of, told_by};
 ghost use Rattle.tpmsim_library.specs.Keeping.{view_of};
@@ -21,7 +21,7 @@ use tpm_keeping::holder::{End, Force, Job};
 use tpm_keeping::keeper::Ask;
 use tpm_kept_device::KeptDevice;
 use tpm_kept_device::writing::{beginning, command_at, power_cycle, seed};
-use tpm_types::Locality;
+use tpm_types_common::Locality;
 
 /// The keeper of a device.
 #[derive(Drop)]

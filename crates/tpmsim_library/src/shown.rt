@@ -3,7 +3,7 @@
 ghost use Rattle.std.specs.Prelude.{◌≡◌, ◌≤◌, drop, length};
 ghost use Rattle.tpm_image_text.specs.Saving.{PutsFront};
 ghost use Rattle.tpm_kept_device.specs.Answer.{plain_answer};
-ghost use Rattle.tpm_types.specs.Limits.{buffer_limit};
+ghost use Rattle.tpm_types_common.specs.Limits.{buffer_limit};
 ghost use Rattle.tpmsim_library.specs.Keeping.{IsAnswer, content_at};
 
 use crate::device::Answered;

@@ -20,7 +20,7 @@ use tpm_machine::Machine;
 use tpm_record::Keep;
 use tpm_step::Event;
 use tpm_text::{assemble, trace_line, traceable_laws};
-use tpm_types::Locality;
+use tpm_types_common::Locality;
 use tpmsim_script::run_script;
 
 fn main(rt: HostRuntime) -> ExitCode {

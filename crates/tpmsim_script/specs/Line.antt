@@ -5,7 +5,7 @@ use Rattle.std.specs.Prelude.{Option, Some, None, option_map, option_and_then}
 use Rattle.std.specs.List.{onto_first, position}
 use Rattle.std.specs.Result.{result_ok}
 use Rattle.hex.specs.Hex.{decode_of}
-use Rattle.tpm_types.specs.Locality.{locality_number}
+use Rattle.tpm_types_common.specs.Locality.{locality_number}
 use Rattle.tpm_number.specs.Number.{decimal_of, is_word, locality_of}
 use Rattle.tpmsim_script.specs.BadLine.{missing_argument, misplaced, number_fault, unknown_word}
 use Rattle.tpmsim_script.specs.declared.bad_line.BadLine.{BadLine}

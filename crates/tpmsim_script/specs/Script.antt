@@ -7,7 +7,7 @@ use Rattle.std.specs.List.{range_with_len}
 use Rattle.std.specs.Io.KnownBytes.{Appends}
 use Rattle.std.specs.Result.{result_ok}
 use Rattle.hex.specs.Hex.{encode_lower}
-use Rattle.tpm_types.specs.Locality.{locality_number}
+use Rattle.tpm_types_common.specs.Locality.{locality_number}
 use Rattle.tpm_record.specs.Record.{Record, manufactured}
 use Rattle.tpm_step.specs.step.Events.{PlainEvent, Given, Cycled}
 use Rattle.tpm_step.specs.step.Step.{Stepped, step}

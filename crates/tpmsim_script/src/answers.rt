@@ -1,7 +1,7 @@
 //! The lines that a script prints: responses in hex, and traces. They stay in memory until they
 //! are written.
 
-ghost use Rattle.tpm_types.specs.Limits.{buffer_limit};
+ghost use Rattle.tpm_types_common.specs.Limits.{buffer_limit};
 ghost use Rattle.std.specs.Prelude.{◌≡◌, ◌+◌, ◌*◌, ◌≤◌, ◌++◌, ◌∷◌, [], length, vec_len};
 ghost use Rattle.tpmsim_script.specs.Script.{printed_response};
 ghost use Rattle.tpmsim_script.specs.declared.answers.TheConstants.{CAPACITY};

@@ -13,7 +13,7 @@ ghost use Rattle.tpmsim_script.specs.Line.{reading_with, wait_reading};
 use crate::bad_line::{BadLine, Wanted};
 use tpm_number::{decimal, is_word, locality};
 use tpm_text::{AsmFault, position_of};
-use tpm_types::Locality;
+use tpm_types_common::Locality;
 
 /// A line of a script.
 #[derive(Clone, Copy, PartialEq, Eq)]

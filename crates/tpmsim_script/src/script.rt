@@ -3,13 +3,13 @@
 
 ghost use Rattle.std.specs.Prelude.{◌≡◌, ◌+◌, ◌≤◌, ◌<◌, ◌^◌, ◌↔◌, length, replicate};
 ghost use Rattle.std.specs.Prelude.{IsOk, OnOk, OnErr};
-ghost use Rattle.tpm_types.specs.Locality.{locality_number};
+ghost use Rattle.tpm_types_common.specs.Locality.{locality_number};
 ghost use Rattle.tpmsim_script.specs.Script.{repeated};
 
 use crate::line::Unfit;
 use std::mem;
 use tpm_step::Event;
-use tpm_types::Locality;
+use tpm_types_common::Locality;
 
 /// The number of random bytes for each command.
 pub const RANDOM_BYTES: usize = 256;

@@ -1,7 +1,7 @@
 -- The handle, parameter or session that a response code names, as one number.
 use Rattle.std.specs.Prelude.{ℕ, ◌+◌}
-use Rattle.tpm_types.specs.declared.rc.Place.{Place}
-use Rattle.tpm_types.specs.declared.rc.Place.TheVariants as place
+use Rattle.tpm_types_common.specs.declared.rc.Place.{Place}
+use Rattle.tpm_types_common.specs.declared.rc.Place.TheVariants as place
 
 -- one number for what a response code refers to: nothing, or the handle, parameter or session with
 -- this number

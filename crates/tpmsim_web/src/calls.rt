@@ -35,7 +35,7 @@ use crate::told::{DONE, NO_DEVICE, NO_LOCALITY, fault_number};
 use std::alloc::Global;
 use std::mem;
 use tpm_step::Event;
-use tpm_types::Locality;
+use tpm_types_common::Locality;
 
 /// Returns the version as one number: 65,536 times major, plus 256 times minor, plus patch.
 #[unsafe(no_mangle)]

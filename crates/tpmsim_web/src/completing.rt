@@ -13,7 +13,7 @@ use crate::device::{Answered, Device};
 use crate::holder::Holder;
 use crate::told::{DONE, NO_DEVICE, NO_LOCALITY};
 use tpm_step::Event;
-use tpm_types::Locality;
+use tpm_types_common::Locality;
 
 /// Like device_execute, but executes the command with the completing layer above the device, and
 /// writes no trace.

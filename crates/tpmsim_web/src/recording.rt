@@ -5,7 +5,7 @@ ghost use Rattle.tpm_image_text.specs.Saving.{PutsFront};
 ghost use Rattle.tpm_journal.specs.Replay.{Replays};
 ghost use Rattle.tpm_journal_text.specs.Head.{head_text};
 ghost use Rattle.tpm_journal_text.specs.declared.head.HeadKind.TheVariants.{Image};
-ghost use Rattle.tpm_types.specs.Locality.{locality_number};
+ghost use Rattle.tpm_types_common.specs.Locality.{locality_number};
 ghost use Rattle.tpmsim_web.specs.Journal.{BeginsIfRoom, CheckpointsIfFits, HasFault, IsOfJournal};
 ghost use Rattle.tpmsim_web.specs.Journal.{Records, checkpoint_clock, checkpoint_head, command_by};
 ghost use Rattle.tpmsim_web.specs.Journal.{image_at_power};
@@ -16,7 +16,7 @@ use std::alloc::Global;
 use tpm_journal::opening::open;
 use tpm_journal::{Followed, OpenFault};
 use tpm_step::Outcome;
-use tpm_types::Locality;
+use tpm_types_common::Locality;
 
 impl Device {
     /// Power-cycles the device, and writes the head of its new journal to the start of a buffer.

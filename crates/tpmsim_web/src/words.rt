@@ -21,7 +21,7 @@ use tpm_commands::CommandCode;
 use tpm_help::{example_of, form_text, meaning_of, word_at};
 use tpm_line::{LINE_LIMIT, write_line};
 use tpm_text::{Draft, assemble_in};
-use tpm_types::rc::Place;
+use tpm_types_common::rc::Place;
 
 /// Assembles a command in words, and writes the result to the start of a buffer. Returns 0 on
 /// success. Otherwise, returns the number of the first error, and also writes what was expected.

@@ -8,11 +8,11 @@ use Rattle.tpm_pcr.specs.Changes.{clear_counted}
 use Rattle.tpm_object.specs.Areas.{created_areas}
 use Rattle.tpm_object.specs.Creation.{drawn_by, generated_size}
 use Rattle.tpm_mac.specs.Digest.{digest_size}
-use Rattle.tpm_types.specs.Rc.{plain}
-use Rattle.tpm_types.specs.StartupType.{startup_type_at}
-use Rattle.tpm_types.specs.declared.action_check.ActionCheck.TheVariants as action
-use Rattle.tpm_types.specs.declared.rc.ResponseCode.TheVariants as code
-use Rattle.tpm_types.specs.declared.refused.Refused.{Refused}
+use Rattle.tpm_types_common.specs.Rc.{plain}
+use Rattle.tpm_types_common.specs.StartupType.{startup_type_at}
+use Rattle.tpm_types_common.specs.declared.action_check.ActionCheck.TheVariants as action
+use Rattle.tpm_types_common.specs.declared.rc.ResponseCode.TheVariants as code
+use Rattle.tpm_types_common.specs.declared.refused.Refused.{Refused}
 use Rattle.tpm_commands.specs.declared.command_code.CommandCode.{CommandCode}
 use Rattle.tpm_commands.specs.declared.command_code.CommandCode.TheVariants as command
 use Rattle.tpm_types_object.specs.SensitiveCreate.{SensitiveValues}

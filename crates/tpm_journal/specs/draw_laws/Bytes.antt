@@ -6,7 +6,7 @@ use Rattle.tpm_record.specs.rows.Rows.{Success}
 use Rattle.tpm_machine.specs.Drawn.{drawn_by}
 use Rattle.tpm_record.specs.Record.{Record}
 use Rattle.tpm_step.specs.step.Events.{Cycled, Given, Placed, PlainEvent}
-use Rattle.tpm_types.specs.declared.refused.Refused.{Refused}
+use Rattle.tpm_types_common.specs.declared.refused.Refused.{Refused}
 
 -- the request of a command with other random bytes
 abbrev pub with_random : Request → List ℕ → Request

@@ -10,7 +10,7 @@ use arrayvec::ArrayString;
 use tpm_journal_text::Entry;
 use tpm_step::{Event, Outcome};
 use tpm_text::trace_text;
-use tpm_types::Locality;
+use tpm_types_common::Locality;
 
 /// The text of a comment.
 pub type Comment = ArrayString<64>;

@@ -12,7 +12,7 @@ use crate::machine::Machine;
 use tpm_containers::{Sizes, SlotFault};
 use tpm_object::Object;
 use tpm_record::{Keep, add_object, read_widths};
-use tpm_types::Handle;
+use tpm_types_common::Handle;
 
 impl<K: Keep> Machine<K> {
     ghost use Rattle.tpm_machine.specs.State.{latest_drawn};

@@ -1,7 +1,7 @@
 -- The answers of commands. TPM 2.0 Library, Part 1, section 18 (response structures).
 use Rattle.std.specs.Prelude.{◌≡◌, ℕ, Bool, true, false, List, [], ◌++◌, Option, None}
 use Rattle.tpm_bytes.specs.Writing.{sized_text}
-use Rattle.tpm_types.specs.declared.handle.Handle.{Handle}
+use Rattle.tpm_types_common.specs.declared.handle.Handle.{Handle}
 use Rattle.tpm_record.specs.declared.rows.answer.Answer.{Answer}
 
 -- the parameters of an answer. They may begin with a sized buffer, which a session can encrypt;

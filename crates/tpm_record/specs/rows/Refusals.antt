@@ -1,16 +1,16 @@
 -- The refusals that rows use, except those of parameters, which are defined in Rows. TPM 2.0
 -- Library, Part 3: the response codes of each command.
 use Rattle.std.specs.Prelude.{ℕ, Result, Ok, Err}
-use Rattle.tpm_types.specs.declared.action_check.ActionCheck.{ActionCheck}
-use Rattle.tpm_types.specs.declared.action_fault.ActionFault.{ActionFault}
-use Rattle.tpm_types.specs.Rc.{at, plain}
-use Rattle.tpm_types.specs.Refused.{refusal}
-use Rattle.tpm_types.specs.declared.check.Check.TheVariants as check
-use Rattle.tpm_types.specs.declared.rc.Place.TheVariants as place
-use Rattle.tpm_types.specs.declared.rc.Rc.{Rc}
-use Rattle.tpm_types.specs.declared.rc.ResponseCode.{ResponseCode}
-use Rattle.tpm_types.specs.declared.rc.ResponseCode.TheVariants as code
-use Rattle.tpm_types.specs.declared.refused.Refused.{Refused}
+use Rattle.tpm_types_common.specs.declared.action_check.ActionCheck.{ActionCheck}
+use Rattle.tpm_types_common.specs.declared.action_fault.ActionFault.{ActionFault}
+use Rattle.tpm_types_common.specs.Rc.{at, plain}
+use Rattle.tpm_types_common.specs.Refused.{refusal}
+use Rattle.tpm_types_common.specs.declared.check.Check.TheVariants as check
+use Rattle.tpm_types_common.specs.declared.rc.Place.TheVariants as place
+use Rattle.tpm_types_common.specs.declared.rc.Rc.{Rc}
+use Rattle.tpm_types_common.specs.declared.rc.ResponseCode.{ResponseCode}
+use Rattle.tpm_types_common.specs.declared.rc.ResponseCode.TheVariants as code
+use Rattle.tpm_types_common.specs.declared.refused.Refused.{Refused}
 
 -- the refusal if a handle names no entity. It never occurs, because the general checks have found
 -- an entity (later_handle_laws of tpm_step)

@@ -1,14 +1,14 @@
 -- The parts from which rows are built. A row yields a success or the first refusal.
 use Rattle.std.specs.Prelude.{◌≡◌, ℕ, ◌==◌, not, Bool, true, false, List, length, Result, Ok, Err}
 use Rattle.tpm_bytes.specs.Reading.{◌>>=◌, refused_if}
-use Rattle.tpm_types.specs.declared.rc.Rc.{Rc}
-use Rattle.tpm_types.specs.declared.rc.ResponseCode.TheVariants as code
-use Rattle.tpm_types.specs.declared.rc.Place.TheVariants as place
-use Rattle.tpm_types.specs.Rc.{at, plain}
+use Rattle.tpm_types_common.specs.declared.rc.Rc.{Rc}
+use Rattle.tpm_types_common.specs.declared.rc.ResponseCode.TheVariants as code
+use Rattle.tpm_types_common.specs.declared.rc.Place.TheVariants as place
+use Rattle.tpm_types_common.specs.Rc.{at, plain}
 use Rattle.tpm_record.specs.Record.{Record}
-use Rattle.tpm_types.specs.Refused.{refusal}
-use Rattle.tpm_types.specs.declared.check.Check.TheVariants as check
-use Rattle.tpm_types.specs.declared.refused.Refused.{Refused}
+use Rattle.tpm_types_common.specs.Refused.{refusal}
+use Rattle.tpm_types_common.specs.declared.check.Check.TheVariants as check
+use Rattle.tpm_types_common.specs.declared.refused.Refused.{Refused}
 use Rattle.tpm_record.specs.rows.Answer.{AnswerParts, IsAnswer}
 use Rattle.tpm_record.specs.rows.Refusals.{memory_refusal}
 use Rattle.tpm_record.specs.declared.rows.answer.Answer.{Answer}

@@ -5,7 +5,7 @@ ghost use Rattle.std.specs.Prelude.{◌≤◌};
 ghost use Rattle.tpm_record.specs.rows.Draws.{draw_limit};
 
 use tpm_bytes::Sink;
-use tpm_types::{ANSWER_LIMIT, Handle};
+use tpm_types_common::{ANSWER_LIMIT, Handle};
 
 /// The buffer for a response's parameters. One answer is created and passed to every command, so
 /// that no command has to initialize a new buffer.

@@ -4,7 +4,7 @@
 ghost use Rattle.std.specs.Prelude.{◌≡◌};
 
 use crate::rows::refusals::handle_refusal;
-use tpm_types::{Handle, Locality, Refused};
+use tpm_types_common::{Handle, Locality, Refused};
 
 /// The input that a command's row gets once the general checks and the authorization have passed.
 #[derive(Clone, Copy)]

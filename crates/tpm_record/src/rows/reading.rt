@@ -2,12 +2,12 @@
 
 ghost use Rattle.std.specs.Prelude.{◌≡◌};
 ghost use Rattle.tpm_bytes.specs.Reading.{or_fault};
-ghost use Rattle.tpm_types.specs.Rc.{plain};
-ghost use Rattle.tpm_types.specs.declared.rc.ResponseCode.TheVariants as code;
+ghost use Rattle.tpm_types_common.specs.Rc.{plain};
+ghost use Rattle.tpm_types_common.specs.declared.rc.ResponseCode.TheVariants as code;
 ghost use Rattle.tpm_record.specs.rows.Rows.{all_read, parameter, parameter_refusal};
 
 use tpm_bytes::{Cursor, Short};
-use tpm_types::{Check, Rc, Refused, ResponseCode};
+use tpm_types_common::{Check, Rc, Refused, ResponseCode};
 
 /// The refusal of the parameter with this number.
 fn at_parameter(number: u8, rc: Rc) -> Refused

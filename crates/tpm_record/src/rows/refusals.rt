@@ -4,7 +4,7 @@
 ghost use Rattle.std.specs.Prelude.{◌≡◌};
 ghost use Rattle.tpm_record.specs.rows.Refusals.{action_refusal, fault_refusal, handle_refusal, memory_refusal, parameter_refusal};
 
-use tpm_types::{ActionCheck, ActionFault, Check, Rc, Refused, ResponseCode};
+use tpm_types_common::{ActionCheck, ActionFault, Check, Rc, Refused, ResponseCode};
 
 /// The refusal if a handle names no entity. It never occurs, because the general checks have found
 /// an entity.

@@ -13,7 +13,7 @@ use crate::keep::Keep;
 use crate::rows::call::Call;
 use crate::rows::refusals::handle_refusal;
 use tpm_nv::Indices;
-use tpm_types::{ActionCheck, ActionFault, Handle, Refused, ResponseCode};
+use tpm_types_common::{ActionCheck, ActionFault, Handle, Refused, ResponseCode};
 use tpm_types_nv::{NvAttribute, NvAttributes};
 
 /// An NV index, its attributes, and the entity that authorizes the command on it.

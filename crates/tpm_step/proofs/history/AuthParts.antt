@@ -9,10 +9,10 @@ use Rattle.tpm_nv.specs.Index.{NvContents, NvIndex, index_at}
 use Rattle.tpm_object.specs.Object.{transient_byte}
 use Rattle.tpm_object.specs.declared.object.Object.{Object}
 use Rattle.tpm_containers.specs.Numbered.{at_number}
-use Rattle.tpm_types.specs.Handle.{endorsement_handle, handle_type, hierarchy_auth_of, is_nv_index, is_persistent, is_transient, lockout_handle, owner_handle, platform_handle}
-use Rattle.tpm_types.specs.declared.handle.Handle.{Handle}
-use Rattle.tpm_types.specs.declared.handle.HierarchyAuth.{HierarchyAuth}
-use Rattle.tpm_types.specs.declared.handle.HierarchyAuth.TheVariants as auth
+use Rattle.tpm_types_common.specs.Handle.{endorsement_handle, handle_type, hierarchy_auth_of, is_nv_index, is_persistent, is_transient, lockout_handle, owner_handle, platform_handle}
+use Rattle.tpm_types_common.specs.declared.handle.Handle.{Handle}
+use Rattle.tpm_types_common.specs.declared.handle.HierarchyAuth.{HierarchyAuth}
+use Rattle.tpm_types_common.specs.declared.handle.HierarchyAuth.TheVariants as auth
 use Rattle.tpm_record.specs.Entity.{hierarchy_auth_value, permanent_auth_value, with_hierarchy_auth}
 use Rattle.tpm_record.specs.Objects.{object_at}
 use Rattle.tpm_record.specs.Persistent.{persistent_at}

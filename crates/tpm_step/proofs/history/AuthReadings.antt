@@ -2,18 +2,18 @@
 -- command parameters have the right types.
 use Rattle.std.proofs.Common.{rules, ◌≡◌, true, List, ℕ, length, ◌==◌, not, Result, Ok, Err, IfOk}
 use Rattle.tpm_bytes.specs.Reading.{◌>>=◌, refused_if}
-use Rattle.tpm_types.proofs.Trimming.{trimmed_twice}
-use Rattle.tpm_types.specs.AuthValue.{auth_value_at, trimmed}
-use Rattle.tpm_types.specs.Buffer.{buffer_at}
-use Rattle.tpm_types.specs.Handle.{is_nv_index, is_persistent}
-use Rattle.tpm_types.specs.PersistentHandle.{persistent_handle_at}
-use Rattle.tpm_types.specs.Rc.{plain}
-use Rattle.tpm_types.specs.declared.rc.Rc.{Rc}
-use Rattle.tpm_types.specs.declared.rc.ResponseCode.TheVariants as code
-use Rattle.tpm_types.specs.declared.refused.Refused.{Refused}
+use Rattle.tpm_types_common.proofs.Trimming.{trimmed_twice}
+use Rattle.tpm_types_common.specs.AuthValue.{auth_value_at, trimmed}
+use Rattle.tpm_types_common.specs.Buffer.{buffer_at}
+use Rattle.tpm_types_common.specs.Handle.{is_nv_index, is_persistent}
+use Rattle.tpm_types_common.specs.PersistentHandle.{persistent_handle_at}
+use Rattle.tpm_types_common.specs.Rc.{plain}
+use Rattle.tpm_types_common.specs.declared.rc.Rc.{Rc}
+use Rattle.tpm_types_common.specs.declared.rc.ResponseCode.TheVariants as code
+use Rattle.tpm_types_common.specs.declared.refused.Refused.{Refused}
 use Rattle.tpm_types_nv.specs.NvPublic.{nv_index_at, nv_public_at}
 use Rattle.tpm_types_nv.specs.declared.nv_public.NvPublic.{NvPublic}
-use Rattle.tpm_types.specs.Filled.{filled_by, or_size}
+use Rattle.tpm_types_common.specs.Filled.{filled_by, or_size}
 use Rattle.tpm_record.specs.rows.Rows.{all_read, only, parameter}
 use Rattle.tpm_nvactions.specs.NvDefineSpace as definition
 use Rattle.tpm_step.proofs.rows.Binding.{asked, ok_bind, ok_bind_is, ok_then}

@@ -13,21 +13,21 @@ use Rattle.tpm_containers.specs.Numbered.{at_number, number_of}
 use Rattle.tpm_containers.specs.Slots.{lowest_free}
 use Rattle.tpm_containers.proofs.NumberedLaws.{put_found, put_others}
 use Rattle.tpm_containers.proofs.SlotLaws.{lowest_free-free}
-use Rattle.tpm_types.proofs.Trimming.{trimmed_twice}
-use Rattle.tpm_types.specs.AuthValue.{auth_value_at, trimmed}
-use Rattle.tpm_types.specs.Handle.{hierarchy_auth_of, is_nv_index, is_persistent, is_transient, lockout_handle, owner_handle, endorsement_handle, platform_handle}
-use Rattle.tpm_types.specs.Limits.{object_limit, persistent_limit}
-use Rattle.tpm_types.specs.PersistentHandle.{persistent_handle_at}
-use Rattle.tpm_types.specs.StartupType.{startup_type_at}
-use Rattle.tpm_types.specs.declared.action_check.ActionCheck.TheVariants as action
-use Rattle.tpm_types.specs.declared.handle.Handle.{Handle}
-use Rattle.tpm_types.specs.declared.handle.HierarchyAuth.{HierarchyAuth}
-use Rattle.tpm_types.specs.declared.handle.HierarchyAuth.TheVariants as auth
-use Rattle.tpm_types.specs.declared.handle.HierarchyHandle.{HierarchyHandle}
-use Rattle.tpm_types.specs.declared.rc.ResponseCode.TheVariants as code
-use Rattle.tpm_types.specs.declared.refused.Refused.{Refused}
-use Rattle.tpm_types.specs.declared.startup_type.StartupType.{StartupType}
-use Rattle.tpm_types.specs.declared.startup_type.StartupType.TheVariants as type
+use Rattle.tpm_types_common.proofs.Trimming.{trimmed_twice}
+use Rattle.tpm_types_common.specs.AuthValue.{auth_value_at, trimmed}
+use Rattle.tpm_types_common.specs.Handle.{hierarchy_auth_of, is_nv_index, is_persistent, is_transient, lockout_handle, owner_handle, endorsement_handle, platform_handle}
+use Rattle.tpm_types_common.specs.Limits.{object_limit, persistent_limit}
+use Rattle.tpm_types_common.specs.PersistentHandle.{persistent_handle_at}
+use Rattle.tpm_types_common.specs.StartupType.{startup_type_at}
+use Rattle.tpm_types_common.specs.declared.action_check.ActionCheck.TheVariants as action
+use Rattle.tpm_types_common.specs.declared.handle.Handle.{Handle}
+use Rattle.tpm_types_common.specs.declared.handle.HierarchyAuth.{HierarchyAuth}
+use Rattle.tpm_types_common.specs.declared.handle.HierarchyAuth.TheVariants as auth
+use Rattle.tpm_types_common.specs.declared.handle.HierarchyHandle.{HierarchyHandle}
+use Rattle.tpm_types_common.specs.declared.rc.ResponseCode.TheVariants as code
+use Rattle.tpm_types_common.specs.declared.refused.Refused.{Refused}
+use Rattle.tpm_types_common.specs.declared.startup_type.StartupType.{StartupType}
+use Rattle.tpm_types_common.specs.declared.startup_type.StartupType.TheVariants as type
 use Rattle.tpm_commands.specs.CommandCode.{part_of, shape_of}
 use Rattle.tpm_commands.specs.Shape.{admin, rule_without_role, user}
 use Rattle.tpm_commands.specs.declared.command_code.CommandCode.{CommandCode}

@@ -8,8 +8,8 @@ use Rattle.std.proofs.Math.Nat.{div-add-mod, mul-add, mul-zero}
 use Rattle.tpm_lockout.specs.Lockout.{LockoutState, milliseconds, times_restarted}
 use Rattle.tpm_lockout.specs.Recovery.{closed_by_failure, lockout_ticked, opened_after, opens_by_time, with_closed}
 use Rattle.tpm_lockout.specs.Tries.{after_failure, counts_tries, forgiven_after, is_locked, tries_left}
-use Rattle.tpm_types.specs.declared.refused.Counted.{Counted}
-use Rattle.tpm_types.specs.declared.refused.Counted.TheVariants as counted
+use Rattle.tpm_types_common.specs.declared.refused.Counted.{Counted}
+use Rattle.tpm_types_common.specs.declared.refused.Counted.TheVariants as counted
 use Rattle.tpm_step.specs.step.Step.{lockout_counted}
 use Rattle.tpm_step.specs.history.Potential.{IsForgiving, Pays, credit, period}
 use Rattle.tpm_step.specs.history.Tries.{is_try}

@@ -11,12 +11,12 @@ use Rattle.tpm_object.specs.Object.{transient_byte}
 use Rattle.tpm_object.specs.declared.object.Object.{Object}
 use Rattle.tpm_containers.specs.Numbered.{at_number, if_of_kind, place_of}
 use Rattle.tpm_containers.specs.Slots.{at_place, lowest_free}
-use Rattle.tpm_types.specs.AuthValue.{trimmed}
-use Rattle.tpm_types.specs.Handle.{handle_type, hierarchy_auth_of, is_nv_index, is_persistent, is_session, is_transient}
-use Rattle.tpm_types.specs.Limits.{object_limit}
-use Rattle.tpm_types.specs.declared.handle.Handle.{Handle}
-use Rattle.tpm_types.specs.declared.handle.HierarchyAuth.{HierarchyAuth}
-use Rattle.tpm_types.specs.declared.handle.HierarchyAuth.TheVariants as auth
+use Rattle.tpm_types_common.specs.AuthValue.{trimmed}
+use Rattle.tpm_types_common.specs.Handle.{handle_type, hierarchy_auth_of, is_nv_index, is_persistent, is_session, is_transient}
+use Rattle.tpm_types_common.specs.Limits.{object_limit}
+use Rattle.tpm_types_common.specs.declared.handle.Handle.{Handle}
+use Rattle.tpm_types_common.specs.declared.handle.HierarchyAuth.{HierarchyAuth}
+use Rattle.tpm_types_common.specs.declared.handle.HierarchyAuth.TheVariants as auth
 use Rattle.tpm_commands.specs.CommandCode.{shape_of}
 use Rattle.tpm_commands.specs.declared.shape.HandleRule.{HandleRule}
 use Rattle.tpm_record.specs.Cycle.{after_cycle}

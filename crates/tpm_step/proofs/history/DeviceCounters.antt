@@ -2,7 +2,7 @@
 -- index is defined again with the counter's handle.
 use Rattle.std.proofs.Common.{◌≡◌, ℕ, List, [], ◌∷◌, ◌++◌, append_assoc, refl, sym, ap, subst, ◌∙◌}
 use Rattle.tpm_containers.specs.SortedMap.{Ascends}
-use Rattle.tpm_types.specs.declared.handle.Handle.{Handle}
+use Rattle.tpm_types_common.specs.declared.handle.Handle.{Handle}
 use Rattle.tpm_nv.specs.Index.{NvIndex}
 use Rattle.tpm_record.specs.Record.{Record, manufactured}
 use Rattle.tpm_step.specs.step.Step.{Accepted, success_step}

@@ -7,9 +7,9 @@ use Rattle.tpm_mac.specs.declared.algorithm.HashAlg.TheVariants as alg
 use Rattle.tpm_pcr.specs.Banks.{HaveAll, HaveValues, PcrValues, pcr_value}
 use Rattle.tpm_pcr.specs.Saved.{saved_of}
 use Rattle.tpm_pcr.specs.Values.{BankValues}
-use Rattle.tpm_types.specs.StartupType.{startup_type_at}
-use Rattle.tpm_types.specs.declared.startup_type.StartupType.{StartupType}
-use Rattle.tpm_types.specs.declared.startup_type.StartupType.TheVariants as type
+use Rattle.tpm_types_common.specs.StartupType.{startup_type_at}
+use Rattle.tpm_types_common.specs.declared.startup_type.StartupType.{StartupType}
+use Rattle.tpm_types_common.specs.declared.startup_type.StartupType.TheVariants as type
 use Rattle.tpm_commands.specs.CommandCode.{part_of, shape_of}
 use Rattle.tpm_commands.specs.declared.command_code.CommandCode.{CommandCode}
 use Rattle.tpm_commands.specs.declared.command_code.CommandCode.TheVariants as command

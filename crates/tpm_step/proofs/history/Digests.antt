@@ -7,8 +7,8 @@ use Rattle.std.specs.List.{concat, flat_map}
 use Rattle.tpm_bytes.specs.Numbers.{numbers_below}
 use Rattle.tpm_mac.specs.Digest.{hash_of}
 use Rattle.tpm_mac.specs.declared.algorithm.HashAlg.{HashAlg}
-use Rattle.tpm_types.specs.Pcr.{is_selected}
-use Rattle.tpm_types.specs.declared.pcr_selection.BankSelection.{BankSelection}
+use Rattle.tpm_types_common.specs.Pcr.{is_selected}
+use Rattle.tpm_types_common.specs.declared.pcr_selection.BankSelection.{BankSelection}
 use Rattle.tpm_pcr.specs.Banks.{HaveValues, PcrValues, all_pcrs, pcr_value, select_digest_of, selected_pcrs}
 use Rattle.tpm_record.specs.Record.{Record}
 use Rattle.tpm_step.specs.history.History.{History}

@@ -9,14 +9,14 @@ use Rattle.tpm_nv.specs.IsContents.{IsIndex}
 use Rattle.tpm_record.specs.IsRecord.{IsRecord}
 use Rattle.tpm_record.specs.Record.{Record}
 use Rattle.tpm_record.specs.Tick.{after_tick}
-use Rattle.tpm_types.specs.AuthValue.{IsAuthValue, trimmed}
-use Rattle.tpm_types.specs.Check.{check_number}
-use Rattle.tpm_types.specs.Limits.{object_limit, session_limit}
-use Rattle.tpm_types.specs.declared.check.Check.TheVariants as check
-use Rattle.tpm_types.specs.Rc.{code_number, plain}
-use Rattle.tpm_types.specs.Refused.{refusal}
-use Rattle.tpm_types.specs.declared.rc.ResponseCode.TheVariants as code
-use Rattle.tpm_types.specs.declared.refused.Refused.{Refused}
+use Rattle.tpm_types_common.specs.AuthValue.{IsAuthValue, trimmed}
+use Rattle.tpm_types_common.specs.Check.{check_number}
+use Rattle.tpm_types_common.specs.Limits.{object_limit, session_limit}
+use Rattle.tpm_types_common.specs.declared.check.Check.TheVariants as check
+use Rattle.tpm_types_common.specs.Rc.{code_number, plain}
+use Rattle.tpm_types_common.specs.Refused.{refusal}
+use Rattle.tpm_types_common.specs.declared.rc.ResponseCode.TheVariants as code
+use Rattle.tpm_types_common.specs.declared.refused.Refused.{Refused}
 use Rattle.tpm_session.specs.declared.session.Protection.TheVariants as protection
 use Rattle.tpm_auth.specs.Comparison.{failure}
 use Rattle.tpm_types_command.specs.AuthArea.{area_at}

@@ -11,7 +11,7 @@ use Rattle.tpm_object.specs.Object.{IsObject}
 use Rattle.tpm_object.specs.declared.object.Object.{Object}
 use Rattle.tpm_pcr.specs.Banks.{HaveAll}
 use Rattle.tpm_pcr.specs.Values.{BankValues, IsBanks}
-use Rattle.tpm_types.specs.declared.refused.Counted.{Counted}
+use Rattle.tpm_types_common.specs.declared.refused.Counted.{Counted}
 use Rattle.tpm_commands.specs.CommandCode.{shape_of}
 use Rattle.tpm_record.specs.Cycle.{after_cycle}
 use Rattle.tpm_record.specs.Entity.{auth_value_of}

@@ -2,7 +2,7 @@
 use Rattle.std.proofs.Common.{arith, ◌≡◌, ◌≢◌, ℕ, Bool, true, false, List, IfOk, refl, sym, ap, subst}
 use Rattle.std.proofs.lemmas.Bool.{false≢true}
 use Rattle.tpm_lockout.specs.Lockout.{LockoutState}
-use Rattle.tpm_types.specs.declared.refused.Counted.{Counted}
+use Rattle.tpm_types_common.specs.declared.refused.Counted.{Counted}
 use Rattle.tpm_commands.specs.declared.command_code.CommandCode.{CommandCode}
 use Rattle.tpm_commands.specs.declared.command_code.CommandCode.TheVariants as command
 use Rattle.tpm_record.specs.Cycle.{after_cycle}

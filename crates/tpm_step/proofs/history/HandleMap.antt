@@ -1,8 +1,8 @@
 -- Setting the value at one handle of a map sets this value and no other.
 use Rattle.std.proofs.Common.{◌≡◌, ◌≢◌, ap, refl}
 use Rattle.std.proofs.lemmas.Bool.{eq-eqb, ne_eqb}
-use Rattle.tpm_types.specs.Handle.{numbered_handle}
-use Rattle.tpm_types.specs.declared.handle.Handle.{Handle}
+use Rattle.tpm_types_common.specs.Handle.{numbered_handle}
+use Rattle.tpm_types_common.specs.declared.handle.Handle.{Handle}
 use Rattle.tpm_step.specs.history.HandleMap.{with_at}
 
 -- handles with equal numbers are equal

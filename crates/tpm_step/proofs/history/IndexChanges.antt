@@ -5,7 +5,7 @@ use Rattle.std.specs.Int.{w64, to_be_bytes}
 use Rattle.std.proofs.lemmas.Bool.{leb-false}
 use Rattle.tpm_bytes.proofs.Fields.{passed}
 use Rattle.tpm_bytes.specs.Reading.{refused_if}
-use Rattle.tpm_types.specs.declared.handle.Handle.{Handle}
+use Rattle.tpm_types_common.specs.declared.handle.Handle.{Handle}
 use Rattle.tpm_types_nv.specs.declared.nv_type.NvType.TheVariants as type
 use Rattle.tpm_nv.specs.Access.{contents_after_count, contents_after_increment, index_or_fault, number_or, with_data, writable}
 use Rattle.tpm_nv.specs.Index.{NvContents, NvIndex, changed_index, index_at}

@@ -6,7 +6,7 @@ use Rattle.std.proofs.lemmas.Bool.{cases_Bool, cases_eq}
 use Rattle.tpm_containers.specs.SortedMap.{Ascends, Entries, at_key, kept_entries}
 use Rattle.tpm_containers.specs.IsSortedMap.{IsSortedMap}
 use Rattle.tpm_containers.proofs.SortedMapLaws.{is_map}
-use Rattle.tpm_types.specs.declared.handle.Handle.{Handle}
+use Rattle.tpm_types_common.specs.declared.handle.Handle.{Handle}
 use Rattle.tpm_nv.specs.Clear.{contents_after_clear, is_by_platform}
 use Rattle.tpm_nv.specs.Index.{NvContents, NvIndex, changed_index, index_at, with_index, without_index}
 use Rattle.tpm_nv.specs.Startup.{contents_after_startup, started_index}

@@ -13,12 +13,12 @@ use Rattle.tpm_policy.specs.State.{Policy}
 use Rattle.tpm_session.specs.Session.{with_policy}
 use Rattle.tpm_session.specs.Sessions.{handle_of, session_at, session_byte, slots_without_session, with_session_policy}
 use Rattle.tpm_session.specs.declared.session.Session.{Session}
-use Rattle.tpm_types.specs.Handle.{is_session, numbered_handle}
-use Rattle.tpm_types.specs.Limits.{session_limit}
-use Rattle.tpm_types.specs.SessionType.{type_byte}
-use Rattle.tpm_types.specs.declared.handle.Handle.{Handle}
-use Rattle.tpm_types.specs.declared.session_type.SessionType.{SessionType}
-use Rattle.tpm_types.specs.declared.session_type.SessionType.TheVariants as type
+use Rattle.tpm_types_common.specs.Handle.{is_session, numbered_handle}
+use Rattle.tpm_types_common.specs.Limits.{session_limit}
+use Rattle.tpm_types_common.specs.SessionType.{type_byte}
+use Rattle.tpm_types_common.specs.declared.handle.Handle.{Handle}
+use Rattle.tpm_types_common.specs.declared.session_type.SessionType.{SessionType}
+use Rattle.tpm_types_common.specs.declared.session_type.SessionType.TheVariants as type
 use Rattle.tpm_record.specs.Record.{no_sessions}
 use Rattle.tpm_step.specs.history.DeviceSessions.{AreLive, SessionFacts, facts_of, session_facts}
 use Rattle.tpm_step.specs.history.HandleMap.{with_at}

@@ -1,6 +1,6 @@
 -- A session that was just started has no earlier nonceTPM and no assertion.
 use Rattle.std.proofs.Common.{◌≡◌, ℕ, List, Option, Some, Result, Ok, Err, refl, subst}
-use Rattle.tpm_types.specs.declared.refused.Refused.{Refused}
+use Rattle.tpm_types_common.specs.declared.refused.Refused.{Refused}
 use Rattle.tpm_actions_device.specs.StartAuthSession.{Parameters, parameters_in}
 use Rattle.tpm_step.specs.history.History.{AcceptedCommand}
 use Rattle.tpm_step.specs.history.Sessions.{Bound, IsNewSession, LiveSession, bound_in, started_by, started_session}

@@ -1,14 +1,14 @@
 -- No authorization value of a history ends in a zero byte.
 use Rattle.std.proofs.Common.{rules, ◌≡◌, ℕ, List, [], ◌∷◌, Option, Result, Ok, Err, IfOk, ◌==◌, refl}
 use Rattle.std.proofs.lemmas.Bool.{cond_both}
-use Rattle.tpm_types.proofs.Trimming.{trimmed_twice}
-use Rattle.tpm_types.specs.AuthValue.{auth_value_at, trimmed}
-use Rattle.tpm_types.specs.Handle.{endorsement_handle, lockout_handle, owner_handle, platform_handle}
-use Rattle.tpm_types.specs.StartupType.{startup_type_at}
-use Rattle.tpm_types.specs.declared.handle.Handle.{Handle}
-use Rattle.tpm_types.specs.declared.refused.Refused.{Refused}
-use Rattle.tpm_types.specs.declared.startup_type.StartupType.{StartupType}
-use Rattle.tpm_types.specs.declared.startup_type.StartupType.TheVariants as type
+use Rattle.tpm_types_common.proofs.Trimming.{trimmed_twice}
+use Rattle.tpm_types_common.specs.AuthValue.{auth_value_at, trimmed}
+use Rattle.tpm_types_common.specs.Handle.{endorsement_handle, lockout_handle, owner_handle, platform_handle}
+use Rattle.tpm_types_common.specs.StartupType.{startup_type_at}
+use Rattle.tpm_types_common.specs.declared.handle.Handle.{Handle}
+use Rattle.tpm_types_common.specs.declared.refused.Refused.{Refused}
+use Rattle.tpm_types_common.specs.declared.startup_type.StartupType.{StartupType}
+use Rattle.tpm_types_common.specs.declared.startup_type.StartupType.TheVariants as type
 use Rattle.tpm_commands.specs.declared.command_code.CommandCode.{CommandCode}
 use Rattle.tpm_commands.specs.declared.command_code.CommandCode.TheVariants as command
 use Rattle.tpm_types_object.specs.declared.sensitive.Sensitive.{Sensitive}

@@ -1,9 +1,9 @@
 -- A view shows what the record contains. The history records an accepted command with the views of
 -- its handles before the command.
 use Rattle.std.proofs.Common.{◌≡◌, ℕ, List, ◌∷◌, map, refl}
-use Rattle.tpm_types.specs.declared.handle.Handle.{Handle}
-use Rattle.tpm_types.specs.declared.nv_use.NvUse.{NvUse}
-use Rattle.tpm_types.specs.declared.nv_use.NvUse.TheVariants as does
+use Rattle.tpm_types_common.specs.declared.handle.Handle.{Handle}
+use Rattle.tpm_types_common.specs.declared.nv_use.NvUse.{NvUse}
+use Rattle.tpm_types_common.specs.declared.nv_use.NvUse.TheVariants as does
 use Rattle.tpm_record.specs.Entity.{AnIndex, AnObject, Entity, entity_at, entity_is_available, entity_name, entity_policy, entity_protection, is_available, name_of, object_of, policy_of, protection_of, entity_written, written_of}
 use Rattle.tpm_record.specs.Record.{Record}
 use Rattle.tpm_record.specs.Tick.{after_tick}

@@ -3,10 +3,10 @@
 use Rattle.std.proofs.Common.{◌≡◌, ℕ, Bool, true, false, List, [], Result, Ok, Err, IfOk, refl}
 use Rattle.tpm_bytes.proofs.Fields.{passed}
 use Rattle.tpm_bytes.specs.Reading.{refused_if}
-use Rattle.tpm_types.specs.Rc.{plain}
-use Rattle.tpm_types.specs.Refused.{checked_result, refusal}
-use Rattle.tpm_types.specs.declared.check.Check.TheVariants as check
-use Rattle.tpm_types.specs.declared.rc.ResponseCode.TheVariants as code
+use Rattle.tpm_types_common.specs.Rc.{plain}
+use Rattle.tpm_types_common.specs.Refused.{checked_result, refusal}
+use Rattle.tpm_types_common.specs.declared.check.Check.TheVariants as check
+use Rattle.tpm_types_common.specs.declared.rc.ResponseCode.TheVariants as code
 use Rattle.tpm_types_command.specs.Command.{Whole, sessions_at}
 use Rattle.tpm_commands.specs.CommandCode.{shape_of}
 use Rattle.tpm_types_command.specs.AuthArea.{area_at}

@@ -4,12 +4,12 @@ use Rattle.std.specs.Prelude.{not, ok_or}
 use Rattle.std.proofs.lemmas.Bool.{not-false}
 use Rattle.tpm_bytes.proofs.Fields.{ok_is, passed}
 use Rattle.tpm_bytes.specs.Reading.{◌>>=◌, or_fault, refused_if}
-use Rattle.tpm_types.specs.Refused.{checked_result, refusal}
+use Rattle.tpm_types_common.specs.Refused.{checked_result, refusal}
 use Rattle.tpm_commands.specs.declared.command_code.CommandCode.{CommandCode}
 use Rattle.tpm_step.specs.step.General.{in_command}
-use Rattle.tpm_types.specs.declared.check.Check.{Check}
-use Rattle.tpm_types.specs.declared.rc.Rc.{Rc}
-use Rattle.tpm_types.specs.declared.refused.Refused.{Refused}
+use Rattle.tpm_types_common.specs.declared.check.Check.{Check}
+use Rattle.tpm_types_common.specs.declared.rc.Rc.{Rc}
+use Rattle.tpm_types_common.specs.declared.refused.Refused.{Refused}
 
 -- if `checked_result` succeeds with a value, the unchecked result is the same value
 pub checked_ok : {X : Type 0} (check : Check) (x : Result X Rc) (y : X)

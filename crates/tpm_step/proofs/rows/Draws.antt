@@ -4,10 +4,10 @@ use Rattle.std.specs.Prelude.{nat_lt}
 use Rattle.std.proofs.Common.{◌∷◌, ◌≡◌, ◌≤◌, IfOk, List, [], arith, length, refl, suc, true, zero}
 use Rattle.std.proofs.Common.{ℕ}
 use Rattle.tpm_bytes.specs.Reading.{bytes_at, number_at, or_fault, refused_if}
-use Rattle.tpm_types.specs.Rc.{plain}
-use Rattle.tpm_types.specs.Refused.{checked_result}
-use Rattle.tpm_types.specs.declared.check.Check.TheVariants as check
-use Rattle.tpm_types.specs.declared.rc.ResponseCode.TheVariants as code
+use Rattle.tpm_types_common.specs.Rc.{plain}
+use Rattle.tpm_types_common.specs.Refused.{checked_result}
+use Rattle.tpm_types_common.specs.declared.check.Check.TheVariants as check
+use Rattle.tpm_types_common.specs.declared.rc.ResponseCode.TheVariants as code
 use Rattle.tpm_types_command.specs.AuthArea.{area_at, entries_in}
 use Rattle.tpm_types_command.specs.AuthEntry.{entry_at}
 use Rattle.tpm_types_command.specs.Command.{sessions_at}

@@ -6,16 +6,16 @@ use Rattle.std.proofs.lemmas.Bool.{false≢true}
 use Rattle.tpm_bytes.specs.Reading.{◌>>=◌, refused_if}
 use Rattle.tpm_bytes.proofs.Fields.{passed}
 use Rattle.tpm_mac.specs.Digest.{digest_size}
-use Rattle.tpm_types.specs.AuthValue.{auth_value_at}
-use Rattle.tpm_types.specs.Handle.{platform_handle}
-use Rattle.tpm_types.specs.declared.action_check.ActionCheck.TheVariants as action
-use Rattle.tpm_types.specs.declared.handle.Handle.{Handle}
-use Rattle.tpm_types.specs.declared.rc.Rc.{Rc}
-use Rattle.tpm_types.specs.declared.rc.ResponseCode.TheVariants as code
-use Rattle.tpm_types.specs.declared.refused.Refused.{Refused}
-use Rattle.tpm_types.specs.declared.role.Role.{Role}
-use Rattle.tpm_types.specs.declared.role.Role.TheVariants as role
-use Rattle.tpm_types.specs.Filled.{filled_by}
+use Rattle.tpm_types_common.specs.AuthValue.{auth_value_at}
+use Rattle.tpm_types_common.specs.Handle.{platform_handle}
+use Rattle.tpm_types_common.specs.declared.action_check.ActionCheck.TheVariants as action
+use Rattle.tpm_types_common.specs.declared.handle.Handle.{Handle}
+use Rattle.tpm_types_common.specs.declared.rc.Rc.{Rc}
+use Rattle.tpm_types_common.specs.declared.rc.ResponseCode.TheVariants as code
+use Rattle.tpm_types_common.specs.declared.refused.Refused.{Refused}
+use Rattle.tpm_types_common.specs.declared.role.Role.{Role}
+use Rattle.tpm_types_common.specs.declared.role.Role.TheVariants as role
+use Rattle.tpm_types_common.specs.Filled.{filled_by}
 use Rattle.tpm_types_nv.specs.NvPublic.{nv_public_at}
 use Rattle.tpm_commands.specs.CommandCode.{part_of, shape_of}
 use Rattle.tpm_commands.specs.Shape.{admin, rule_without_role}

@@ -7,15 +7,15 @@ use Rattle.std.proofs.lemmas.Bool.{eqb-true, false≢true}
 use Rattle.tpm_bytes.specs.Reading.{◌>>=◌}
 use Rattle.tpm_bytes.proofs.Fields.{passed}
 use Rattle.tpm_mac.specs.declared.algorithm.HashAlg.{HashAlg}
-use Rattle.tpm_types.specs.Buffer.{is_given}
-use Rattle.tpm_types.specs.Handle.{handle_type, hierarchy_of, is_persistent, platform_handle}
-use Rattle.tpm_types.specs.PersistentHandle.{persistent_handle_at}
-use Rattle.tpm_types.specs.Rc.{plain}
-use Rattle.tpm_types.specs.declared.action_check.ActionCheck.{ActionCheck}
-use Rattle.tpm_types.specs.declared.action_check.ActionCheck.TheVariants as action
-use Rattle.tpm_types.specs.declared.handle.Handle.{Handle}
-use Rattle.tpm_types.specs.declared.handle.HierarchyHandle.{HierarchyHandle}
-use Rattle.tpm_types.specs.declared.refused.Refused.{Refused}
+use Rattle.tpm_types_common.specs.Buffer.{is_given}
+use Rattle.tpm_types_common.specs.Handle.{handle_type, hierarchy_of, is_persistent, platform_handle}
+use Rattle.tpm_types_common.specs.PersistentHandle.{persistent_handle_at}
+use Rattle.tpm_types_common.specs.Rc.{plain}
+use Rattle.tpm_types_common.specs.declared.action_check.ActionCheck.{ActionCheck}
+use Rattle.tpm_types_common.specs.declared.action_check.ActionCheck.TheVariants as action
+use Rattle.tpm_types_common.specs.declared.handle.Handle.{Handle}
+use Rattle.tpm_types_common.specs.declared.handle.HierarchyHandle.{HierarchyHandle}
+use Rattle.tpm_types_common.specs.declared.refused.Refused.{Refused}
 use Rattle.tpm_types_object.specs.SensitiveCreate.{SensitiveValues}
 use Rattle.tpm_types_object.specs.declared.public.KeyedHashScheme.TheVariants.{Hmac, Null}
 use Rattle.tpm_types_object.specs.declared.public.Public.{Public}

@@ -8,13 +8,13 @@ use Rattle.std.proofs.Common.{sym, true, ℕ}
 use Rattle.std.proofs.lemmas.Bool.{eqb-true, false≢true}
 use Rattle.std.proofs.lemmas.Result.{IfErr-at_err}
 use Rattle.tpm_bytes.specs.Reading.{◌>>=◌}
-use Rattle.tpm_types.specs.Handle.{handle_type}
-use Rattle.tpm_types.specs.declared.action_fault.ActionFault.{ActionFault}
-use Rattle.tpm_types.specs.declared.check.Check.TheVariants as check
-use Rattle.tpm_types.specs.declared.handle.Handle.{Handle}
-use Rattle.tpm_types.specs.declared.rc.Rc.{Rc}
-use Rattle.tpm_types.specs.declared.refused.Refused.{Refused}
-use Rattle.tpm_types.specs.declared.role.Role.{Role}
+use Rattle.tpm_types_common.specs.Handle.{handle_type}
+use Rattle.tpm_types_common.specs.declared.action_fault.ActionFault.{ActionFault}
+use Rattle.tpm_types_common.specs.declared.check.Check.TheVariants as check
+use Rattle.tpm_types_common.specs.declared.handle.Handle.{Handle}
+use Rattle.tpm_types_common.specs.declared.rc.Rc.{Rc}
+use Rattle.tpm_types_common.specs.declared.refused.Refused.{Refused}
+use Rattle.tpm_types_common.specs.declared.role.Role.{Role}
 use Rattle.tpm_types_nv.specs.declared.nv_attributes.NvAttributes.{NvAttributes}
 use Rattle.tpm_commands.specs.Shape.{rule_without_role}
 use Rattle.tpm_commands.specs.declared.shape.HandleKind.TheVariants as handle_kind

@@ -1,8 +1,8 @@
 -- Steps of a row whose refusals neither count as failed tries nor disable lockoutAuth.
 use Rattle.std.proofs.Common.{◌∷◌, Err, List, Ok, Result, [], refl, rules, ℕ}
-use Rattle.tpm_types.specs.declared.action_fault.ActionFault.{ActionFault}
-use Rattle.tpm_types.specs.declared.handle.Handle.{Handle}
-use Rattle.tpm_types.specs.declared.rc.Rc.{Rc}
+use Rattle.tpm_types_common.specs.declared.action_fault.ActionFault.{ActionFault}
+use Rattle.tpm_types_common.specs.declared.handle.Handle.{Handle}
+use Rattle.tpm_types_common.specs.declared.rc.Rc.{Rc}
 use Rattle.tpm_record.specs.rows.Refusals.{fault_refusal, or_refusal}
 use Rattle.tpm_record.specs.rows.Request.{first_handle, second_handle, third_handle}
 use Rattle.tpm_record.specs.rows.Rows.{parameter}

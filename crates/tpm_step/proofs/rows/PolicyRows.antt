@@ -5,11 +5,11 @@ use Rattle.std.proofs.Common.{refl, rules, subst, sym, true, ℕ}
 use Rattle.std.proofs.lemmas.Bool.Decides.{nat_tests}
 use Rattle.tpm_mac.specs.Digest.{digest_size}
 use Rattle.tpm_mac.specs.declared.algorithm.HashAlg.{HashAlg}
-use Rattle.tpm_types.specs.Handle.{handle_type}
-use Rattle.tpm_types.specs.Rc.{plain}
-use Rattle.tpm_types.specs.SessionType.{is_trial}
-use Rattle.tpm_types.specs.declared.action_fault.ActionFault.{ActionFault}
-use Rattle.tpm_types.specs.declared.handle.Handle.{Handle}
+use Rattle.tpm_types_common.specs.Handle.{handle_type}
+use Rattle.tpm_types_common.specs.Rc.{plain}
+use Rattle.tpm_types_common.specs.SessionType.{is_trial}
+use Rattle.tpm_types_common.specs.declared.action_fault.ActionFault.{ActionFault}
+use Rattle.tpm_types_common.specs.declared.handle.Handle.{Handle}
 use Rattle.tpm_commands.specs.CommandCode.{part_of, shape_of}
 use Rattle.tpm_commands.specs.Shape.{rule_without_role}
 use Rattle.tpm_commands.specs.declared.command_code.CommandCode.{CommandCode}

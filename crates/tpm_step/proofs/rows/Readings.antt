@@ -1,11 +1,11 @@
 -- A row reads parameters of the kinds that its command's shape lists.
 use Rattle.std.proofs.Common.{◌≡◌, ℕ, List, [], ◌∷◌, Result, Ok, Err, refl, ap, ◌∙◌}
 use Rattle.tpm_bytes.specs.Reading.{◌>>=◌}
-use Rattle.tpm_types.specs.declared.rc.Rc.{Rc}
+use Rattle.tpm_types_common.specs.declared.rc.Rc.{Rc}
 use Rattle.tpm_commands.specs.declared.shape.ParameterKind.{ParameterKind}
-use Rattle.tpm_types.specs.AuthValue.{auth_value_at, trimmed}
-use Rattle.tpm_types.specs.Buffer.{buffer_at}
-use Rattle.tpm_types.specs.declared.refused.Refused.{Refused}
+use Rattle.tpm_types_common.specs.AuthValue.{auth_value_at, trimmed}
+use Rattle.tpm_types_common.specs.Buffer.{buffer_at}
+use Rattle.tpm_types_common.specs.declared.refused.Refused.{Refused}
 use Rattle.tpm_record.specs.rows.Rows.{all_read, only, parameter}
 use Rattle.tpm_step.specs.rows.Shapes.{behind, behind_kind, parameters_check}
 

@@ -6,7 +6,7 @@ use Rattle.std.proofs.Common.{◌∙◌, ◌≡◌, List, None, Option, Some, ap
 use Rattle.std.proofs.Common.{slice_set, subst, sym, true, ℕ}
 use Rattle.std.proofs.lemmas.Bool.{cases_eq, false≢true}
 use Rattle.tpm_mac.specs.Digest.{digest_size}
-use Rattle.tpm_types.specs.declared.handle.Handle.{Handle}
+use Rattle.tpm_types_common.specs.declared.handle.Handle.{Handle}
 use Rattle.tpm_containers.specs.Numbered.{at_number, changed_at, if_of_kind, place_of}
 use Rattle.tpm_containers.specs.Slots.{AreAll, at_place, lowest_free, taken_count}
 use Rattle.tpm_containers.proofs.NumberedLaws.{changed_found, changed_others, changed_taken}

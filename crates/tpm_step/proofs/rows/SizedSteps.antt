@@ -7,9 +7,9 @@ use Rattle.tpm_policy.specs.State.{starting}
 use Rattle.tpm_session.specs.Session.{with_nonce}
 use Rattle.tpm_session.specs.Sessions.{session_at, session_byte, sessions_after_roll, slots_without_session}
 use Rattle.tpm_session.specs.declared.session.Session.{Session}
-use Rattle.tpm_types.specs.SessionAttributes.{continues_session}
-use Rattle.tpm_types.specs.declared.session_type.SessionType.{SessionType}
-use Rattle.tpm_types.specs.declared.session_type.SessionType.TheVariants as type
+use Rattle.tpm_types_common.specs.SessionAttributes.{continues_session}
+use Rattle.tpm_types_common.specs.declared.session_type.SessionType.{SessionType}
+use Rattle.tpm_types_common.specs.declared.session_type.SessionType.TheVariants as type
 use Rattle.tpm_types_command.specs.AuthEntry.{Entry}
 use Rattle.tpm_types_command.specs.Command.{Whole}
 use Rattle.tpm_commands.specs.CommandCode.{shape_of}

@@ -1,7 +1,7 @@
 -- A device that is not started accepts only TPM2_Startup, which starts it. Therefore the device is
 -- started after every accepted command.
 use Rattle.std.proofs.Common.{◌≡◌, ℕ, Bool, true, false, List, IfOk, refl, ap, ◌∙◌}
-use Rattle.tpm_types.specs.StartupType.{startup_type_at}
+use Rattle.tpm_types_common.specs.StartupType.{startup_type_at}
 use Rattle.tpm_commands.specs.declared.command_code.CommandCode.{CommandCode}
 use Rattle.tpm_commands.specs.declared.command_code.CommandCode.TheVariants as command
 use Rattle.tpm_record.specs.Record.{Record}

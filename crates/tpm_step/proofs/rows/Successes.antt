@@ -1,7 +1,7 @@
 -- A success satisfies the laws about rows. The proofs depend on which part of the state the command
 -- changes.
 use Rattle.std.proofs.Common.{◌≡◌, ◌≤◌, Ok, Result, ap, arith, false, rules, subst, sym, true, ℕ}
-use Rattle.tpm_types.specs.declared.refused.Refused.{Refused}
+use Rattle.tpm_types_common.specs.declared.refused.Refused.{Refused}
 use Rattle.tpm_commands.specs.declared.command_code.CommandCode.{CommandCode}
 use Rattle.tpm_containers.specs.Slots.{AreAll}
 use Rattle.tpm_record.specs.Record.{Record}

@@ -1,7 +1,7 @@
 -- The row of every command satisfies the laws about rows. Therefore each law holds for all
 -- commands.
 use Rattle.std.proofs.Common.{◌≡◌, ◌≤◌, IfOk, false, length, true}
-use Rattle.tpm_types.specs.declared.check.Check.TheVariants as check
+use Rattle.tpm_types_common.specs.declared.check.Check.TheVariants as check
 use Rattle.tpm_commands.specs.CommandCode.{part_of, shape_of}
 use Rattle.tpm_commands.specs.declared.command_code.CommandCode.{CommandCode}
 use Rattle.tpm_commands.specs.declared.command_code.CommandCode.TheVariants as command

@@ -1,6 +1,6 @@
 -- No refusal by a general check increments failedTries or disables lockoutAuth.
 use Rattle.std.proofs.Common.{Err, IfErr, List, Ok, Result, refl, rules, ℕ}
-use Rattle.tpm_types.specs.declared.refused.Refused.{Refused}
+use Rattle.tpm_types_common.specs.declared.refused.Refused.{Refused}
 use Rattle.tpm_commands.specs.CommandCode.{code_number}
 use Rattle.tpm_types_command.specs.Header.{header_at}
 use Rattle.tpm_commands.specs.declared.command_code.CommandCode.{CommandCode}

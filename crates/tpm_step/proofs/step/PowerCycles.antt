@@ -11,7 +11,7 @@ use Rattle.tpm_mac.specs.declared.algorithm.HashAlg.TheVariants as alg
 use Rattle.tpm_pcr.specs.Banks.{all_pcrs, new_banks, starting_value, starting_values}
 use Rattle.tpm_pcr.specs.Values.{IsBank, IsBanks}
 use Rattle.tpm_containers.specs.Slots.{AreAll, free}
-use Rattle.tpm_types.specs.Limits.{object_limit, session_limit}
+use Rattle.tpm_types_common.specs.Limits.{object_limit, session_limit}
 use Rattle.tpm_record.specs.Cycle.{after_cycle}
 use Rattle.tpm_record.specs.IsRecord.{IsRecord}
 use Rattle.tpm_record.specs.Record.{Record}

@@ -5,11 +5,11 @@ use Rattle.std.specs.Option.{option_map_or}
 use Rattle.tpm_session.specs.Sessions.{session_at}
 use Rattle.tpm_session.specs.declared.session.Binding.{Binding}
 use Rattle.tpm_session.specs.declared.session.Session.{Session}
-use Rattle.tpm_types.specs.declared.handle.Handle.{Handle}
+use Rattle.tpm_types_common.specs.declared.handle.Handle.{Handle}
 use Rattle.tpm_record.specs.Record.{Record}
-use Rattle.tpm_types.specs.Handle.{hierarchy_auth_of}
-use Rattle.tpm_types.specs.declared.handle.HierarchyAuth.{HierarchyAuth}
-use Rattle.tpm_types.specs.declared.handle.HierarchyAuth.TheVariants as auth
+use Rattle.tpm_types_common.specs.Handle.{hierarchy_auth_of}
+use Rattle.tpm_types_common.specs.declared.handle.HierarchyAuth.{HierarchyAuth}
+use Rattle.tpm_types_common.specs.declared.handle.HierarchyAuth.TheVariants as auth
 use Rattle.tpm_record.specs.Entity.{AnIndex, AnObject, Entity, Permanent, auth_value_of, entity_at, entity_auth_value, hierarchy_auth_value, is_kept, permanent_auth_value}
 use Rattle.tpm_step.specs.history.AuthValues.{auth_of}
 use Rattle.tpm_step.specs.history.DeviceAuthValues.{HasAuthValues, auth_seen}

@@ -3,8 +3,8 @@
 use Rattle.std.proofs.Common.{◌≡◌, ◌⊎◌, ◌≤◌, ℕ, arith, List, [], ◌∷◌, append_assoc, length, take, Some, Result, Ok, Err, slice_get, refl, ap, sym, subst, ◌∙◌, inl, inr}
 use Rattle.tpm_policy.specs.Assertion.{Assertion}
 use Rattle.tpm_policy_meaning.specs.Asserted.{IsAmong}
-use Rattle.tpm_types.specs.declared.handle.Handle.{Handle}
-use Rattle.tpm_types.specs.declared.refused.Refused.{Refused}
+use Rattle.tpm_types_common.specs.declared.handle.Handle.{Handle}
+use Rattle.tpm_types_common.specs.declared.refused.Refused.{Refused}
 use Rattle.tpm_commands.specs.CommandCode.{authorized_handles, shape_of}
 use Rattle.tpm_commands.specs.declared.command_code.CommandCode.{CommandCode as Code}
 use Rattle.tpm_commands.specs.declared.command_code.CommandCode.TheVariants as command

@@ -16,8 +16,8 @@ use Rattle.tpm_session.specs.ParameterHash.{command_hash_of}
 use Rattle.tpm_session.specs.Sessions.{session_at}
 use Rattle.tpm_session.specs.declared.session.Binding.{Binding}
 use Rattle.tpm_session.specs.declared.session.Session.{Session}
-use Rattle.tpm_types.specs.AuthValue.{trimmed}
-use Rattle.tpm_types.specs.declared.handle.Handle.{Handle}
+use Rattle.tpm_types_common.specs.AuthValue.{trimmed}
+use Rattle.tpm_types_common.specs.declared.handle.Handle.{Handle}
 use Rattle.tpm_types_command.specs.AuthEntry.{Entry}
 use Rattle.tpm_commands.specs.CommandCode.{authorized_handles, code_number}
 use Rattle.tpm_record.specs.Entity.{auth_value_of, name_of}

@@ -12,10 +12,10 @@ use Rattle.tpm_policy_meaning.proofs.Chains.{is_same_or_not}
 use Rattle.tpm_policy_meaning.specs.Expression.{PolicyExpression, Nothing, Then, PolicyAuthValue, PolicyNvWritten, PolicyNv}
 use Rattle.tpm_policy_meaning.specs.Meaning.{BreaksHash, IsMet, IsPolicyExpression}
 use Rattle.tpm_policy_meaning.specs.PolicyDigest.{policy_digest}
-use Rattle.tpm_types.specs.declared.handle.Handle.{Handle}
-use Rattle.tpm_types.specs.declared.nv_use.NvUse.{NvUse}
-use Rattle.tpm_types.specs.declared.operation.Operation.TheVariants as operation
-use Rattle.tpm_types.specs.declared.pcr_selection.BankSelection.{BankSelection}
+use Rattle.tpm_types_common.specs.declared.handle.Handle.{Handle}
+use Rattle.tpm_types_common.specs.declared.nv_use.NvUse.{NvUse}
+use Rattle.tpm_types_common.specs.declared.operation.Operation.TheVariants as operation
+use Rattle.tpm_types_common.specs.declared.pcr_selection.BankSelection.{BankSelection}
 use Rattle.tpm_types_command.specs.AuthEntry.{Entry}
 use Rattle.tpm_commands.specs.CommandCode.{nv_use_at}
 use Rattle.tpm_types_nv.specs.NvAttributes.{has as index_has}

@@ -9,7 +9,7 @@ use Rattle.tpm_policy.specs.Assertion.{Assertion, auth_value_asserted, password_
 use Rattle.tpm_policy.specs.Made.{policy_with}
 use Rattle.tpm_policy.specs.State.{Policy}
 use Rattle.tpm_policy_meaning.specs.Asserted.{IsAmong, evaluated_policy}
-use Rattle.tpm_types.specs.Buffer.{is_given}
+use Rattle.tpm_types_common.specs.Buffer.{is_given}
 use Rattle.tpm_step.specs.uses.AcceptedAssertions.{AllFind, Finds}
 
 same_again : {X : Type 0} (recorded : Option X) (x y : X) → recorded ≡ Some x

@@ -9,11 +9,11 @@ use Rattle.tpm_bytes.specs.Numbers.{numbers_below}
 use Rattle.tpm_mac.specs.Digest.{hash_of}
 use Rattle.tpm_mac.specs.declared.algorithm.HashAlg.{HashAlg}
 use Rattle.tpm_mac.specs.declared.algorithm.HashAlg.TheVariants as alg
-use Rattle.tpm_types.specs.Algorithm.{hash_number}
-use Rattle.tpm_types.specs.Pcr.{is_selected, select_of, select_text}
-use Rattle.tpm_types.specs.PcrSelection.{bank_text, banks_text, selection_text}
-use Rattle.tpm_types.specs.declared.pcr_selection.BankSelection.{BankSelection}
-use Rattle.tpm_types.proofs.SelectionLaws.{select_again}
+use Rattle.tpm_types_common.specs.Algorithm.{hash_number}
+use Rattle.tpm_types_common.specs.Pcr.{is_selected, select_of, select_text}
+use Rattle.tpm_types_common.specs.PcrSelection.{bank_text, banks_text, selection_text}
+use Rattle.tpm_types_common.specs.declared.pcr_selection.BankSelection.{BankSelection}
+use Rattle.tpm_types_common.proofs.SelectionLaws.{select_again}
 use Rattle.tpm_pcr.specs.Banks.{all_pcrs, selected_pcrs}
 use Rattle.tpm_step.specs.history.History.{History}
 use Rattle.tpm_step.specs.history.Pcrs.{digest_in, pcr_of, values_in}

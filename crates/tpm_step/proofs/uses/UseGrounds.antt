@@ -14,14 +14,14 @@ use Rattle.tpm_policy.specs.Assertion.{is_other, is_other_hash, is_other_written
 use Rattle.tpm_policy.specs.State.{Policy}
 use Rattle.tpm_policy.specs.Use.{EntityParts, UseParts, is_policy_of, lacks_command, use_passes}
 use Rattle.tpm_policy.specs.declared.state.Demand.{Demand}
-use Rattle.tpm_types.specs.Algorithm.{hash_number}
-use Rattle.tpm_types.specs.Rc.{entry_fault, plain}
-use Rattle.tpm_types.specs.SessionType.{is_trial}
-use Rattle.tpm_types.specs.declared.nv_use.NvUse.{NvUse}
-use Rattle.tpm_types.specs.declared.nv_use.NvUse.TheVariants as does
-use Rattle.tpm_types.specs.declared.rc.ResponseCode.TheVariants as code
-use Rattle.tpm_types.specs.declared.role.Role.{Role}
-use Rattle.tpm_types.specs.declared.role.Role.TheVariants as role
+use Rattle.tpm_types_common.specs.Algorithm.{hash_number}
+use Rattle.tpm_types_common.specs.Rc.{entry_fault, plain}
+use Rattle.tpm_types_common.specs.SessionType.{is_trial}
+use Rattle.tpm_types_common.specs.declared.nv_use.NvUse.{NvUse}
+use Rattle.tpm_types_common.specs.declared.nv_use.NvUse.TheVariants as does
+use Rattle.tpm_types_common.specs.declared.rc.ResponseCode.TheVariants as code
+use Rattle.tpm_types_common.specs.declared.role.Role.{Role}
+use Rattle.tpm_types_common.specs.declared.role.Role.TheVariants as role
 use Rattle.tpm_record.specs.declared.entity.Means.TheVariants as means
 use Rattle.tpm_step.proofs.rows.Binding.{asked, ok_bind_is}
 use Rattle.tpm_step.specs.uses.Grounds.{IsPolicyOf, NamesCommand}

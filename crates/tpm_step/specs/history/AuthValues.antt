@@ -3,14 +3,14 @@
 -- set an authorization value).
 use Rattle.std.specs.Prelude.{ℕ, List, [], ◌∷◌, Option, Result, Ok, Err, ok_or}
 use Rattle.tpm_bytes.specs.Reading.{◌>>=◌}
-use Rattle.tpm_types.specs.AuthValue.{auth_value_at, trimmed}
-use Rattle.tpm_types.specs.Handle.{endorsement_handle, lockout_handle, owner_handle, platform_handle}
-use Rattle.tpm_types.specs.PersistentHandle.{persistent_handle_at}
-use Rattle.tpm_types.specs.StartupType.{startup_type_at}
-use Rattle.tpm_types.specs.declared.handle.Handle.{Handle}
-use Rattle.tpm_types.specs.declared.refused.Refused.{Refused}
-use Rattle.tpm_types.specs.declared.startup_type.StartupType.{StartupType}
-use Rattle.tpm_types.specs.declared.startup_type.StartupType.TheVariants as type
+use Rattle.tpm_types_common.specs.AuthValue.{auth_value_at, trimmed}
+use Rattle.tpm_types_common.specs.Handle.{endorsement_handle, lockout_handle, owner_handle, platform_handle}
+use Rattle.tpm_types_common.specs.PersistentHandle.{persistent_handle_at}
+use Rattle.tpm_types_common.specs.StartupType.{startup_type_at}
+use Rattle.tpm_types_common.specs.declared.handle.Handle.{Handle}
+use Rattle.tpm_types_common.specs.declared.refused.Refused.{Refused}
+use Rattle.tpm_types_common.specs.declared.startup_type.StartupType.{StartupType}
+use Rattle.tpm_types_common.specs.declared.startup_type.StartupType.TheVariants as type
 use Rattle.tpm_commands.specs.declared.command_code.CommandCode.{CommandCode}
 use Rattle.tpm_commands.specs.declared.command_code.CommandCode.TheVariants as command
 use Rattle.tpm_types_object.specs.declared.sensitive.Sensitive.{Sensitive}

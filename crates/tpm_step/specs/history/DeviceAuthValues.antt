@@ -2,8 +2,8 @@
 use Rattle.std.specs.Prelude.{◌≡◌, ℕ, List, if◌then◌else◌, Option, Some, option_map}
 use Rattle.tpm_nv.specs.Index.{NvIndex, index_at}
 use Rattle.tpm_object.specs.declared.object.Object.{Object}
-use Rattle.tpm_types.specs.Handle.{is_nv_index, is_persistent, is_transient}
-use Rattle.tpm_types.specs.declared.handle.Handle.{Handle}
+use Rattle.tpm_types_common.specs.Handle.{is_nv_index, is_persistent, is_transient}
+use Rattle.tpm_types_common.specs.declared.handle.Handle.{Handle}
 use Rattle.tpm_record.specs.Entity.{permanent_auth_value}
 use Rattle.tpm_record.specs.Objects.{object_at}
 use Rattle.tpm_record.specs.Persistent.{persistent_at}

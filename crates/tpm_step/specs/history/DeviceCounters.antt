@@ -1,6 +1,6 @@
 -- Defines when a device has the NV counters that its history determines.
 use Rattle.std.specs.Prelude.{◌≡◌, ℕ, ◌≤◌, true, false, ◌∷◌, ◌++◌, Option, Some, None}
-use Rattle.tpm_types.specs.declared.handle.Handle.{Handle}
+use Rattle.tpm_types_common.specs.declared.handle.Handle.{Handle}
 use Rattle.tpm_types_nv.specs.declared.nv_attributes.NvAttribute.TheVariants as attribute
 use Rattle.tpm_nv.specs.Access.{index_has}
 use Rattle.tpm_nv.specs.Index.{NvContents, NvIndex, index_at}

@@ -4,7 +4,7 @@ use Rattle.tpm_policy.specs.State.{Policy}
 use Rattle.tpm_session.specs.Sessions.{session_at}
 use Rattle.tpm_session.specs.declared.session.Binding.{Binding}
 use Rattle.tpm_session.specs.declared.session.Session.{Session}
-use Rattle.tpm_types.specs.declared.handle.Handle.{Handle}
+use Rattle.tpm_types_common.specs.declared.handle.Handle.{Handle}
 use Rattle.tpm_record.specs.Record.{Record}
 use Rattle.tpm_step.specs.history.History.{History}
 use Rattle.tpm_step.specs.history.Sessions.{Bound, LiveSession, LiveSessions, Start, key_of, nonce_of, policy_in, policy_of, sessions_of, start_in, start_of}

@@ -4,7 +4,7 @@ use Rattle.std.specs.Prelude.{◌≡◌, ◌≢◌, ℕ, true, false, List, [], 
 use Rattle.tpm_lockout.specs.Lockout.{LockoutState, new_lockout}
 use Rattle.tpm_mac.specs.declared.algorithm.HashAlg.TheVariants as alg
 use Rattle.tpm_nv.specs.Index.{NvIndex}
-use Rattle.tpm_types.specs.Handle.{numbered_handle}
+use Rattle.tpm_types_common.specs.Handle.{numbered_handle}
 use Rattle.tpm_record.specs.Record.{Record, manufactured}
 use Rattle.tpm_step.specs.step.Events.{PlainEvent, Given}
 use Rattle.tpm_step.specs.step.Step.{step}

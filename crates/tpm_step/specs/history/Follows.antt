@@ -7,8 +7,8 @@ use Rattle.tpm_object.specs.declared.object.Object.{Object}
 use Rattle.tpm_session.specs.declared.session.Session.{Session}
 use Rattle.tpm_containers.specs.SortedMap.{Ascends, Entries}
 use Rattle.tpm_nv.specs.IsContents.{AreIndices}
-use Rattle.tpm_types.specs.Limits.{object_limit, session_limit}
-use Rattle.tpm_types.specs.declared.handle.Handle.{Handle}
+use Rattle.tpm_types_common.specs.Limits.{object_limit, session_limit}
+use Rattle.tpm_types_common.specs.declared.handle.Handle.{Handle}
 use Rattle.tpm_record.specs.Record.{Record}
 use Rattle.tpm_step.specs.step.Events.{PlainEvent}
 use Rattle.tpm_step.specs.step.Step.{Stepped, outcome_step}

@@ -1,7 +1,7 @@
 -- Maps from handles to values.
 use Rattle.std.specs.Prelude.{◌==◌, if◌then◌else◌, Result, Ok, Err}
-use Rattle.tpm_types.specs.declared.handle.Handle.{Handle}
-use Rattle.tpm_types.specs.declared.refused.Refused.{Refused}
+use Rattle.tpm_types_common.specs.declared.handle.Handle.{Handle}
+use Rattle.tpm_types_common.specs.declared.refused.Refused.{Refused}
 
 -- the map with x at this handle; other handles keep their values
 abbrev pub with_at : {X : Type 0} → Handle → X → (Handle → X) → Handle → X

@@ -11,14 +11,14 @@ use Rattle.tpm_policy.specs.Assertion.{Assertion}
 use Rattle.tpm_policy.specs.State.{Policy}
 use Rattle.tpm_session.specs.Key.{key_label}
 use Rattle.tpm_session.specs.declared.session.Protection.{Protection}
-use Rattle.tpm_types.specs.Handle.{null_handle}
-use Rattle.tpm_types.specs.SessionAttributes.{continues_session}
-use Rattle.tpm_types.specs.SessionType.{is_trial}
-use Rattle.tpm_types.specs.declared.handle.Handle.{Handle}
-use Rattle.tpm_types.specs.declared.refused.Refused.{Refused}
-use Rattle.tpm_types.specs.declared.session_type.SessionType.{SessionType}
-use Rattle.tpm_types.specs.declared.session_type.SessionType.TheVariants as type
-use Rattle.tpm_types.specs.declared.symmetric.SymmetricDefinition.{SymmetricDefinition}
+use Rattle.tpm_types_common.specs.Handle.{null_handle}
+use Rattle.tpm_types_common.specs.SessionAttributes.{continues_session}
+use Rattle.tpm_types_common.specs.SessionType.{is_trial}
+use Rattle.tpm_types_common.specs.declared.handle.Handle.{Handle}
+use Rattle.tpm_types_common.specs.declared.refused.Refused.{Refused}
+use Rattle.tpm_types_common.specs.declared.session_type.SessionType.{SessionType}
+use Rattle.tpm_types_common.specs.declared.session_type.SessionType.TheVariants as type
+use Rattle.tpm_types_common.specs.declared.symmetric.SymmetricDefinition.{SymmetricDefinition}
 use Rattle.tpm_types_command.specs.AuthEntry.{Entry}
 use Rattle.tpm_commands.specs.declared.command_code.CommandCode.{CommandCode}
 use Rattle.tpm_commands.specs.declared.command_code.CommandCode.TheVariants as command

@@ -7,18 +7,18 @@ use Rattle.tpm_policy.specs.declared.state.Demand.{Demand}
 use Rattle.tpm_session.specs.declared.session.Protection.{Protection}
 use Rattle.tpm_session.specs.declared.session.Protection.TheVariants as protection
 use Rattle.tpm_session.specs.declared.session.Session.{Session}
-use Rattle.tpm_types.specs.Check.{check_number}
-use Rattle.tpm_types.specs.Handle.{session_kind}
-use Rattle.tpm_types.specs.Rc.{entry_fault}
-use Rattle.tpm_types.specs.declared.check.Check.{Check}
-use Rattle.tpm_types.specs.declared.check.Check.TheVariants as check
-use Rattle.tpm_types.specs.declared.handle.Handle.{Handle}
-use Rattle.tpm_types.specs.declared.handle.SessionKind.{SessionKind}
-use Rattle.tpm_types.specs.declared.handle.SessionKind.TheVariants as kind
-use Rattle.tpm_types.specs.declared.rc.ResponseCode.TheVariants as code
-use Rattle.tpm_types.specs.declared.refused.Counted.{Counted}
-use Rattle.tpm_types.specs.declared.refused.Counted.TheVariants as counted
-use Rattle.tpm_types.specs.declared.refused.Refused.{Refused}
+use Rattle.tpm_types_common.specs.Check.{check_number}
+use Rattle.tpm_types_common.specs.Handle.{session_kind}
+use Rattle.tpm_types_common.specs.Rc.{entry_fault}
+use Rattle.tpm_types_common.specs.declared.check.Check.{Check}
+use Rattle.tpm_types_common.specs.declared.check.Check.TheVariants as check
+use Rattle.tpm_types_common.specs.declared.handle.Handle.{Handle}
+use Rattle.tpm_types_common.specs.declared.handle.SessionKind.{SessionKind}
+use Rattle.tpm_types_common.specs.declared.handle.SessionKind.TheVariants as kind
+use Rattle.tpm_types_common.specs.declared.rc.ResponseCode.TheVariants as code
+use Rattle.tpm_types_common.specs.declared.refused.Counted.{Counted}
+use Rattle.tpm_types_common.specs.declared.refused.Counted.TheVariants as counted
+use Rattle.tpm_types_common.specs.declared.refused.Refused.{Refused}
 use Rattle.tpm_types_command.specs.AuthEntry.{Entry}
 use Rattle.tpm_types_command.specs.Command.{Whole}
 use Rattle.tpm_commands.specs.declared.command_code.CommandCode.{CommandCode}

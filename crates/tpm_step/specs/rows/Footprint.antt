@@ -1,7 +1,7 @@
 -- The fields of a record that the success of a command may change, depending on the part of the
 -- device's state that the command changes.
 use Rattle.std.specs.Prelude.{◌≡◌, ◌⊎◌, ◌+◌, []}
-use Rattle.tpm_types.specs.declared.handle.HierarchyHandle.{HierarchyHandle}
+use Rattle.tpm_types_common.specs.declared.handle.HierarchyHandle.{HierarchyHandle}
 use Rattle.tpm_actions_device.specs.Clear.{cleared_lockout}
 use Rattle.tpm_nv.specs.Clear.{contents_after_clear}
 use Rattle.tpm_nv.specs.Index.{NvContents}

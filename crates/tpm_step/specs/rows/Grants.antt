@@ -1,6 +1,6 @@
 -- Says which handle each entry of a command is granted.
 use Rattle.std.specs.Prelude.{◌≡◌, ℕ, List, length, Option, option_and_then, option_map, slice_get}
-use Rattle.tpm_types.specs.declared.handle.Handle.{Handle}
+use Rattle.tpm_types_common.specs.declared.handle.Handle.{Handle}
 use Rattle.tpm_types_command.specs.Command.{Whole}
 use Rattle.tpm_auth.specs.Grant.{authorized}
 use Rattle.tpm_auth.specs.declared.session_grant.Grant.{Grant}

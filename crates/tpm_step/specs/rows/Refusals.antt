@@ -1,8 +1,8 @@
 -- Which checks refuse a command, and which do not.
 use Rattle.std.specs.Prelude.{◌≡◌, ◌≢◌, ◌⊎◌, IfErr, Result}
-use Rattle.tpm_types.specs.declared.check.Check.{Check}
-use Rattle.tpm_types.specs.declared.check.Check.TheVariants as check
-use Rattle.tpm_types.specs.declared.refused.Refused.{Refused}
+use Rattle.tpm_types_common.specs.declared.check.Check.{Check}
+use Rattle.tpm_types_common.specs.declared.check.Check.TheVariants as check
+use Rattle.tpm_types_common.specs.declared.refused.Refused.{Refused}
 
 -- The result is not a refusal by this check.
 abbrev pub Passes : {X : Type 0} → Check → Result X Refused → Type 0

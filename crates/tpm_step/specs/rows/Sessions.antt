@@ -1,11 +1,11 @@
 -- The sessions named by a command's entries.
 use Rattle.std.specs.Prelude.{◌≡◌, true, List, [], ◌∷◌, is_some}
 use Rattle.tpm_session.specs.Sessions.{session_at}
-use Rattle.tpm_types.specs.declared.handle.Handle.{Handle}
-use Rattle.tpm_types.specs.declared.handle.SessionKind.{SessionKind}
-use Rattle.tpm_types.specs.declared.handle.SessionKind.TheVariants as kind
+use Rattle.tpm_types_common.specs.declared.handle.Handle.{Handle}
+use Rattle.tpm_types_common.specs.declared.handle.SessionKind.{SessionKind}
+use Rattle.tpm_types_common.specs.declared.handle.SessionKind.TheVariants as kind
 use Rattle.tpm_types_command.specs.AuthEntry.{Entry}
-use Rattle.tpm_types.specs.Handle.{session_kind}
+use Rattle.tpm_types_common.specs.Handle.{session_kind}
 use Rattle.tpm_record.specs.Record.{Record}
 use Rattle.tpm_auth.specs.Entries.{session_of}
 

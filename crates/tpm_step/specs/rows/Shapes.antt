@@ -6,30 +6,30 @@ use Rattle.tpm_bytes.specs.Reading.{◌>>=◌, number_at, or_fault}
 use Rattle.tpm_containers.specs.Slots.{taken_count}
 use Rattle.tpm_commands.specs.declared.command_code.CommandCode.{CommandCode}
 use Rattle.tpm_commands.specs.declared.command_code.CommandCode.TheVariants as command
-use Rattle.tpm_types.specs.declared.rc.Rc.{Rc}
-use Rattle.tpm_types.specs.declared.rc.ResponseCode.TheVariants as code
+use Rattle.tpm_types_common.specs.declared.rc.Rc.{Rc}
+use Rattle.tpm_types_common.specs.declared.rc.ResponseCode.TheVariants as code
 use Rattle.tpm_commands.specs.declared.shape.ParameterKind.{ParameterKind}
 use Rattle.tpm_commands.specs.declared.shape.ParameterKind.TheVariants as kind
-use Rattle.tpm_types.specs.Algorithm.{hash_at, hash_or_null_at}
-use Rattle.tpm_types.specs.Buffer.{buffer_at}
+use Rattle.tpm_types_common.specs.Algorithm.{hash_at, hash_or_null_at}
+use Rattle.tpm_types_common.specs.Buffer.{buffer_at}
 use Rattle.tpm_commands.specs.CommandCode.{shape_of}
-use Rattle.tpm_types.specs.DigestList.{digest_list_at}
-use Rattle.tpm_types.specs.DigestValues.{digest_values_at}
-use Rattle.tpm_types.specs.Filled.{filled_by}
-use Rattle.tpm_types.specs.PcrSelection.{selection_at}
-use Rattle.tpm_types.specs.PersistentHandle.{persistent_handle_at}
+use Rattle.tpm_types_common.specs.DigestList.{digest_list_at}
+use Rattle.tpm_types_common.specs.DigestValues.{digest_values_at}
+use Rattle.tpm_types_common.specs.Filled.{filled_by}
+use Rattle.tpm_types_common.specs.PcrSelection.{selection_at}
+use Rattle.tpm_types_common.specs.PersistentHandle.{persistent_handle_at}
 use Rattle.tpm_types_object.specs.Public.{public_at}
 use Rattle.tpm_types_nv.specs.NvPublic.{nv_public_at}
-use Rattle.tpm_types.specs.Operation.{operation_at}
-use Rattle.tpm_types.specs.Rc.{plain}
+use Rattle.tpm_types_common.specs.Operation.{operation_at}
+use Rattle.tpm_types_common.specs.Rc.{plain}
 use Rattle.tpm_types_object.specs.SensitiveCreate.{sensitive_create_at}
-use Rattle.tpm_types.specs.SessionType.{session_type_at}
-use Rattle.tpm_types.specs.StartupType.{startup_type_at}
-use Rattle.tpm_types.specs.Symmetric.{symmetric_at}
-use Rattle.tpm_types.specs.YesNo.{yes_no_at}
+use Rattle.tpm_types_common.specs.SessionType.{session_type_at}
+use Rattle.tpm_types_common.specs.StartupType.{startup_type_at}
+use Rattle.tpm_types_common.specs.Symmetric.{symmetric_at}
+use Rattle.tpm_types_common.specs.YesNo.{yes_no_at}
 use Rattle.tpm_record.specs.Record.{Record}
-use Rattle.tpm_types.specs.declared.check.Check.TheVariants as check
-use Rattle.tpm_types.specs.declared.refused.Refused.{Refused}
+use Rattle.tpm_types_common.specs.declared.check.Check.TheVariants as check
+use Rattle.tpm_types_common.specs.declared.refused.Refused.{Refused}
 use Rattle.tpm_record.specs.rows.Answer.{begins_sized}
 use Rattle.tpm_record.specs.rows.Rows.{Success, all_read, parameter}
 use Rattle.tpm_step.specs.rows.Refusals.{Passes}

@@ -1,11 +1,11 @@
 -- The responses of a device. TPM 2.0 Library, Part 1, section 18 (command and response structures).
 use Rattle.std.specs.Prelude.{ℕ, ◌+◌, List, [], ◌∷◌, ◌++◌, length, drop, Option, Some, None}
 use Rattle.std.specs.Int.{w16, w32, to_be_bytes}
-use Rattle.tpm_types.specs.declared.handle.Handle.{Handle}
+use Rattle.tpm_types_common.specs.declared.handle.Handle.{Handle}
 use Rattle.tpm_types_command.specs.AuthEntry.{Entry}
 use Rattle.tpm_types_command.specs.Command.{Whole, handle_text}
 use Rattle.tpm_commands.specs.CommandCode.{code_number}
-use Rattle.tpm_types.specs.Rc.{rc_number}
+use Rattle.tpm_types_common.specs.Rc.{rc_number}
 use Rattle.tpm_session.specs.ParameterHash.{OfResponse}
 use Rattle.tpm_record.specs.Record.{Record}
 use Rattle.tpm_record.specs.rows.Answer.{AnswerParts, answer_body_text}
@@ -14,9 +14,9 @@ use Rattle.tpm_step.specs.step.Entries.{Drawn, entries_answer, entries_ended, en
 use Rattle.tpm_step.specs.step.Granted.{Granted, granted_entries}
 use Rattle.tpm_step.specs.step.Parameters.{encrypted_answer}
 use Rattle.tpm_auth.specs.declared.session_grant.Grant.{Grant}
-use Rattle.tpm_types.specs.declared.check.Check.{Check}
-use Rattle.tpm_types.specs.declared.check.Check.TheVariants as check
-use Rattle.tpm_types.specs.declared.refused.Refused.{Refused}
+use Rattle.tpm_types_common.specs.declared.check.Check.{Check}
+use Rattle.tpm_types_common.specs.declared.check.Check.TheVariants as check
+use Rattle.tpm_types_common.specs.declared.refused.Refused.{Refused}
 
 -- a response or a command: its tag, its size, its code, and the body after this header
 abbrev pub framed_message : (tag code : ℕ) → List ℕ → List ℕ

@@ -11,10 +11,10 @@ use Rattle.tpm_session.specs.declared.session.Session.{Session}
 use Rattle.tpm_session.specs.EntryText.{response_mac_of}
 use Rattle.tpm_session.specs.ParameterHash.{HashedParts, parameter_hash_of}
 use Rattle.tpm_session.specs.Sessions.{sessions_after_roll, slots_without_session, with_session_policy}
-use Rattle.tpm_types.specs.declared.session_type.SessionType.{SessionType}
-use Rattle.tpm_types.specs.declared.session_type.SessionType.TheVariants as type
+use Rattle.tpm_types_common.specs.declared.session_type.SessionType.{SessionType}
+use Rattle.tpm_types_common.specs.declared.session_type.SessionType.TheVariants as type
 use Rattle.tpm_types_command.specs.AuthEntry.{Entry}
-use Rattle.tpm_types.specs.SessionAttributes.{continues_session}
+use Rattle.tpm_types_common.specs.SessionAttributes.{continues_session}
 use Rattle.tpm_record.specs.Record.{Record}
 use Rattle.tpm_auth.specs.Entries.{session_of}
 use Rattle.tpm_auth.specs.declared.session_grant.Grant.{Grant}

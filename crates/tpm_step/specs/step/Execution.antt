@@ -1,6 +1,6 @@
 -- The properties of the execution of one event.
 use Rattle.std.specs.Prelude.{◌≡◌, ◌≤◌, Bool, false, length}
-use Rattle.tpm_types.specs.Limits.{response_limit}
+use Rattle.tpm_types_common.specs.Limits.{response_limit}
 use Rattle.tpm_record.specs.IsRecord.{IsRecord}
 use Rattle.tpm_record.specs.Record.{Record}
 use Rattle.tpm_step.specs.step.Events.{PlainEvent, IsEvent}

@@ -10,9 +10,9 @@ use Rattle.tpm_types_command.specs.declared.header.HeaderFault.{HeaderFault}
 use Rattle.tpm_types_command.specs.declared.header.HeaderFault.TheVariants as fault
 use Rattle.tpm_commands.specs.declared.command_code.CommandCode.{CommandCode}
 use Rattle.tpm_commands.specs.declared.command_code.CommandCode.TheVariants as command
-use Rattle.tpm_types.specs.declared.handle.Handle.{Handle}
-use Rattle.tpm_types.specs.declared.rc.Rc.{Rc}
-use Rattle.tpm_types.specs.declared.rc.ResponseCode.TheVariants as code
+use Rattle.tpm_types_common.specs.declared.handle.Handle.{Handle}
+use Rattle.tpm_types_common.specs.declared.rc.Rc.{Rc}
+use Rattle.tpm_types_common.specs.declared.rc.ResponseCode.TheVariants as code
 use Rattle.tpm_commands.specs.declared.shape.HandleRule.{HandleRule}
 use Rattle.tpm_types_command.specs.declared.tag.Tag.{Tag}
 use Rattle.tpm_types_command.specs.declared.tag.Tag.TheVariants.{NoSessions, Sessions}
@@ -21,14 +21,14 @@ use Rattle.tpm_types_command.specs.Command.{Whole, sessions_at, whole_of}
 use Rattle.tpm_commands.specs.CommandCode.{code_number}
 use Rattle.tpm_commands.specs.HandleArea.{allowed_handle_at}
 use Rattle.tpm_types_command.specs.Header.{header_at, header_fault_rc}
-use Rattle.tpm_types.specs.Rc.{plain}
+use Rattle.tpm_types_common.specs.Rc.{plain}
 use Rattle.tpm_commands.specs.CommandCode.{authorized_handles, shape_of}
 use Rattle.tpm_record.specs.Entity.{absence_rc, is_present}
 use Rattle.tpm_record.specs.Record.{Record}
-use Rattle.tpm_types.specs.Refused.{checked_result, refusal}
-use Rattle.tpm_types.specs.declared.check.Check.{Check}
-use Rattle.tpm_types.specs.declared.check.Check.TheVariants as check
-use Rattle.tpm_types.specs.declared.refused.Refused.{Refused}
+use Rattle.tpm_types_common.specs.Refused.{checked_result, refusal}
+use Rattle.tpm_types_common.specs.declared.check.Check.{Check}
+use Rattle.tpm_types_common.specs.declared.check.Check.TheVariants as check
+use Rattle.tpm_types_common.specs.declared.refused.Refused.{Refused}
 use Rattle.tpm_step.specs.declared.refused_command.RefusedCommand.{RefusedCommand}
 
 -- adds the command's code to a refusal, because the row reports the code

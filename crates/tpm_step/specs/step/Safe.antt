@@ -2,9 +2,9 @@
 use Rattle.std.specs.Prelude.{◌≡◌, ◌≢◌, ℕ, ◌≤◌, List, length, Ok, IfOk}
 use Rattle.tpm_record.specs.Record.{Record}
 use Rattle.tpm_record.specs.Tick.{after_tick}
-use Rattle.tpm_types.specs.Limits.{answer_limit}
-use Rattle.tpm_types.specs.Check.{check_number}
-use Rattle.tpm_types.specs.declared.refused.Refused.{Refused}
+use Rattle.tpm_types_common.specs.Limits.{answer_limit}
+use Rattle.tpm_types_common.specs.Check.{check_number}
+use Rattle.tpm_types_common.specs.declared.refused.Refused.{Refused}
 use Rattle.tpm_record.specs.rows.Answer.{answer_body_text}
 use Rattle.tpm_record.specs.rows.Draws.{draw_limit}
 use Rattle.tpm_step.specs.step.Answer.{refusal_text}

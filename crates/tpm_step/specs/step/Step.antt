@@ -9,15 +9,15 @@ use Rattle.tpm_commands.specs.CommandCode.{shape_of}
 use Rattle.tpm_record.specs.Cycle.{after_cycle}
 use Rattle.tpm_record.specs.Record.{Record, with_lockout, with_saved}
 use Rattle.tpm_record.specs.Tick.{after_tick}
-use Rattle.tpm_types.specs.Check.{check_number}
+use Rattle.tpm_types_common.specs.Check.{check_number}
 use Rattle.tpm_auth.specs.Grant.{authorize}
 use Rattle.tpm_auth.specs.declared.session_grant.Grant.{Grant}
 use Rattle.tpm_lockout.specs.Lockout.{LockoutState}
 use Rattle.tpm_lockout.specs.Recovery.{closed_by_failure}
 use Rattle.tpm_lockout.specs.Tries.{after_failure}
-use Rattle.tpm_types.specs.declared.refused.Counted.{Counted}
-use Rattle.tpm_types.specs.declared.refused.Counted.TheVariants as counted
-use Rattle.tpm_types.specs.declared.refused.Refused.{Refused}
+use Rattle.tpm_types_common.specs.declared.refused.Counted.{Counted}
+use Rattle.tpm_types_common.specs.declared.refused.Counted.TheVariants as counted
+use Rattle.tpm_types_common.specs.declared.refused.Refused.{Refused}
 use Rattle.tpm_record.specs.rows.Answer.{IsAnswer}
 use Rattle.tpm_record.specs.rows.Request.{Request}
 use Rattle.tpm_record.specs.declared.rows.answer.Answer.{Answer}

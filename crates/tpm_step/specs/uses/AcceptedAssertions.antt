@@ -6,9 +6,9 @@ use Rattle.tpm_policy.specs.Assertion as assertion
 use Rattle.tpm_policy.specs.Assertion.{Assertion}
 use Rattle.tpm_policy.specs.State.{Policy}
 use Rattle.tpm_policy_meaning.specs.Asserted.{HasWidths, IsAmong, evaluated_policy}
-use Rattle.tpm_types.specs.Buffer.{is_given}
-use Rattle.tpm_types.specs.declared.handle.Handle.{Handle}
-use Rattle.tpm_types.specs.declared.session_type.SessionType.TheVariants as type
+use Rattle.tpm_types_common.specs.Buffer.{is_given}
+use Rattle.tpm_types_common.specs.declared.handle.Handle.{Handle}
+use Rattle.tpm_types_common.specs.declared.session_type.SessionType.TheVariants as type
 use Rattle.tpm_step.specs.history.History.{AcceptedCommand, Done, History, ObjectPlaced, PowerCycled}
 use Rattle.tpm_step.specs.history.Sessions.{LiveSession, sessions_of}
 

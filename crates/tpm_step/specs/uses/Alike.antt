@@ -2,7 +2,7 @@
 -- public data, and have the same lockout state. TPM 2.0 Library, Part 1, section 19
 -- (authorizations), and Part 3, section 5.6 (authorization checks).
 use Rattle.std.specs.Prelude.{◌≡◌, ℕ}
-use Rattle.tpm_types.specs.declared.handle.Handle.{Handle}
+use Rattle.tpm_types_common.specs.declared.handle.Handle.{Handle}
 use Rattle.tpm_types_command.specs.Command.{Whole}
 use Rattle.tpm_record.specs.Record.{Record}
 use Rattle.tpm_auth.specs.Grant.{authorize}

@@ -1,9 +1,9 @@
 -- Buffers that are accepted twice. TPM 2.0 Library, Part 1, section 19.6.3 (session nonces).
 use Rattle.std.specs.Prelude.{◌≡◌, ◌≢◌, ◌⊎◌, ◌==◌, ℕ, Bool, false, List, [], ◌∷◌, ◌++◌, Option, Some, None, Ok, slice_get}
-use Rattle.tpm_types.specs.Handle.{session_kind}
-use Rattle.tpm_types.specs.declared.handle.Handle.{Handle}
-use Rattle.tpm_types.specs.declared.handle.SessionKind.TheVariants as kind
-use Rattle.tpm_types.specs.declared.session_type.SessionType.TheVariants as type
+use Rattle.tpm_types_common.specs.Handle.{session_kind}
+use Rattle.tpm_types_common.specs.declared.handle.Handle.{Handle}
+use Rattle.tpm_types_common.specs.declared.handle.SessionKind.TheVariants as kind
+use Rattle.tpm_types_common.specs.declared.session_type.SessionType.TheVariants as type
 use Rattle.tpm_types_command.specs.AuthEntry.{Entry}
 use Rattle.tpm_types_command.specs.Command.{command_at}
 use Rattle.tpm_commands.specs.declared.command_code.CommandCode.{CommandCode}

@@ -13,7 +13,7 @@ use crate::header::Header;
 use crate::tag::Tag;
 use arrayvec::ArrayVec;
 use tpm_bytes::Cursor;
-use tpm_types::{Handle, Rc, ResponseCode};
+use tpm_types_common::{Handle, Rc, ResponseCode};
 
 impl<'a, 'b> Command<'a, 'b> {
     /// Reads a command, which must fill the rest of the input and fit in a command buffer. The

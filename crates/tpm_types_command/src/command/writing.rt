@@ -16,7 +16,7 @@ use crate::header::HEADER_SIZE;
 use crate::tag::Tag;
 use tpm_bytes::{Full, Sink};
 use tpm_commands::CommandCode;
-use tpm_types::Handle;
+use tpm_types_common::Handle;
 
 impl Command<'_, '_> {
     /// The tag of the command: TPM_ST_SESSIONS if it has entries, and TPM_ST_NO_SESSIONS if not.

@@ -5,8 +5,8 @@ use Rattle.tpm_commands.specs.declared.command_code.CommandCode.{CommandCode}
 use Rattle.tpm_kept_device.specs.declared.answer.Answer.{Answer}
 use Rattle.tpm_step.specs.declared.event.Row.{Row}
 use Rattle.tpm_text.specs.Trace.{IsRow}
-use Rattle.tpm_types.specs.Check.{check_number}
-use Rattle.tpm_types.specs.declared.check.Check.{Check}
+use Rattle.tpm_types_common.specs.Check.{check_number}
+use Rattle.tpm_types_common.specs.declared.check.Check.{Check}
 
 -- the row of an answer: the command, and the check that refused it
 abbrev pub row_of : Answer → Row

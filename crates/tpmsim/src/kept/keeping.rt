@@ -1,7 +1,7 @@
 //! A device that is kept in a folder: a keeper, and its host.
 
 ghost use Rattle.std.specs.Prelude.{◌≤◌, IfOk, length};
-ghost use Rattle.tpm_types.specs.Limits.{buffer_limit};
+ghost use Rattle.tpm_types_common.specs.Limits.{buffer_limit};
 
 use crate::kept::said::said_of_text;
 use crate::kept::tail::Tail;
@@ -13,7 +13,7 @@ use tpm_kept_device::answer::{Answer, read_answer};
 use tpm_kept_device::writing::{
     beginning, command_after, command_at, power_cycle, seed_of_random, seed_of_state,
 };
-use tpm_types::Locality;
+use tpm_types_common::Locality;
 use tpmsim_folder::moment::{clock_of, start_of};
 use tpmsim_folder::{Host, KeptFault, Place, Said};
 

@@ -4,7 +4,7 @@
 use crate::kept::Kept;
 use std::io::{Read, Write};
 use tpm_bytes::Tap;
-use tpm_types::{BUFFER_LIMIT, Locality};
+use tpm_types_common::{BUFFER_LIMIT, Locality};
 use tpm_wire::connection::Connection;
 use tpm_wire::reading::fill;
 use tpmsim_folder::KeptFault;

@@ -1,14 +1,14 @@
 //! The row of a kept device's answer, which the trace of the answer needs.
 
 ghost use Rattle.std.specs.Prelude.{◌≡◌, IfSome, is_some, true};
-ghost use Rattle.tpm_types.specs.Check.{check_number};
-ghost use Rattle.tpm_types.specs.declared.check.Check.{Check};
+ghost use Rattle.tpm_types_common.specs.Check.{check_number};
+ghost use Rattle.tpm_types_common.specs.declared.check.Check.{Check};
 ghost use Rattle.tpmsim.specs.kept.Tracing.{IsCheck, IsCode, IsTraceable, row_of};
 
 use tpm_commands::CommandCode;
 use tpm_kept_device::answer::Answer;
 use tpm_step::Row;
-use tpm_types::{ActionCheck, Check};
+use tpm_types_common::{ActionCheck, Check};
 
 /// Returns the row of an answer: the command, and the check that refused it. None if the answer
 /// cannot be traced, which never happens with a device's answer.

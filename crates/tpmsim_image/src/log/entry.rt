@@ -4,11 +4,11 @@ ghost use Rattle.std.specs.Prelude.{◌≡◌, IfSome, None, Some, false, take};
 ghost use Rattle.tpm_journal_text.specs.Entry.{IsEntry, plain_entry};
 ghost use Rattle.tpmsim_image.specs.log.Executed.{entry_by, fits_entry, has_entry};
 ghost use Rattle.tpm_step.specs.step.Events.{plain_event};
-ghost use Rattle.tpm_types.specs.Locality.{locality_number};
+ghost use Rattle.tpm_types_common.specs.Locality.{locality_number};
 
 use tpm_journal_text::{ENTRY_LIMIT, Entry, sum_of};
 use tpm_step::Event;
-use tpm_types::Locality;
+use tpm_types_common::Locality;
 
 /// Returns the entry of an event that had this response, and drew `drawn` random bytes. A power
 /// cycle has no entry. A command has no entry if its buffer is larger than an entry allows.

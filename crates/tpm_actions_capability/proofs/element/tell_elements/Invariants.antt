@@ -1,5 +1,5 @@
 use Rattle.std.proofs.Common.{◌≡◌, ◌≤◌, ◌+◌, ◌*◌, ◌++◌, drop, length}
-use Rattle.tpm_types.specs.Limits.{answer_limit}
+use Rattle.tpm_types_common.specs.Limits.{answer_limit}
 use Rattle.tpm_actions_capability.specs.Element.{text_of}
 use Rattle.tpm_actions_capability.proofs.element.tell_elements.Given as goal
 

@@ -1,6 +1,6 @@
 use Rattle.std.proofs.Common.{arith, sym, subst, [], List}
 use Rattle.tpm_bytes.specs.Reading.{Gives}
-use Rattle.tpm_types.specs.Locality.{locality_number}
+use Rattle.tpm_types_common.specs.Locality.{locality_number}
 use Rattle.tpm_types_command.specs.AuthEntry.{Entry}
 use Rattle.tpm_types_command.specs.Command.{whole_of}
 use Rattle.tpm_auth.specs.Grant.{granted_by, grants_pass}

@@ -1,5 +1,5 @@
 use Rattle.std.proofs.Common.{◌≡◌, [], drop, length, map}
-use Rattle.tpm_types.specs.Locality.{locality_number}
+use Rattle.tpm_types_common.specs.Locality.{locality_number}
 use Rattle.tpm_types_command.specs.AuthEntry.{entry_of}
 use Rattle.tpm_types_command.specs.Command.{whole_of}
 use Rattle.tpm_auth.specs.Grant.{grants_pass}

@@ -2,7 +2,7 @@ use Rattle.std.proofs.Common.{ℕ, List, subst}
 use Rattle.tpm_machine.specs.State.{state_of}
 use Rattle.tpm_step.specs.step.Events.{Given, PlainEvent, plain_event}
 use Rattle.tpm_step.specs.declared.event.Event.{Event}
-use Rattle.tpm_types.specs.Locality.{locality_number}
+use Rattle.tpm_types_common.specs.Locality.{locality_number}
 use Rattle.tpm_completion.specs.Execution.{Passes, Seen, seen_of}
 use Rattle.tpm_completion.specs.Saving.{Reply}
 use Rattle.tpm_completion.proofs.SentEffect.{sent_is}

@@ -1,5 +1,5 @@
 use Rattle.tpm_image_text.specs.Sizes.{index_size}
-use Rattle.tpm_types.specs.Limits.{nv_space_limit}
+use Rattle.tpm_types_common.specs.Limits.{nv_space_limit}
 use Rattle.std.proofs.Common.{◌≡◌, ◌≤◌, ◌+◌, ◌*◌, ◌++◌, drop, length}
 use Rattle.std.specs.List.{flat_map}
 use Rattle.tpm_nv.specs.Head.{indices_of, total}

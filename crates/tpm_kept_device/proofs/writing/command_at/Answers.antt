@@ -1,6 +1,6 @@
 use Rattle.std.proofs.Common.{rules, ◌≡◌, ℕ, List, Ok, subst, sym, arith}
 use Rattle.tpm_kept_journal.specs.Command.{At, Executes, command_of}
-use Rattle.tpm_types.specs.Locality.{locality_number}
+use Rattle.tpm_types_common.specs.Locality.{locality_number}
 use Rattle.tpm_kept_device.proofs.Texts.{at_read}
 use Rattle.tpm_kept_device.proofs.writing.command_at.Goals as goal
 

@@ -4,7 +4,7 @@ use Rattle.std.proofs.Common.{◌≡◌, ◌+◌, ◌++◌, length, replicate, t
 use Rattle.std.specs.Int.{w32, to_be_bytes}
 use Rattle.std.specs.List.{flat_map}
 use Rattle.tpm_mac.specs.Digest.{digest_size, joined_text}
-use Rattle.tpm_types.specs.DigestList.{digests_of}
+use Rattle.tpm_types_common.specs.DigestList.{digests_of}
 use Rattle.tpm_policy.proofs.assertions.or_digest.Given as goal
 
 -- The parts collected so far are the zeros, the command code and the digests of the list that were

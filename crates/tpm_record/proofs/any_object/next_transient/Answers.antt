@@ -1,7 +1,7 @@
 use Rattle.std.proofs.Common.{rules, of_calls, arith, ◌≡◌, ℕ, Bool, true, sym, ap, ◌∙◌}
 use Rattle.std.specs.Prelude.{Some, option_map}
 use Rattle.tpm_containers.specs.Numbered.{number_of}
-use Rattle.tpm_types.specs.Limits.{object_limit}
+use Rattle.tpm_types_common.specs.Limits.{object_limit}
 use Rattle.tpm_record.specs.AnyObject.{is_from}
 use Rattle.tpm_record.proofs.Searching.{found_least}
 use Rattle.tpm_record.proofs.any_object.next_transient.Goals as goal

@@ -1,5 +1,5 @@
 use Rattle.std.proofs.Common.{◌≡◌, ◌≤◌, length}
-use Rattle.tpm_types.specs.Limits.{object_limit}
+use Rattle.tpm_types_common.specs.Limits.{object_limit}
 use Rattle.tpm_record.proofs.ClearLaws.{cleared_up_to}
 use Rattle.tpm_record.proofs.clear.clear_places.Given as goal
 

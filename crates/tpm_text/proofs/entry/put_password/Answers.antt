@@ -1,6 +1,6 @@
 use Rattle.std.proofs.Common.{rules, ap, ◌∙◌, [], ◌∷◌}
 use Rattle.std.specs.Int.{w32, to_be_bytes}
-use Rattle.tpm_types.specs.Handle.{password_handle}
+use Rattle.tpm_types_common.specs.Handle.{password_handle}
 use Rattle.tpm_text.specs.Draft.{drafted_bytes, grown_draft}
 use Rattle.tpm_text.proofs.EntryTexts.{password_front, password_text}
 use Rattle.tpm_text.proofs.Growing.{drafted_behind, grown-grown}

@@ -1,7 +1,7 @@
 use Rattle.std.proofs.Common.{rules, length, ◌*◌}
 use Rattle.std.proofs.lemmas.Bool.{eq-eqb}
 use Rattle.tpm_mac.specs.Digest.{digest_size}
-use Rattle.tpm_types.specs.Algorithm.{hash_number}
+use Rattle.tpm_types_common.specs.Algorithm.{hash_number}
 use Rattle.std.specs.Int.{w16, to_be_bytes}
 use Rattle.tpm_text.specs.Parameter.{digest_word_text}
 use Rattle.tpm_text.proofs.Growing.{drafted_behind}

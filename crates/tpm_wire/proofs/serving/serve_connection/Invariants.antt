@@ -1,4 +1,4 @@
-use Rattle.tpm_types.specs.Limits.{buffer_limit}
+use Rattle.tpm_types_common.specs.Limits.{buffer_limit}
 use Rattle.std.proofs.Common.{◌≡◌, ◌+◌, ◌*◌, ◌≤◌, List, [], ℕ, length, None, false}
 use denote.Param.Always.{always_mut}
 use Rattle.std.specs.Io.KnownBytes.{Appends, Consumes}

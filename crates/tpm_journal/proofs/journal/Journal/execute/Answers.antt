@@ -2,7 +2,7 @@ use Rattle.std.proofs.Common.{arith, length-take, ap, subst}
 use Rattle.tpm_bytes.proofs.Fields.{AreBytes-take}
 use Rattle.tpm_completion.specs.Execution.{CompletesIf, seen_of}
 use Rattle.tpm_step.specs.step.Events.{plain_event}
-use Rattle.tpm_types.specs.Locality.{locality_number}
+use Rattle.tpm_types_common.specs.Locality.{locality_number}
 use Rattle.tpm_journal_text.specs.Sum.{sum_of}
 use Rattle.tpm_journal.proofs.Commands.{entry_is}
 use Rattle.tpm_journal.proofs.Drawing.{if_within}

@@ -2,7 +2,7 @@ use Rattle.std.proofs.Common.{◌≡◌, ℕ, Bool, List, length, Result, Ok, ap
 use Rattle.tpm_completion.specs.Execution.{Seen, seen_of}
 use Rattle.tpm_image_text.specs.declared.fault.Malformed.{Malformed}
 use Rattle.tpm_slots.specs.SlotRecord.{slot_record}
-use Rattle.tpm_types.specs.Locality.{locality_number}
+use Rattle.tpm_types_common.specs.Locality.{locality_number}
 use Rattle.tpm_kept_journal.specs.Command as kept
 use Rattle.tpm_kept_journal.specs.Command.{IsGiven, KeptCommand, Moment, command_of}
 use Rattle.tpm_kept_journal.proofs.Executed.{executed_entry, executed_few, executed_response, executed_spot}

@@ -1,4 +1,4 @@
-use Rattle.tpm_types.specs.Limits.{nv_index_limit, nv_space_limit}
+use Rattle.tpm_types_common.specs.Limits.{nv_index_limit, nv_space_limit}
 use Rattle.std.proofs.Common.{sym, ap, ◌∙◌, length, arith}
 use Rattle.std.specs.Prelude.{◌&&◌, nat_lt, nat_le, ◌+◌}
 use Rattle.tpm_nv.proofs.KeptLaws.{room_is}

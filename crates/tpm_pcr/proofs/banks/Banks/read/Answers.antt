@@ -1,7 +1,7 @@
 use Rattle.std.proofs.Common.{arith, refl, ◌≡◌, ◌+◌, ◌-◌, ◌∙◌, ◌++◌, ap, sym, min, length, length-append, length-take, append-nil, drop, []}
 use Rattle.std.proofs.lemmas.Grind.{common_steps}
 use Rattle.std.proofs.lemmas.List.{length-map, drop_all}
-use Rattle.tpm_types.specs.DigestList.{digests_of}
+use Rattle.tpm_types_common.specs.DigestList.{digests_of}
 use Rattle.std.specs.List.{flat_map}
 use Rattle.tpm_pcr.specs.Banks.{answer_selection, read_values, selected_pcrs, selected_values}
 use Rattle.tpm_pcr.proofs.OwnValues.{own_values}

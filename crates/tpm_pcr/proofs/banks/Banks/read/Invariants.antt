@@ -1,5 +1,5 @@
 use Rattle.std.proofs.Common.{◌≡◌, ◌-◌, ◌++◌, length, drop}
-use Rattle.tpm_types.specs.DigestList.{digests_of}
+use Rattle.tpm_types_common.specs.DigestList.{digests_of}
 use Rattle.tpm_pcr.specs.Banks.{answer_selection, read_values}
 use Rattle.tpm_pcr.proofs.banks.Banks.read.Given as goal
 

@@ -1,8 +1,8 @@
 use Rattle.tpm_bytes.specs.Numbers.{numbers_below}
 use Rattle.std.proofs.Common.{rules, arith, ◌≡◌, ◌+◌, ◌-◌, ◌∙◌, min, length, filter}
 use Rattle.std.proofs.lemmas.List.{length-map, take-map}
-use Rattle.tpm_types.specs.Pcr.{is_selected}
-use Rattle.tpm_types.specs.DigestList.{digests_of}
+use Rattle.tpm_types_common.specs.Pcr.{is_selected}
+use Rattle.tpm_types_common.specs.DigestList.{digests_of}
 use Rattle.tpm_pcr.specs.Banks.{pcr_value}
 use Rattle.tpm_pcr.proofs.Reading.{select_step, selected_pcrs-is, values_count, values_step}
 use Rattle.tpm_pcr.proofs.banks.Banks.read_bank.Goals as goal

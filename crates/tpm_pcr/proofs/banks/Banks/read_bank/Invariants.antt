@@ -1,7 +1,7 @@
 use Rattle.tpm_bytes.specs.Numbers.{numbers_below}
 use Rattle.std.proofs.Common.{◌≡◌, ◌-◌, ◌++◌, length, take, map, filter}
-use Rattle.tpm_types.specs.Pcr.{is_selected}
-use Rattle.tpm_types.specs.DigestList.{digests_of}
+use Rattle.tpm_types_common.specs.Pcr.{is_selected}
+use Rattle.tpm_types_common.specs.DigestList.{digests_of}
 use Rattle.tpm_pcr.specs.Banks.{pcr_value, select_with}
 use Rattle.tpm_pcr.proofs.banks.Banks.read_bank.Given as goal
 

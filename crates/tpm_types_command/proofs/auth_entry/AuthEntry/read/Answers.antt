@@ -1,6 +1,6 @@
 use Rattle.tpm_types_command.specs.AuthEntry.{IsEntry, entry_at, entry_of, auth_entry_text}
 use Rattle.tpm_types_command.proofs.EntryLaws.{entry_takes, entry_again}
-use Rattle.tpm_types.proofs.Laws.{read_found, read_only}
+use Rattle.tpm_types_common.proofs.Laws.{read_found, read_only}
 use Rattle.tpm_types_command.proofs.auth_entry.AuthEntry.read.Goals as goal
 
 pub returns-clause-found : goal.returns-clause-found

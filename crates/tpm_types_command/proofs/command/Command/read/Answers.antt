@@ -1,7 +1,7 @@
 use Rattle.std.proofs.Common.{[]}
 use Rattle.tpm_types_command.specs.Command.{command_at, whole_of}
 use Rattle.tpm_types_command.proofs.CommandLaws.{command_again, command_found}
-use Rattle.tpm_types.proofs.Laws.{read_only}
+use Rattle.tpm_types_common.proofs.Laws.{read_only}
 use Rattle.tpm_types_command.proofs.command.Command.read.Goals as goal
 
 pub returns-clause-found : goal.returns-clause-found

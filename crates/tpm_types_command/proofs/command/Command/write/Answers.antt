@@ -1,5 +1,5 @@
 use Rattle.std.proofs.Common.{◌≡◌, ◌+◌, ◌*◌, ◌≤◌, ◌∙◌, ◌++◌, List, length, ap, refl, arith, rules, length-append}
-use Rattle.tpm_types.specs.declared.handle.Handle.{Handle}
+use Rattle.tpm_types_common.specs.declared.handle.Handle.{Handle}
 use Rattle.tpm_types_command.specs.Command.{command_size, handles_text, sessions_text, whole_of}
 use Rattle.tpm_types_command.proofs.CommandLaws.{command_size-is, command_written, length-handles_text, room_behind_header}
 use Rattle.tpm_types_command.proofs.command.Command.write.Goals as goal

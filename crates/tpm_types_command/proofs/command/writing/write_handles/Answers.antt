@@ -1,7 +1,7 @@
 use Rattle.std.proofs.Common.{◌++◌, List, ℕ, refl, sym, ap, ◌∙◌, append-nil, arith, rules, take_all}
 use Rattle.std.specs.List.{flat_map}
 use Rattle.tpm_bytes.proofs.WrittenTexts.{fits_more, written_more}
-use Rattle.tpm_types.specs.declared.handle.Handle.{Handle}
+use Rattle.tpm_types_common.specs.declared.handle.Handle.{Handle}
 use Rattle.tpm_types_command.specs.Command.{handle_text}
 use Rattle.tpm_types_command.proofs.HandleLemmas.{handles_text-is, length-handles}
 use Rattle.tpm_types_command.proofs.command.writing.write_handles.Goals as goal

@@ -1,4 +1,4 @@
-use Rattle.tpm_types.proofs.Laws.{spelled_found, spelled_only}
+use Rattle.tpm_types_common.proofs.Laws.{spelled_found, spelled_only}
 use Rattle.tpm_types_nv.specs.declared.nv_public.NvPublic.{NvPublic}
 use Rattle.tpm_types_nv.proofs.NvPublicLaws.{nv_public_spelled}
 use Rattle.tpm_types_nv.proofs.nv_public.NvPublic.read.Goals as goal

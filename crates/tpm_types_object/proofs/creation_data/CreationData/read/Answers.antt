@@ -1,5 +1,5 @@
 use Rattle.tpm_types_object.specs.declared.creation_data.CreationData.{CreationData}
-use Rattle.tpm_types.proofs.Laws.{spelled_found, spelled_only}
+use Rattle.tpm_types_common.proofs.Laws.{spelled_found, spelled_only}
 use Rattle.tpm_types_object.proofs.CreationLaws.{creation_data_spelled}
 use Rattle.tpm_types_object.proofs.creation_data.CreationData.read.Goals as goal
 

@@ -1,5 +1,5 @@
 use Rattle.tpm_types_object.specs.declared.public.Public.{Public}
-use Rattle.tpm_types.proofs.Laws.{spelled_found, spelled_only}
+use Rattle.tpm_types_common.proofs.Laws.{spelled_found, spelled_only}
 use Rattle.tpm_types_object.proofs.PublicLaws.{sized_public_spelled}
 use Rattle.tpm_types_object.proofs.public.Public.read_sized.Goals as goal
 

@@ -1,5 +1,5 @@
 use Rattle.tpm_types_object.specs.declared.sensitive.Sensitive.{Sensitive}
-use Rattle.tpm_types.proofs.Laws.{spelled_found, spelled_only}
+use Rattle.tpm_types_common.proofs.Laws.{spelled_found, spelled_only}
 use Rattle.tpm_types_object.proofs.SensitiveLaws.{sensitive_spelled}
 use Rattle.tpm_types_object.proofs.sensitive.Sensitive.read.Goals as goal
 

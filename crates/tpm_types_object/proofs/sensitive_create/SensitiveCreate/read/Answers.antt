@@ -1,5 +1,5 @@
 use Rattle.tpm_types_object.specs.SensitiveCreate.{sensitive_values_of}
-use Rattle.tpm_types.proofs.Laws.{spelled_is, spelled_only, spelled_text}
+use Rattle.tpm_types_common.proofs.Laws.{spelled_is, spelled_only, spelled_text}
 use Rattle.tpm_types_object.proofs.SensitiveLaws.{sensitive_create_spelled}
 use Rattle.tpm_types_object.proofs.sensitive_create.SensitiveCreate.read.Goals as goal
 
