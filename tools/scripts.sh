@@ -24,8 +24,11 @@
 # `PROGRAM run --trace NAME.tpm` and expects NAME.trace as standard output. A shell test that cannot run here ends
 # with status 77, and prints one line with the reason. Such a test is counted as skipped, like a test whose program
 # is missing. Results are printed in the order of programs and of tests, regardless of which test ends first. The
-# last line is `N passed, M failed`, followed by `, K skipped` if a test was skipped. If installing Debian packages
-# would allow skipped tests to run, the line before it names them.
+# last line is `N passed, M failed`, followed by `, K skipped` if a test was skipped. The lines before it say why:
+# one names the Debian packages with which more tests can run, and the others count the tests that no package helps.
+#
+# A test is ended after 1,800 s of processor time, or after it waited for an hour: tools/lib/watch_tests.sh. The
+# variables PROCESSOR_S and IDLE_S change these limits.
 set -u
 
 top=$(CDPATH='' cd "$(dirname "$0")/.." && pwd -P) || exit 1
@@ -318,10 +321,17 @@ packages() {
         sed 's/, */\n/g' | LC_ALL=C sort -u | tr '\n' ' '
 }
 
+# other_reasons: prints the reasons that name no package, with the number of skipped tests.
+other_reasons() {
+    find "$work/told" -type f -exec cat {} + | sed -n '/ (Debian: [^()]*)$/d; s/^skipped: [^:]*: //p' |
+        LC_ALL=C sort | uniq -c | sed 's/^ *\([0-9]*\) /Skipped for another reason (\1): /'
+}
+
 [ "$asked" = shipped ] || [ -x "$out/tpmsim" ] ||
     echo 'No proof was run: nothing was proved and built here.'
 packages=$(packages)
-[ -z "$packages" ] || echo "More is played after: apt-get install ${packages% }"
+[ -z "$packages" ] || echo "More is played after: apt-get install --no-install-recommends ${packages% }"
+other_reasons
 failed=$(count FAILED)
 skipped=$(count skipped)
 counts="$(count ok) passed, $failed failed"

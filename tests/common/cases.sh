@@ -18,6 +18,10 @@ python3() {
 }
 
 [ "$#" -eq 1 ] || { echo "usage: sh $0 PROGRAM" >&2; exit 2; }
+case $0 in
+/*) test_file=$0 ;;
+*) test_file=$PWD/$0 ;;
+esac
 room=$(mktemp -d) || exit 1
 trap 'keep_journals; rm -rf "$room"' EXIT
 

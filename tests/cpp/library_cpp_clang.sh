@@ -3,6 +3,6 @@ tests=$(cd "$(dirname "$0")/.." && pwd -P)
 . "$tests/common/cases.sh"
 . "$tests/common/library.sh"
 . "$tests/common/cpp.sh"
-needs clang++
+needs clang++ compiler-rt
 
 play_header clang++

@@ -5,5 +5,6 @@ tests=$(cd "$(dirname "$0")/.." && pwd -P)
 . "$tests/common/cases.sh"
 . "$tests/common/library.sh"
 . "$tests/common/keeping_hosts.sh"
+needs swtpm libtpms/tpm_library.h
 
 swtpm_states "${SHARE:-10}" 2>"$room/said" || cat "$room/said"

@@ -3,13 +3,11 @@
 # programs for ARM64 and for this machine must be able to read each other's folders and images.
 tests=$(cd "$(dirname "$0")/.." && pwd -P)
 . "$tests/common/cases.sh"
-needs qemu-aarch64 python3
+needs qemu-aarch64 python3 /usr/aarch64-linux-gnu/lib/libc.so.6
 top=${tests%/*}
 arm=$top/dist/aarch64/tpmsim
 (cd "$top" && . tools/lib/proved.sh && ship aarch64 && is_proved sources "$(sources_checksum tpmsim)") ||
     skip 'dist/aarch64 was proved of other sources than these'
-[ -f /usr/aarch64-linux-gnu/lib/libc.so.6 ] ||
-    skip 'there is no C library for ARM64 (Debian: libc6-arm64-cross)'
 
 arm() {
     qemu-aarch64 -L /usr/aarch64-linux-gnu "$arm" "$@"

@@ -3,9 +3,7 @@
 # program for ARM64 instead of the one for x86-64.
 tests=$(cd "$(dirname "$0")/.." && pwd -P)
 . "$tests/common/cases.sh"
-needs git qemu-aarch64 unshare
-[ -f /usr/aarch64-linux-gnu/lib/libc.so.6 ] ||
-    skip 'there is no C library for ARM64 (Debian: libc6-arm64-cross)'
+needs git qemu-aarch64 unshare /usr/aarch64-linux-gnu/lib/libc.so.6
 (cd "${tests%/*}" && . tools/lib/proved.sh && ship aarch64 && is_proved sources "$(sources_checksum tpmsim)") ||
     skip 'dist/aarch64 was proved of other sources than these'
 

@@ -3,12 +3,12 @@
 # the program tpmsim must run.
 tests=$(cd "$(dirname "$0")/.." && pwd -P)
 . "$tests/common/cases.sh"
-needs python3
+needs python3 venv
 top=${tests%/*}
 unset PYTHONPATH TPMSIM TPMSIM_LIBRARY
 export PIP_NO_COMPILE=1 PIP_NO_INDEX=1 PIP_NO_CACHE_DIR=1 PIP_DISABLE_PIP_VERSION_CHECK=1 PIP_ROOT_USER_ACTION=ignore
 
-command python3 -m venv venv >said 2>&1 || skip 'there is no venv of Python (Debian: python3-venv)'
+command python3 -m venv venv >said 2>&1 || cat said
 venv=$PWD/venv
 
 # try WHAT: installs WHAT, and uses it from another folder.

@@ -7,8 +7,9 @@ copy=$room/copy
 mkdir -p "$copy/tools/lib" "$copy/tests" "$copy/.ci" "$copy/crates/tpmsim/out" \
     "$copy/crates/tpmsim_lists/out"
 cp "$tests/../tools/scripts.sh" "$copy/tools"
-cp "$tests/../tools/lib/play_tests.sh" "$tests/../tools/lib/rt_ci.sh" "$tests/../tools/lib/memory.sh" \
-    "$tests/../tools/lib/python.sh" "$copy/tools/lib"
+for part in play_tests watch_tests rt_ci memory python; do
+    cp "$tests/../tools/lib/$part.sh" "$copy/tools/lib"
+done
 cp "$tests/../.ci/run" "$copy/.ci"
 for built in tpmsim/out/tpmsim tpmsim_lists/out/tpmsim_lists; do
     ln -s "$program" "$copy/crates/$built"
@@ -47,6 +48,18 @@ played 'that one, and another, where this device is not built' lists_cannot_run 
 ln -s "$program" "$copy/crates/tpmsim_lists/out/tpmsim_lists"
 played 'tests that fail, and one that cannot run' is_wrong ends_otherwise gives_no_reason \
     gives_an_empty_reason goes_on cannot_run
+
+# The reason names everything that a test lacks, also what a later line needs, or a file that the test reads later.
+mkdir "$copy/tests/common"
+ln -s "$tests/common/cases.sh" "$tests/common/needs.sh" "$copy/tests/common"
+echo 'needs no_third_tool' >"$copy/tests/common/third.sh"
+# shellcheck disable=SC2016 # the test expands them
+a_test needs_more "tests=$copy/tests"'
+. "$tests/common/cases.sh"
+needs no_first_tool sh
+. "$tests/common/third.sh"
+needs no_second_tool no_first_tool'
+played 'a test that needs tools in several lines' needs_more
 
 # Makes a folder with links to everything on the path. Each case removes some tools from this folder, and
 # runs the tests that need them. Stand-ins that do nothing replace the tools that some machines lack.

@@ -1,5 +1,6 @@
 # Runs the unit tests of the package in python/. Tests that need a program run the program under test.
-# tools/python_types.sh checks the package's types: that needs mypy, and is not part of this test.
+# python_tools.sh runs those that need pytest or cryptography, which Python does not find without its site
+# packages. tools/python_types.sh checks the package's types: that needs mypy, and is not part of this test.
 tests=$(cd "$(dirname "$0")/.." && pwd -P)
 . "$tests/common/cases.sh"
 needs python3
@@ -14,7 +15,7 @@ fi
 # unit_tests PATTERN FILE: runs the unit tests in the files that match PATTERN, and writes their output to
 # FILE.
 unit_tests() {
-    TPMSIM=$program python3 -W error::ResourceWarning -m unittest discover -s "${tests%/*}/python/tests" \
+    TPMSIM=$program python3 -W error::ResourceWarning -m unittest discover -v -s "${tests%/*}/python/tests" \
         -t "${tests%/*}/python/tests" -p "$1" 2>"$2"
 }
 
@@ -27,9 +28,12 @@ wait "$first" || {
     status=$?
     cat "$room/error_first" >>"$room/error"
 }
-if [ "$status" -eq 0 ]; then
-    echo 'all unit tests pass'
-else
+if [ "$status" -ne 0 ]; then
     cat "$room/error"
+    exit "$status"
 fi
-exit "$status"
+# If a tool is missing, the unit tests that use it are skipped. Then this whole test counts as skipped.
+needs cc nm openssl swtpm tpm2_getrandom
+cat "$room/error" "$room/error_first" | sed -n "s/.*[.][.][.] skipped/skipped:/p" | grep -v "'there is no pytest'$" |
+    grep -v "'there is no cryptography'$" | sort | uniq -c
+echo 'all unit tests pass'

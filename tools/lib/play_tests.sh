@@ -5,7 +5,8 @@
 #
 # WORK/queue/NUMBER describes a test in one line with tabs: the script or the shell test, the program, the file
 # with the expected standard output, and sometimes an option. This script writes the result to WORK/told/NUMBER,
-# whose first word is `ok:`, `FAILED:` or `skipped:`, and then prints the number.
+# whose first word is `ok:`, `FAILED:` or `skipped:`, and then prints the number. tools/lib/watch_tests.sh ends a
+# test that would never end.
 set -u
 
 top=$(CDPATH='' cd "$(dirname "$0")/../.." && pwd -P) || exit 1
@@ -61,12 +62,13 @@ is_skipped() {
     esac
 }
 
-# run TEST PROGRAM [OPTION]: runs a test with a program.
+# run TEST PROGRAM [OPTION]: runs a test with a program. `timeout 0` sets no limit: it makes a group of the test's
+# processes, by which watch_tests.sh finds those whose parent has ended.
 run() {
     case $1,$2 in
-    *.sh,*) timeout 300 sh "$1" "$2" </dev/null ;;
-    *,"$lists") timeout 120 "$2" <"$1" ;;
-    *) timeout 120 "$2" run ${3:+"$3"} "$1" </dev/null ;;
+    *.sh,*) timeout 0 sh "$1" "$2" </dev/null ;;
+    *,"$lists") timeout 0 "$2" <"$1" ;;
+    *) timeout 0 "$2" run ${3:+"$3"} "$1" </dev/null ;;
     esac
 }
 
@@ -100,6 +102,7 @@ check() {
         return
     fi
     status=0
+    [ ! -f "$note" ] || rm "$note"
     run "$1" "$2" "${4:-}" >"$output" 2>"$error" || status=$?
     if is_skipped "$1" "$status"; then
         echo "skipped: $named: $(cat "$output")"
@@ -112,9 +115,17 @@ check() {
         return
     fi
     echo "FAILED: $named"
+    if [ -f "$note" ]; then
+        sed 's/^/    /' "$note"
+        cmp -s "$3" "$output" || first_difference "$1" "$3"
+        return
+    fi
     tell_difference "$1" "$3" "$status" "$wanted_status" "$base.err"
 }
 
+note=$work/ended.$$
+sh "$top/tools/lib/watch_tests.sh" $$ "$note" >/dev/null 2>&1 &
+watcher=$!
 tab=$(printf '\t')
 for number do
     output=$work/output.$number
@@ -124,3 +135,4 @@ for number do
     mv "$work/telling.$number" "$work/told/$number"
     echo "$number"
 done
+kill "$watcher"

@@ -52,7 +52,7 @@ judge() {
 
 # named: prints the packages that the tests name, with which more tests could run.
 named() {
-    sed -n 's/^More is played after: apt-get install //p' "$work/said"
+    sed -n 's/^More is played after: apt-get install --no-install-recommends //p' "$work/said"
 }
 
 # play_machine NAME SHM USER PACKAGE..: runs the tests in a new machine with these packages. If the tests name
