@@ -21,7 +21,7 @@ package_of() {
     man) echo man-db ;;
     nm | objdump | strip) echo binutils ;;
     node) echo nodejs ;;
-    setpriv) echo util-linux ;;
+    setpriv | unshare) echo util-linux ;;
     tpm2 | tpm2_*) echo tpm2-tools ;;
     tsc) echo node-typescript ;;
     tss2/tss2_tcti.h) echo libtss2-dev ;;
