@@ -41,7 +41,7 @@ def running(*words, ready):
             yield ready(process)
         finally:
             process.terminate()
-            check_ending(process.wait(60), words)
+            check_ending(process.wait(600), words)
 
 
 def check_ending(status, words):

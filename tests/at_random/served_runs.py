@@ -12,7 +12,7 @@ from itertools import zip_longest
 from tests.common import streams
 from tests.common.client import connected, responses
 
-SECONDS = 60
+SECONDS = 600
 
 
 def exchanged(client, connection):

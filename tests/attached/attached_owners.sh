@@ -19,7 +19,7 @@ ask() {
     label=$1
     shift
     status=0
-    timeout 10 "$room/ask" "$@" >"$room/asked" 2>&1 || status=$?
+    timeout 600 "$room/ask" "$@" >"$room/asked" 2>&1 || status=$?
     echo "$label: status $status, $(tail -n 1 "$room/asked")"
 }
 

@@ -12,19 +12,19 @@ attach ask ask $sanitizers
 startup=80010000000c000001440000
 get_random=80010000000c0000017b0000
 
-# ask LABEL WORDS ACT..: runs attached/ask.c on a device for at most ten seconds, and prints the result.
+# ask LABEL WORDS ACT..: runs attached/ask.c on a device for at most ten minutes, and prints the result.
 ask() {
     label=$1
     shift
     status=0
-    timeout 10 "$room/ask" "$@" >"$room/asked" 2>&1 || status=$?
+    timeout 600 "$room/ask" "$@" >"$room/asked" 2>&1 || status=$?
     echo "$label: status $status, $(tail -n 1 "$room/asked")"
 }
 
 # Makes a device in the folder `state`, and starts it.
 renew() {
     rm -rf state
-    timeout 10 "$room/ask" state=state "$startup" >"$room/asked" || echo 'there is no state'
+    timeout 600 "$room/ask" state=state "$startup" >"$room/asked" || echo 'there is no state'
 }
 
 # listed FILE: lists the contents of the folder in FILE, each with its kind, its mode and, for a link, its

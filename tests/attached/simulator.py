@@ -19,7 +19,7 @@ from tpmsim.device import KeptDevice, SimulatorDevice
 from tpmsim.device.base import DeviceEnded
 from tpmsim.standard import number
 
-PROGRAM, SECONDS, INDEX = sys.argv[1], 30, 0x0100_0001
+PROGRAM, SECONDS, INDEX = sys.argv[1], 600, 0x0100_0001
 AUDIT = pathlib.Path(__file__).parents[2] / "tools" / "audit.py"
 SEND_COMMAND, STOP, HASH_START, HASH_DATA, HASH_END = 8, 21, 5, 6, 7
 POWER_ON, POWER_OFF, RESET = 1, 2, 17

@@ -18,7 +18,7 @@ from tpmsim.caller import area, Caller
 from tpmsim.device import SimulatorDevice
 from tpmsim.device.base import DeviceEnded
 
-FILES, IDLE, SECONDS = 40, 100, 10
+FILES, IDLE, SECONDS = 40, 100, 600
 IMAGE = pathlib.Path("image")
 
 

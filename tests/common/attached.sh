@@ -56,7 +56,7 @@ both() {
     shift
     for way in "$name" "sanitized_$name"; do
         mkdir "$room/$way.folder" || exit 1
-        (cd "$room/$way.folder" && timeout 250 "$room/$way" "$@") >"$room/$way.out" 2>&1
+        (cd "$room/$way.folder" && timeout 3600 "$room/$way" "$@") >"$room/$way.out" 2>&1
         echo "status $?" >>"$room/$way.out"
     done
     cat "$room/$name.out"

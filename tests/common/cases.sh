@@ -135,11 +135,11 @@ report() {
     echo
 }
 
-# run LABEL WORDS..: runs the program with these arguments, for a minute at most, and reports the result.
+# run LABEL WORDS..: runs the program with these arguments, for ten minutes at most, and reports the result.
 run() {
     label=$1
     shift
     status=0
-    timeout 60 "$program" "$@" >"$room/output" 2>"$room/error" || status=$?
+    timeout 600 "$program" "$@" >"$room/output" 2>"$room/error" || status=$?
     report "$label" "$status"
 }

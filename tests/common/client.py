@@ -11,7 +11,7 @@ import sys
 import time
 
 HEADER_BYTES = 10
-SECONDS = 60
+SECONDS = 600
 
 
 def connected(path, process=None):

@@ -21,7 +21,7 @@ done
 begin() {
     rm -f "$room/output" "$room/error"
     # shellcheck disable=SC2086 # word splitting is intended
-    timeout 60 "$program" serve --socket socket --image "${image:-image}" --entropy entropy \
+    timeout 600 "$program" serve --socket socket --image "${image:-image}" --entropy entropy \
         --locality "${locality:-0}" --connections "$1" ${options:-} >"$room/output" \
         2>"$room/error" &
 }

@@ -14,7 +14,7 @@ from dataclasses import dataclass
 from typing import Any, Iterable, NoReturn, Self, Sequence
 
 HERE = pathlib.Path(__file__).resolve().parent
-AT_MOST = 60
+AT_MOST = 600
 Path = str | pathlib.Path
 Process = subprocess.Popen[bytes]
 SHOWN = 2000

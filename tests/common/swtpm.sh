@@ -53,9 +53,9 @@ play() {
     spell >"$room/lines"
     rm -rf "$room/again"
     cp -r . "$room/again"
-    timeout 60 "$room/caller" "$room/swtpm/libtpms.so.0" <"$room/lines" >"$room/given" 2>&1 ||
+    timeout 600 "$room/caller" "$room/swtpm/libtpms.so.0" <"$room/lines" >"$room/given" 2>&1 ||
         echo "the caller ended with status $?" >>"$room/given"
-    (cd "$room/again" && timeout 200 "$room/caller.sanitized" "$room/sanitized/libtpms.so.0" \
+    (cd "$room/again" && timeout 3600 "$room/caller.sanitized" "$room/sanitized/libtpms.so.0" \
         <"$room/lines") >"$room/sanitized_given" 2>&1 ||
         echo "the sanitized caller ended with status $?" >>"$room/sanitized_given"
     cat "$room/given"

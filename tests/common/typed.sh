@@ -25,7 +25,7 @@ type_lines() {
     wrong=0
     while [ -e "$room/$((lines + 1)).typed" ]; do
         lines=$((lines + 1))
-        timeout 60 sh "$room/$lines.typed" >"$room/output" 2>&1 </dev/null
+        timeout 600 sh "$room/$lines.typed" >"$room/output" 2>&1 </dev/null
         cmp -s "$room/$lines.wanted" "$room/output" && continue
         wrong=$((wrong + 1))
         printf 'wrong: %s\n' "$(head -n 1 "$room/$lines.typed")"

@@ -16,12 +16,8 @@ play() {
 }
 
 play
-timeout 60 "$dist/tpmsim" serve --socket tpm.sock --image tpm.image --entropy /dev/urandom --locality 0 --connections 1 &
-tries=0
-until [ -S tpm.sock ] || [ "$tries" -eq 100 ]; do
-    tries=$((tries + 1))
-    sleep 0.1
-done
+timeout 600 "$dist/tpmsim" serve --socket tpm.sock --image tpm.image --entropy /dev/urandom --locality 0 --connections 1 &
+until [ -S tpm.sock ] || ! kill -0 "$!"; do sleep 0.1; done
 export TPMSIM_SOCKET="$PWD/tpm.sock"
 play
 wait $!

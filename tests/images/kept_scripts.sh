@@ -62,7 +62,7 @@ look 'it is kept'
 rm image
 rm "$room/output"
 status=0
-timeout 60 "$program" run --image image script >/dev/full 2>"$room/error" || status=$?
+timeout 600 "$program" run --image image script >/dev/full 2>"$room/error" || status=$?
 report 'standard output that is full' "$status"
 look 'it is kept'
 rm image

@@ -20,7 +20,7 @@ from tests.images import version_1
 from tpmsim.model.machine import MANUFACTURED, Model
 
 FIRST_SECOND = 1_000_000
-SECONDS = 60
+SECONDS = 600
 
 
 def runs_of(script):

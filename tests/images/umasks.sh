@@ -16,8 +16,7 @@ for mask in 000 022 077 277 777; do
         "$program" run --state state ../script >"$room/output"
         "$program" serve --socket socket --image served --log log --entropy ../entropy --locality 0 \
             --connections 1 &
-        tries=0
-        until [ -S socket ] || [ $((tries += 1)) -gt 1000 ]; do sleep 0.01; done
+        until [ -S socket ] || ! kill -0 "$!"; do sleep 0.01; done
         stat -c '%n %a' socket
         python3 "$tests/common/client.py" socket 4096 80010000000c000001440000 >"$room/output"
         wait

@@ -30,7 +30,7 @@ from tests.keeping.counted import STARTUP, SUCCESS
 from tests.keeping.hosts import does, Files, Host, Module, Python, Refused, Run, Simulator
 from tests.keeping.trials import forked, made
 
-FOLDER, FULL, CLONE_NEWPID, SECONDS_TO_END = "state", "full", 0x20000000, 60
+FOLDER, FULL, CLONE_NEWPID, SECONDS_TO_END = "state", "full", 0x20000000, 600
 INTERRUPT_EACH, KILL_EACH = 0.0007, 0.02
 
 # The reports of a process, each a byte: an increment that was requested, one that was answered with

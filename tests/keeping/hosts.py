@@ -18,7 +18,7 @@ from tests.keeping.counted import BEGIN, COMMANDS, POWER
 from tpmsim.device import KeptDevice, SimulatorDevice, SwtpmDevice
 from tpmsim.device.base import DeviceEnded
 
-SECONDS, RESPONSE_BYTES, RC = 20, 4096, ctypes.c_uint32
+SECONDS, RESPONSE_BYTES, RC = 600, 4096, ctypes.c_uint32
 
 
 @dataclass(frozen=True)

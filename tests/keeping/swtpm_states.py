@@ -28,7 +28,7 @@ from tests.keeping.trials import check_all, Checked, one_line, Start, state_of, 
 from tpmsim.device import SwtpmDevice
 from tpmsim.standard import number
 
-SECONDS = 20
+SECONDS = 600
 # Requests of the control channel, and the flag of INIT that removes the volatile state after it is
 # resumed. QEMU sends this flag when it resumes a guest.
 INIT, SHUTDOWN, STORE_VOLATILE = 2, 3, 10

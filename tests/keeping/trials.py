@@ -22,7 +22,7 @@ from tests.keeping.counted import answer_of, BEGIN, Counted, DEFINE, INCREMENT, 
 from tests.keeping.counted import POWER, READ, STARTUP, State, UNWRITTEN
 from tests.keeping.hosts import does, Files, Host, Python, Refused
 
-SECONDS, GROWN_BYTES = 60, 256 * 1024
+SECONDS, GROWN_BYTES = 600, 256 * 1024
 WELL, FAULT, KILLED = 0, 3, -signal.SIGKILL
 
 

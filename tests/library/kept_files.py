@@ -20,7 +20,7 @@ from tpmsim.model import state_text
 from tpmsim.records.marks import OFFSET_BASIS, sum_from, sum_of
 from tpmsim.standard import number
 
-SECONDS = 5
+SECONDS = 600
 THREADS, CHILDREN, EACH = 4, 20, 50
 STATE, MADE = pathlib.Path("state"), pathlib.Path("made")
 JOURNAL, LOCK, NEW = (STATE / it for it in ("journal", "lock", "journal.new"))

@@ -27,7 +27,7 @@ from tpmsim.caller import Caller
 from tpmsim.device import DeviceEnded, KeptDevice
 
 WATCHED = str(pathlib.Path(sys.modules[KeptDevice.__module__].__file__).parent)
-SECONDS, LEAST_LINES = 5, 5
+SECONDS, LEAST_LINES = 600, 5
 
 # The number of signals that interrupt calls, and their maximum delay after the beginning of a call,
 # in seconds.

@@ -17,7 +17,7 @@ chmod +x "$room/machine"/*
 # on_arm COMMAND..: runs a command in the copy as on an ARM64 machine.
 on_arm() {
     (cd "$room/copy" && PATH=$room/machine:$PATH QEMU_LD_PREFIX=/usr/aarch64-linux-gnu \
-        with_arm64 "$note" timeout 60 "$@")
+        with_arm64 "$note" timeout 600 "$@")
 }
 
 on_arm true 2>"$room/error" || skip 'there is no namespace that runs programs for ARM64'

@@ -39,7 +39,7 @@ exec 3<&-
 unseen() {
     rm -f "$room/output"
     status=0
-    timeout 60 "$program" run "$2" 2>"$room/error" >&4 4>&- || status=$?
+    timeout 600 "$program" run "$2" 2>"$room/error" >&4 4>&- || status=$?
     report "$1" "$status"
 }
 
@@ -59,13 +59,13 @@ unseen 'a pipe that nobody reads, and no response' empty
 
 # Closed standard output.
 status=0
-timeout 60 "$program" run script 2>"$room/error" >&- || status=$?
+timeout 600 "$program" run script 2>"$room/error" >&- || status=$?
 report 'standard output that is closed' "$status"
 
 # If nothing can be written to standard error, the exit status stays the same.
 rm "$room/error"
 for script in script bad_second_line missing; do
     status=0
-    timeout 60 "$program" run "$script" >"$room/output" 2>/dev/full || status=$?
+    timeout 600 "$program" run "$script" >"$room/output" 2>/dev/full || status=$?
     report "standard error on a full device, and $script" "$status"
 done

@@ -7,10 +7,10 @@ tests=$(cd "$(dirname "$0")/.." && pwd -P)
 trap '' PIPE
 mkfifo lines responses
 
-# begin SCRIPT: starts the program, for at most twenty seconds. The program reads from one pipe, and writes
+# begin SCRIPT: starts the program, for at most ten minutes. The program reads from one pipe, and writes
 # its responses to another pipe.
 begin() {
-    timeout 20 "$program" run "$1" <lines >responses 2>"$room/error" &
+    timeout 600 "$program" run "$1" <lines >responses 2>"$room/error" &
     exec 3>lines 4<responses
 }
 

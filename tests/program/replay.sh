@@ -25,7 +25,7 @@ python3 "$tests/common/client.py" socket 4096 80010000000c000001440000 \
 wait
 # The log has the times that the host's clock measured. Therefore the test does not compare them.
 status=0
-timeout 60 "$program" replay log >replayed 2>"$room/error" || status=$?
+timeout 600 "$program" replay log >replayed 2>"$room/error" || status=$?
 sed 's/ +[0-9]* / +TIME /' replayed >"$room/output"
 report 'a log' "$status"
 cat answers

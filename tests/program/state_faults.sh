@@ -57,7 +57,7 @@ open(path, 'wb').write(text)
     cp state/journal before
     for words in 'run --state state one' 'power state' 'script state'; do
         # shellcheck disable=SC2086 # word splitting is intended
-        timeout 60 "$program" $words >"$room/output" 2>"$room/error"
+        timeout 600 "$program" $words >"$room/output" 2>"$room/error"
         echo "$1, ${words%% *}: status $?, $(cat "$room/error")"
         cmp before state/journal || cp before state/journal
     done

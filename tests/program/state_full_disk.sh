@@ -25,9 +25,9 @@ printf 'do GetRandom 4\n' >after
 run 'a new device' run --state disk/state start
 head -c 1000000 /dev/zero >disk/full 2>"$room/error"
 cp disk/state/journal before
-timeout 60 "$program" run --state disk/state events >"$room/answers" 2>"$room/error"
+timeout 600 "$program" run --state disk/state events >"$room/answers" 2>"$room/error"
 echo "four events: status $?, $(told "$room/error")"
-timeout 60 "$program" run --state disk/state events >>"$room/answers" 2>"$room/error"
+timeout 600 "$program" run --state disk/state events >>"$room/answers" 2>"$room/error"
 echo "four events: status $?, $(told "$room/error")"
 [ "$(grep -c . "$room/answers")" = "$(($(grep -c '^cmd' disk/state/journal) - 1))" ] &&
     echo 'as many are in the journal as were answered'

@@ -56,7 +56,7 @@ journals
 asks 9
 "$program" restore --keep 2 state text
 journals
-timeout 60 "$program" serve --socket socket --state state --keep 2 --connections 1 2>&1 &
+timeout 600 "$program" serve --socket socket --state state --keep 2 --connections 1 2>&1 &
 talk 'a served device' 4096 "$(words 'GetRandom 4')"
 wait
 journals

@@ -7,7 +7,7 @@ tests=$(cd "$(dirname "$0")/.." && pwd -P)
 begin() {
     count=$1
     shift
-    timeout 60 "$program" serve --socket socket --state state --entropy /dev/urandom \
+    timeout 600 "$program" serve --socket socket --state state --entropy /dev/urandom \
         --locality 0 --connections "$count" "$@" >"$room/served" 2>&1 &
 }
 

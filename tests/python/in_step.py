@@ -23,7 +23,7 @@ from tests.common.interrupts import interrupted
 
 PACKAGE = str(pathlib.Path(tpmsim.device.__file__).parent)
 FIRST, SECOND, LATE = 8, 16, 24
-SECONDS, MOST_SECONDS, LEAST_LINES = 0.1, 60, 10
+SECONDS, MOST_SECONDS, LEAST_LINES = 0.1, 600, 10
 
 # `coming` contains the function that is called when the command LATE arrives. LATE is answered when
 # `is_over` is set.

@@ -15,7 +15,7 @@ serve() {
     label=$1
     shift
     rm -f "$room/output" "$room/error"
-    timeout 60 "$program" serve --socket socket --state state --connections 1 "$@" \
+    timeout 600 "$program" serve --socket socket --state state --connections 1 "$@" \
         >"$room/output" 2>"$room/error" &
     serving=$!
     there

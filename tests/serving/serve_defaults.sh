@@ -13,7 +13,7 @@ extend=$(words "PCR_Extend 00000011 pw:- sha256:$(printf '%064d' 1)")
 serve() {
     label=$1
     shift
-    timeout 60 "$program" serve --socket socket "$@" >"$room/served" 2>&1 &
+    timeout 600 "$program" serve --socket socket "$@" >"$room/served" 2>&1 &
     serving=$!
     there
     talk "$label, first connection" 4096 "$startup" "$extend"

@@ -16,7 +16,7 @@ block() {
 ln -s "$program" tpmsim
 # shellcheck disable=SC2016 # the extracted shell lines expand it
 { block 'A device on a socket' && echo 'echo "$!" >served' && block 'tpm2-tools and libtss2'; } >lines
-timeout 60 sh lines >"$room/output" 2>"$room/told" || cat "$room/told"
+timeout 600 sh lines >"$room/output" 2>"$room/told" || cat "$room/told"
 kill "$(cat served)"
 echo "$(grep -c . lines) lines"
 tail -n 1 "$room/output"

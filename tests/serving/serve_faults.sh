@@ -38,7 +38,7 @@ small() {
 talk() {
     label=$1
     shift
-    $small timeout 60 "$program" serve --socket socket --image "${image:-image}" --entropy entropy \
+    $small timeout 600 "$program" serve --socket socket --image "${image:-image}" --entropy entropy \
         --locality 0 --connections 1 >"$room/output" 2>"$room/error" &
     python3 "$common/client.py" socket 4096 "$@" >"$room/responses"
     status=0

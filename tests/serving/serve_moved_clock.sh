@@ -22,7 +22,7 @@ read=$(words 'ReadClock')
 rm entropy
 ln -s /dev/zero entropy
 now 0 0
-timeout 60 env LD_PRELOAD="$PWD/clock.so" CLOCK="$PWD/clock" "$program" serve --socket socket \
+timeout 600 env LD_PRELOAD="$PWD/clock.so" CLOCK="$PWD/clock" "$program" serve --socket socket \
     --image image --entropy entropy --locality 0 --connections 8 >"$room/output" 2>"$room/error" &
 
 talk 'the first command' 4096 "$(words 'Startup 0')"

@@ -74,7 +74,7 @@ ls -Ad .[0-9]
 
 # Two runs begin at the same time with the same socket path. Only one of them continues.
 two() {
-    timeout 60 "$program" serve --socket socket --image "$1" --entropy entropy --locality 0 \
+    timeout 600 "$program" serve --socket socket --image "$1" --entropy entropy --locality 0 \
         --connections 2 >"$room/$1" 2>&1
     echo "status $?, $(told "$room/$1")" >>"$room/two"
 }

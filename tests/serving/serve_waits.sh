@@ -11,7 +11,7 @@ serve() {
     shift
     : >"$room/error"
     rm -f "$room/output"
-    timeout 60 "$program" serve --socket socket "$@" --connections 3 >"$room/output" \
+    timeout 600 "$program" serve --socket socket "$@" --connections 3 >"$room/output" \
         2>"$room/error" &
     serving=$!
     there
@@ -26,7 +26,7 @@ serve 'a folder' --state state
 
 # If no other client waits, nothing is reported about a client that sends nothing for four seconds.
 : >"$room/error"
-timeout 60 "$program" serve --socket socket --state state --connections 1 >"$room/output" \
+timeout 600 "$program" serve --socket socket --state state --connections 1 >"$room/output" \
     2>"$room/error" &
 serving=$!
 there

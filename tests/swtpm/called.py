@@ -7,7 +7,7 @@ import pathlib
 import subprocess
 from typing import NamedTuple
 
-SECONDS = 60
+SECONDS = 600
 
 
 class Answered(NamedTuple):

@@ -11,7 +11,7 @@ export CLOCK
 # clocked: executes the lines of standard input, which also set the clock.
 clocked() {
     spell >"$room/lines"
-    LD_PRELOAD=$room/clock.so timeout 60 "$room/caller" "$room/swtpm/libtpms.so.0" <"$room/lines" 2>&1
+    LD_PRELOAD=$room/clock.so timeout 600 "$room/caller" "$room/swtpm/libtpms.so.0" <"$room/lines" 2>&1
 }
 
 label 'one process: 0, 5 and 8 seconds, and no time back'

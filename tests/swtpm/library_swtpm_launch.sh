@@ -117,7 +117,7 @@ for length in lengths:
     wanted += [b"\0\x14".hex() + values[0].hex() + b"\0\x20".hex() + values[1].hex()]
 for kind, caller in (("swtpm", "caller"), ("sanitized", "caller.sanitized")):
     words = [f"{room}/{caller}", f"{room}/{kind}/libtpms.so.0"]
-    given = subprocess.run(words, input="\n".join(lines) + "\n", text=True, capture_output=True, timeout=200)
+    given = subprocess.run(words, input="\n".join(lines) + "\n", text=True, capture_output=True, timeout=3600)
     values = [line[-len(wanted[0]) :] for line in given.stdout.split() if line.startswith("8001") and len(line) > 100]
     print(f"{len(values)} launches, {sum(a != b for a, b in zip(values, wanted, strict=True))} wrong")
 END
