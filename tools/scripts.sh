@@ -27,8 +27,8 @@
 # last line is `N passed, M failed`, followed by `, K skipped` if a test was skipped. The lines before it say why:
 # one names the Debian packages with which more tests can run, and the others count the tests that no package helps.
 #
-# A test is ended after 1,800 s of processor time, or after it waited for an hour: tools/lib/watch_tests.sh. The
-# variables PROCESSOR_S and IDLE_S change these limits.
+# A test is ended after an hour of processor time, or after it only waited for an hour: tools/lib/watch_tests.sh. The
+# variables PROCESSOR_S and IDLE_S change these limits, in seconds.
 set -u
 
 top=$(CDPATH='' cd "$(dirname "$0")/.." && pwd -P) || exit 1

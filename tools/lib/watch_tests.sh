@@ -6,14 +6,14 @@
 # PLAYER is the process that plays the tests; each test is a child of it. Every LOOK_S seconds, this script looks
 # at the processes of the current test. It ends the test, and writes the reason to the file NOTE,
 #
-# - after the processes used PROCESSOR_S seconds of processor time, which is ten times what the longest test needs;
+# - after the processes used PROCESSOR_S seconds of processor time together: more than ten times what any test needs;
 # - after they only waited for IDLE_S seconds. At nine of ten looks, none ran, was ready to run, or read a disk.
 #
 # A busy machine slows tests down, but does not increase their processor time. No limit is by the clock alone.
 set -u
 player=$1
 note=$2
-processor_s=${PROCESSOR_S:-1800}
+processor_s=${PROCESSOR_S:-3600}
 idle_s=${IDLE_S:-3600}
 look_s=${LOOK_S:-10}
 ticks_per_s=$(getconf CLK_TCK)
@@ -141,6 +141,6 @@ watch() {
     done
 }
 
-# Only a killed player leaves a test behind, whose processes are in a group.
+# If the player was killed, its test may still run. The test's processes are in a group.
 watch 2>/dev/null
 [ -z "$test" ] || kill -KILL -- "-${test%%:*}"
