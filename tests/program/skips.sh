@@ -109,6 +109,16 @@ without 'cc nm' starved
 failing cc torn
 failing python3 images line
 
+# clang++ without compiler-rt compiles, but does not link with sanitizers.
+rm -f "$room/path/clang++"
+# shellcheck disable=SC2016 # the stand-in expands it
+printf '#!/bin/sh\n[ "$1" = -dumpversion ] && echo 14.0.6\n' >"$room/path/clang++"
+chmod +x "$room/path/clang++"
+status=0
+# shellcheck disable=SC2123 # the tools are searched for only there
+(PATH=$room/path && sh "$tests/cpp/library_cpp_clang.sh" "$program") >"$room/output" 2>&1 || status=$?
+report 'clang++ without compiler-rt' "$status"
+
 # Tests the gate, with stand-ins that succeed. The stand-in for tools/scripts.sh prints what the caller of
 # `gate` specifies, for the shipped program and for the built programs.
 mkdir "$room/stubs"
