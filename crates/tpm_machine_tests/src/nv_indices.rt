@@ -6,8 +6,8 @@ use std::alloc::Global;
 use std::process::Abort;
 use tpm_bytes::{Cursor, Sink};
 use tpm_nv::{
-    DefineFault, DefinitionFault, Indices, ListIndices, LockFault, ReadFault, WriteFault, auth,
-    check_definition, public,
+    DefineFault, DefinitionFault, Indices, ListIndices, LockFault, ReadFault, WriteFault,
+    check_definition,
 };
 use tpm_slots::IndexPlaces;
 use tpm_types_common::{AuthValue, Handle};
@@ -85,7 +85,7 @@ fn read_fault<N: Indices>(indices: &N, handle: Handle) -> Option<ReadFault> {
 }
 
 fn has_auth<N: Indices>(indices: &N, handle: Handle, bytes: &[u8]) -> bool {
-    match auth(indices, handle) {
+    match indices.auth(handle) {
         Some(value) => value.is_same(bytes),
         None => false,
     }
@@ -94,7 +94,7 @@ fn has_auth<N: Indices>(indices: &N, handle: Handle, bytes: &[u8]) -> bool {
 /// Whether an index has the public area that these bytes encode.
 fn has_public<N: Indices>(indices: &N, handle: Handle, text: &[u8]) -> bool {
     let mut sink: Sink<46> = Sink::new();
-    match public(indices, handle) {
+    match indices.public(handle) {
         Some(area) => area.write(&mut sink).is_ok() && sink.as_slice() == text,
         None => false,
     }
