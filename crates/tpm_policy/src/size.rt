@@ -7,6 +7,7 @@ use arrayvec::ArrayVec;
 use tpm_bytes::{append, copied};
 
 /// These bytes with another size: the first of them, or all of them followed by zeros.
+#[inline(always)]
 #[tactic(auto, using(crate::proofs::Resizing::length_resized, crate::proofs::Resizing::same_size))]
 pub fn resized(bytes: ArrayVec<u8, 32>, size: usize) -> ArrayVec<u8, 32>
     requires { size ≤ 32 }

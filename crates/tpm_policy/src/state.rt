@@ -91,6 +91,7 @@ impl PolicyState {
 
     /// The same state, whose policy digest has the size of a digest of this hash algorithm: its
     /// first bytes, or all of them followed by zeros.
+    #[inline(always)]
     pub fn resized(self, hash: HashAlg) -> PolicyState
         ensures value { result
             ≡ record self { digest = resized (digest_size hash) self.digest } }

@@ -43,6 +43,7 @@ impl Nonce {
     }
 
     /// The nonce with this size: its first bytes, or all of them followed by zeros.
+    #[inline(always)]
     pub fn resized(self, size: usize) -> Nonce
         requires { size ≤ 32 }
         ensures value { result ≡ resized size self }
