@@ -7,7 +7,7 @@ ghost use Rattle.std.specs.Prelude.{is_some, length, true, if◌then◌else◌};
 ghost use Rattle.tpm_mac.specs.Digest.{digest_size, hash_of};
 ghost use Rattle.tpm_nv.specs.Access.{check_writable, data_or, marked_index, number_or, with_data, writable};
 ghost use Rattle.tpm_nv.specs.Bytes.{put_over};
-ghost use Rattle.tpm_nv.specs.Definition.{HasRoomFor, has_type_size};
+ghost use Rattle.tpm_nv.specs.Definition.{HasRoomFor, Inserts, has_type_size};
 ghost use Rattle.tpm_nv.specs.Head.{IsIndexOf, index_with, start_in};
 ghost use Rattle.tpm_nv.specs.Place.{IsFound, IsPlaceOf};
 ghost use Rattle.tpm_nv.specs.Index.{NvIndex, changed_index, has_room, index_at, with_index};
@@ -17,7 +17,7 @@ ghost use Rattle.tpm_types_nv.specs.declared.nv_attributes.NvAttribute.TheVarian
 
 use crate::area::Area;
 use crate::clear::{PlatformIndices, keep_bytes};
-use crate::definition::has_type_size;
+use crate::definition::{has_data_size, has_type_size};
 use crate::fault::{DefineFault, LockFault, ReadFault, RestoreFault, Undefined, WriteFault};
 use crate::head::Head;
 use crate::heads::{auth_value_fits, found_at, put_head, set_attributes, set_auth_value, start_of};
@@ -203,6 +203,26 @@ impl<H: SortedMap<Head, NV_INDEX_LIMIT>, R: Area> StoredIndices<H, R> {
         }
     }
 
+    /// Adds an index with its handle, if the handle is free and there is room for the index.
+    fn insert(
+        &mut self,
+        public: NvPublic,
+        auth_value: AuthValue,
+        bytes: &[u8],
+    ) -> Result<(), RestoreFault>
+        requires named { IsNvPublic public }
+        requires sized { has_type_size public ≡ true }
+        requires data_size { length bytes.now
+            ≡ (if has public.attributes attributes.Written then public.data_size else 0) }
+        ensures { Inserts (H.can_refuse || R.can_refuse) self.old
+            (record { public = public; auth_value = auth_value; bytes = bytes.now }) result
+            self.new }
+    {
+        self.check_room(&public)?;
+        self.add(public, auth_value, bytes)
+            .map_err(|_| RestoreFault::NoMemory)
+    }
+
     /// The bytes of the index that was found.
     fn data(&self, found: Found) -> &[u8]
         requires { (handle : Handle) × IsFound self.now handle found }
@@ -279,14 +299,19 @@ impl<H: SortedMap<Head, NV_INDEX_LIMIT>, R: Area> Indices for StoredIndices<H, R
     }
 
     fn define(&mut self, public: NvPublic, auth_value: AuthValue) -> Result<(), DefineFault> {
+        if !public.is_valid() {
+            return Err(DefineFault::Public);
+        }
         if public.attributes.has(NvAttribute::Written) {
             return Err(DefineFault::Written);
         }
         if !has_type_size(&public) {
             return Err(DefineFault::DataSize);
         }
-        match self.restore(public, auth_value, &[]) {
+        match self.insert(public, auth_value, &[]) {
             Ok(()) => Ok(()),
+            Err(RestoreFault::Public) => Err(DefineFault::Public),
+            Err(RestoreFault::DataSize) => Err(DefineFault::DataSize),
             Err(RestoreFault::Defined) => Err(DefineFault::Defined),
             Err(RestoreFault::Space) => Err(DefineFault::Space),
             Err(RestoreFault::NoMemory) => Err(DefineFault::NoMemory),
@@ -299,9 +324,13 @@ impl<H: SortedMap<Head, NV_INDEX_LIMIT>, R: Area> Indices for StoredIndices<H, R
         auth_value: AuthValue,
         bytes: &[u8],
     ) -> Result<(), RestoreFault> {
-        self.check_room(&public)?;
-        self.add(public, auth_value, bytes)
-            .map_err(|_| RestoreFault::NoMemory)
+        if !public.is_valid() {
+            return Err(RestoreFault::Public);
+        }
+        if !has_data_size(&public, bytes.len()) {
+            return Err(RestoreFault::DataSize);
+        }
+        self.insert(public, auth_value, bytes)
     }
 
     fn undefine(&mut self, handle: Handle) -> bool {

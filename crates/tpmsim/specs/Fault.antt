@@ -28,8 +28,8 @@ use Rattle.tpmsim_image.specs.declared.fault.Subject.{Subject}
 use Rattle.tpmsim_image.specs.declared.fault.Subject.TheVariants as subject
 use Rattle.tpmsim.specs.declared.kept.stop.PlayFault.{PlayFault}
 use Rattle.tpmsim.specs.declared.kept.stop.PlayFault.TheVariants as play
-use Rattle.tpmsim_script.specs.declared.fault.ScriptFault.{ScriptFault}
-use Rattle.tpmsim_script.specs.declared.fault.ScriptFault.TheVariants.{Line, Read, TooManyLines, Write, Save, NoMemory}
+use Rattle.tpmsim_script.specs.declared.fault.RunFault.{RunFault}
+use Rattle.tpmsim_script.specs.declared.fault.RunFault.TheVariants.{Line, Read, TooManyLines, Write, Save, NoMemory}
 
 -- the cause with this subject and without a system error
 abbrev pub alone : Subject → Cause
@@ -62,7 +62,7 @@ abbrev pub fault_of_arguments : ArgumentFault → Fault
 fault_of_arguments words.Usage = Usage
 fault_of_arguments words.NoMemory = Memory
 
-abbrev pub fault_of : ScriptFault → Fault
+abbrev pub fault_of : RunFault → Fault
 fault_of (Line number) = ScriptLine number
 fault_of Read = File (alone subject.Script)
 fault_of TooManyLines = File (alone subject.Script)

@@ -11,7 +11,7 @@ ghost use Rattle.tpm_step.specs.history.Follows.{FollowsOn};
 use crate::machine::Machine;
 use tpm_containers::{Sizes, SlotFault};
 use tpm_object::Object;
-use tpm_record::{Keep, add_object, read_widths};
+use tpm_record::{Keep, read_widths};
 use tpm_types_common::Handle;
 
 impl<K: Keep> Machine<K> {
@@ -37,6 +37,6 @@ impl<K: Keep> Machine<K> {
         object.read_sizes();
         read_widths(&self.keep);
         self.drawn = 0;
-        add_object(&mut self.keep, object)
+        self.keep.objects_mut().add(object)
     }
 }

@@ -76,10 +76,10 @@ After Holds old event x =
 
 -- If the device followed a history before this event, it now follows that history, extended by the
 -- event if it was accepted. The history determines the device's counters, PCRs, authorization
--- values and sessions. In the history, every replay repeats a nonce or an HMAC. Every use of a
--- handle that needs authorization was authorized by a password, an HMAC session or a policy
--- session. If a policy session authorized the use, then, unless the hash is broken, the use
--- satisfies each policy whose digest is the entity's authPolicy.
+-- values and sessions. If an HMAC session accepted a buffer with its HMAC twice, a nonce was
+-- repeated, or two HMACs are equal. Every use of a handle that needs authorization was authorized by
+-- a password, an HMAC session or a policy session. If a policy session authorized the use, then,
+-- unless the hash is broken, the use satisfies each policy whose digest is the entity's authPolicy.
 pub record FollowsOn (old : Record) (event : PlainEvent) (x : Stepped) : Type 0 where
   pub history : After Follows old event x
   pub counters : After HasCounters old event x

@@ -11,14 +11,14 @@ ghost use Rattle.tpm_types_command.specs.Command.{sessions_text, tag_for, whole_
 ghost use Rattle.tpm_types_command.specs.Header.{header_text};
 
 use crate::auth_entry::AuthEntry;
-use crate::command::Command;
+use crate::command_ref::CommandRef;
 use crate::header::HEADER_SIZE;
 use crate::tag::Tag;
 use tpm_bytes::{Full, Sink};
 use tpm_commands::CommandCode;
 use tpm_types_common::Handle;
 
-impl Command<'_, '_> {
+impl CommandRef<'_, '_> {
     /// The tag of the command: TPM_ST_SESSIONS if it has entries, and TPM_ST_NO_SESSIONS if not.
     pub fn tag(&self) -> Tag
         ensures { result ≡ tag_for (map entry_of self.now.entries.now) }

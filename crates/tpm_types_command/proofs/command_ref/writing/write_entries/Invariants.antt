@@ -2,7 +2,7 @@ use Rattle.std.proofs.Common.{◌≡◌, ◌+◌, ◌≤◌, ◌++◌, length, m
 use Rattle.std.specs.List.{flat_map, AllByRecursion}
 use Rattle.tpm_types_command.specs.AuthEntry.{HasSizes, entry_of}
 use Rattle.tpm_types_command.proofs.EntriesLemmas.{text_in}
-use Rattle.tpm_types_command.proofs.command.writing.write_entries.Given as goal
+use Rattle.tpm_types_command.proofs.command_ref.writing.write_entries.Given as goal
 
 -- The loop has written the entries before this index, and the sink has room for all entries.
 abbrev pub invariant-loop-entry : goal.invariant-loop-entry

@@ -1,7 +1,7 @@
 use Rattle.std.proofs.Common.{length, ap, arith}
 use Rattle.tpm_types_command.specs.Command.{whole_of}
 use Rattle.tpm_types_command.proofs.CommandLaws.{size_is}
-use Rattle.tpm_types_command.proofs.command.Command.text_len.Goals as goal
+use Rattle.tpm_types_command.proofs.command_ref.CommandRef.text_len.Goals as goal
 
 pub returns-then-size-gt4294967295 : goal.returns-then-size-gt4294967295
 returns-then-size-gt4294967295 c =

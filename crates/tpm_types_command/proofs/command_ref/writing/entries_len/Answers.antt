@@ -3,7 +3,7 @@ use Rattle.std.specs.List.{flat_map, AllByRecursion}
 use Rattle.tpm_types_command.specs.declared.auth_entry.AuthEntry.{AuthEntry}
 use Rattle.tpm_types_command.specs.AuthEntry.{HasSizes, entry_of}
 use Rattle.tpm_types_command.proofs.EntriesLemmas.{entries_text-is, length_more, no_entry, sizes_at, sizes_more, small_text, text_in}
-use Rattle.tpm_types_command.proofs.command.writing.entries_len.Goals as goal
+use Rattle.tpm_types_command.proofs.command_ref.writing.entries_len.Goals as goal
 
 pub loop-entry-preserved : goal.loop-entry-preserved
 loop-entry-preserved c =

@@ -2,7 +2,7 @@ use Rattle.std.proofs.Common.{◌≡◌, ◌+◌, ◌*◌, ◌≤◌, ◌∙◌,
 use Rattle.tpm_types_common.specs.declared.handle.Handle.{Handle}
 use Rattle.tpm_types_command.specs.Command.{command_size, handles_text, sessions_text, whole_of}
 use Rattle.tpm_types_command.proofs.CommandLaws.{command_size-is, command_written, length-handles_text, room_behind_header}
-use Rattle.tpm_types_command.proofs.command.Command.write.Goals as goal
+use Rattle.tpm_types_command.proofs.command_ref.CommandRef.write.Goals as goal
 
 pub write_header-requires : goal.write_header-requires
 write_header-requires g c =

@@ -1,7 +1,7 @@
 use Rattle.std.proofs.Common.{◌≡◌, ◌+◌, ◌≤◌, ◌++◌, length, take}
 use Rattle.std.specs.List.{flat_map}
 use Rattle.tpm_types_command.specs.Command.{handle_text}
-use Rattle.tpm_types_command.proofs.command.writing.write_handles.Given as goal
+use Rattle.tpm_types_command.proofs.command_ref.writing.write_handles.Given as goal
 
 -- The loop has written the handles before this index, and the sink has room for all handles.
 abbrev pub invariant-loop-handle : goal.invariant-loop-handle

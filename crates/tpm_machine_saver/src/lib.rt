@@ -1,3 +1,5 @@
+#![tactic(auto)]
+
 //! Traits that save a device while it is in use. A [`Saver`] receives the device, and a [`Witness`]
 //! receives each event that the device executed. [`SavesNothing`] implements both, for a device
 //! that need not be saved.
@@ -14,7 +16,7 @@ ghost use Rattle.tpm_record.specs.Record.{Record};
 ghost use Rattle.tpm_machine.specs.Latest.{IsLatest};
 ghost use Rattle.tpm_step.specs.step.Events.{plain_event};
 
-use crate::machine::Machine;
+use tpm_machine::Machine;
 use tpm_record::Keep;
 use tpm_step::{Event, Outcome};
 

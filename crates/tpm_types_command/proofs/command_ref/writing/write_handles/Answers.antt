@@ -4,7 +4,7 @@ use Rattle.tpm_bytes.proofs.WrittenTexts.{fits_more, written_more}
 use Rattle.tpm_types_common.specs.declared.handle.Handle.{Handle}
 use Rattle.tpm_types_command.specs.Command.{handle_text}
 use Rattle.tpm_types_command.proofs.HandleLemmas.{handles_text-is, length-handles}
-use Rattle.tpm_types_command.proofs.command.writing.write_handles.Goals as goal
+use Rattle.tpm_types_command.proofs.command_ref.writing.write_handles.Goals as goal
 
 pub loop-handle-init : goal.loop-handle-init
 loop-handle-init g c =

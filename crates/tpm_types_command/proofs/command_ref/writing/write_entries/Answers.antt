@@ -3,7 +3,7 @@ use Rattle.std.specs.List.{flat_map}
 use Rattle.tpm_types_command.specs.declared.auth_entry.AuthEntry.{AuthEntry}
 use Rattle.tpm_bytes.proofs.WrittenTexts.{fits_more, written_more}
 use Rattle.tpm_types_command.proofs.EntriesLemmas.{entries_text-is, no_entry, sizes_at, text_in}
-use Rattle.tpm_types_command.proofs.command.writing.write_entries.Goals as goal
+use Rattle.tpm_types_command.proofs.command_ref.writing.write_entries.Goals as goal
 
 pub loop-entry-init : goal.loop-entry-init
 loop-entry-init g c = record {
