@@ -1,4 +1,4 @@
-"""Plays the cases of a table of requirements, tests/program/required.txt, with a program:
+"""Plays the first part of a table of requirements, tests/program/required.txt, with a program:
 
     python3 required.py PROGRAM TABLE
 
@@ -27,7 +27,7 @@ from tests.common.shims import Shim, Turns
 # The columns of a section in which the program runs by itself, and of one in which it serves clients.
 ALONE = ("words", "files", "status", "output", "error")
 SERVED = ("words", "files", "connections", "status", "responses", "error")
-SECTION, NAME = "== ", " := "
+SECTION, NAME, CRATES = "== ", " := ", "\n== The crates\n"
 AT_MOST, FOREVER = 60, 1_000_000_000
 Value = bytes | int
 
@@ -316,7 +316,7 @@ def differences(case: Case, given: dict[str, str]) -> Iterator[str]:
 
 def main(program: str, path: str) -> int:
     """Plays all cases, prints the differences, and returns the status."""
-    table = Table(pathlib.Path(path).read_text("utf-8"))
+    table = Table(pathlib.Path(path).read_text("utf-8").partition(CRATES)[0])
     player = Player(program)
     faults = list(table.faults)
     for case in table.cases:
