@@ -191,8 +191,9 @@ impl<K: Keep> Machine<K> {
 
         // If the device followed a history, it now follows that history, extended by the accepted
         // events of the run. No NV counter that stayed defined went down, the number of failed
-        // tries is bounded, and if an HMAC session accepted a buffer with its HMAC twice, a nonce
-        // was repeated, or two HMACs are equal.
+        // tries is bounded. If a buffer with an HMAC of one HMAC session is accepted twice while the
+        // session lives, the session had one nonceTPM twice, or two different texts have the same
+        // HMAC.
         ensures history { (history : History) → Follows (state_of K.record_of self.old) history
             → RunFollows F.FnMut K.can_refuse (state_of K.record_of self.old) tell.old
             (map plain_event events.now) (state_of K.record_of self.new) tell.new history }

@@ -31,6 +31,8 @@ mod images;
 #[cfg(test)]
 mod keeps;
 #[cfg(test)]
+mod kept_objects;
+#[cfg(test)]
 mod measurements;
 #[cfg(test)]
 mod nv_indices;

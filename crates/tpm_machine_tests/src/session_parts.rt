@@ -351,6 +351,9 @@ fn an_entry_s_text_is_written(rt: HostRuntime) {
     check(&rt, bytes.as_slice().ends_with(b"\xbbdecen\x21"), true);
     let mut short: Sink<64> = Sink::new();
     check(&rt, text.write(&mut short).is_err(), true);
+    let text = sessions.response_text(BOUND, RESPONSE_HASH, NONCE_CALLER, ATTRIBUTES);
+    let fits = text.is_some_and(|text| text.write(&mut short).is_ok());
+    check(&rt, fits, false);
     check(&rt, short.len(), 0);
 }
 

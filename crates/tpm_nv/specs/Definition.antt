@@ -129,8 +129,8 @@ Inserts can old index (Err NoMemory) new =
 Inserts can old index (Err Public) new = ⊥
 Inserts can old index (Err DataSize) new = ⊥
 
--- whether the index has a size that its type allows, and as many bytes of data, or none if it is not
--- written
+-- whether the index has a size that its type allows, and as many bytes of data. An index that is not
+-- written has no data
 abbrev pub has_data_size : NvIndex → Bool
 has_data_size index =
     has_type_size index.public
@@ -156,29 +156,31 @@ Restores can old index (Err Space) new = IsRestorable index × Inserts can old i
 Restores can old index (Err NoMemory) new =
     IsRestorable index × Inserts can old index (Err NoMemory) new
 
--- An index can be defined with this public area: the area can be encoded, WRITTEN is clear, and the
--- type allows the size.
+-- An index can be defined with this public area: WRITTEN is clear, the type allows the size, and the
+-- area can be encoded.
 abbrev pub IsDefinable : NvPublic → Type 0
 IsDefinable public =
-    (is_nv_public public ≡ true)
-    × (has public.attributes attribute.Written ≡ false)
+    (has public.attributes attribute.Written ≡ false)
     × (has_type_size public ≡ true)
+    × (is_nv_public public ≡ true)
 
 -- On success, the index was defined. On failure, nothing changed, and the fault is the first that
--- applies: the public area cannot be encoded; WRITTEN is set in it; the type does not allow the
--- size; the handle already has an index; there is no room for the index; or an allocation failed.
+-- applies: WRITTEN is set in the public area; the type does not allow the size; the public area
+-- cannot be encoded; the handle already has an index; there is no room for the index; or an
+-- allocation failed.
 abbrev pub Defines : Bool → NvContents → NvIndex → Result (Unit {0}) DefineFault → NvContents
     → Type 0
 Defines can old index (Ok done) new = IsDefinable index.public × Inserts can old index (Ok done) new
-Defines can old index (Err define.Public) new = (is_nv_public index.public ≡ false) × (new ≡ old)
 Defines can old index (Err define.Written) new =
-    (is_nv_public index.public ≡ true)
-    × (has index.public.attributes attribute.Written ≡ true)
-    × (new ≡ old)
+    (has index.public.attributes attribute.Written ≡ true) × (new ≡ old)
 Defines can old index (Err define.DataSize) new =
-    (is_nv_public index.public ≡ true)
-    × (has index.public.attributes attribute.Written ≡ false)
+    (has index.public.attributes attribute.Written ≡ false)
     × (has_type_size index.public ≡ false)
+    × (new ≡ old)
+Defines can old index (Err define.Public) new =
+    (has index.public.attributes attribute.Written ≡ false)
+    × (has_type_size index.public ≡ true)
+    × (is_nv_public index.public ≡ false)
     × (new ≡ old)
 Defines can old index (Err define.Defined) new =
     IsDefinable index.public × Inserts can old index (Err Defined) new

@@ -46,12 +46,12 @@ pub enum LockFault {
 /// The reason why an index was not defined.
 #[derive(Clone, Copy, PartialEq, Eq)]
 pub enum DefineFault {
-    /// The handle is not that of an index, or a reserved attribute is set in the public area.
-    Public,
     /// WRITTEN is set in the public area, which a definition does not allow.
     Written,
     /// The size is not allowed for an index of this type.
     DataSize,
+    /// The handle is not that of an index, or a reserved attribute is set in the public area.
+    Public,
     /// An index with this handle already exists.
     Defined,
     /// The number of indices is at its limit, or too little NV space is left.

@@ -41,10 +41,7 @@ pub trait Indices: Drop + Sized {
         ensures { option_copied result ≡ option_map (λ index. index.public)
             (index_at (contents self.now) handle) }
     {
-        match self.get(handle) {
-            Some(head) => Some(&head.public),
-            None => None,
-        }
+        Some(&self.get(handle)?.public)
     }
 
     /// The authorization value of the index with this handle.
@@ -52,10 +49,7 @@ pub trait Indices: Drop + Sized {
         ensures { option_copied result ≡ option_map (λ index. index.auth_value)
             (index_at (contents self.now) handle) }
     {
-        match self.get(handle) {
-            Some(head) => Some(&head.auth_value),
-            None => None,
-        }
+        Some(&self.get(handle)?.auth_value)
     }
 
     /// The public areas and authorization values of all indices, in ascending order of handle.
@@ -73,13 +67,15 @@ pub trait Indices: Drop + Sized {
     fn next(&self, handle: Handle) -> Option<u32>
         ensures { result ≡ next_index (contents self.now) handle.number };
 
-    /// Defines an index, initially without data (TPM 2.0 Library, Part 3, section 31.3). The other
-    /// checks of a definition are in [`crate::definition::check_definition`].
+    /// Defines an index, initially without data (TPM 2.0 Library, Part 3, section 31.3). Makes only
+    /// the checks whose faults [`DefineFault`] lists; [`crate::definition::check_definition`] makes
+    /// the others.
     fn define(&mut self, public: NvPublic, auth_value: AuthValue) -> Result<(), DefineFault>
         ensures { Defines can_refuse (contents self.old) (defined_index public auth_value) result
             (contents self.new) };
 
-    /// Restores an index, including its data if it is written.
+    /// Restores an index, including its data if it is written. Fails if the public area cannot be
+    /// encoded, or if the data has a wrong size ([`RestoreFault`]).
     fn restore(
         &mut self,
         public: NvPublic,

@@ -12,8 +12,7 @@
 //! [`stored_indices::StoredIndices`] stores the indices in growable lists or in fixed-size storage.
 //! It has a map sorted by handle for the heads, which are the indices without their data, and one
 //! area for the bytes of all indices. Only a definition may allocate memory; a call that fails
-//! changes nothing. [`check_definition`] checks whether an index may be defined. Other crates check
-//! who may read or write an index.
+//! changes nothing. Other crates check who may read or write an index.
 
 pub mod area;
 mod clear;

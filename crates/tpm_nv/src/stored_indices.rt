@@ -7,7 +7,7 @@ ghost use Rattle.std.specs.Prelude.{is_some, length, true, if◌then◌else◌};
 ghost use Rattle.tpm_mac.specs.Digest.{digest_size, hash_of};
 ghost use Rattle.tpm_nv.specs.Access.{check_writable, data_or, marked_index, number_or, with_data, writable};
 ghost use Rattle.tpm_nv.specs.Bytes.{put_over};
-ghost use Rattle.tpm_nv.specs.Definition.{HasRoomFor, Inserts, has_type_size};
+ghost use Rattle.tpm_nv.specs.Definition.{HasRoomFor, has_type_size};
 ghost use Rattle.tpm_nv.specs.Head.{IsIndexOf, index_with, start_in};
 ghost use Rattle.tpm_nv.specs.Place.{IsFound, IsPlaceOf};
 ghost use Rattle.tpm_nv.specs.Index.{NvIndex, changed_index, has_room, index_at, with_index};
@@ -48,9 +48,8 @@ pub struct StoredIndices<H: SortedMap<Head, NV_INDEX_LIMIT>, R: Area> {
 /// NV indices in growable lists. A definition can run out of memory.
 pub type ListIndices = StoredIndices<ListMap<Head, NV_INDEX_LIMIT>, ListArea>;
 
-/// NV indices in fixed-size storage. Nothing is ever allocated, so no allocation can fail. A value
-/// takes about 23,600 bytes, including the data of all indices. Therefore it is created once and
-/// passed by reference.
+/// NV indices in fixed-size storage, so no allocation can fail. A value takes about 23,600 bytes,
+/// including the data of all indices. Therefore it is created once and passed by reference.
 pub type SlotIndices = StoredIndices<SlotMap<Head, NV_INDEX_LIMIT>, SlotArea>;
 
 impl<H: SortedMap<Head, NV_INDEX_LIMIT>, R: Area> Model for StoredIndices<H, R> {
@@ -203,26 +202,6 @@ impl<H: SortedMap<Head, NV_INDEX_LIMIT>, R: Area> StoredIndices<H, R> {
         }
     }
 
-    /// Adds an index with its handle, if the handle is free and there is room for the index.
-    fn insert(
-        &mut self,
-        public: NvPublic,
-        auth_value: AuthValue,
-        bytes: &[u8],
-    ) -> Result<(), RestoreFault>
-        requires named { IsNvPublic public }
-        requires sized { has_type_size public ≡ true }
-        requires data_size { length bytes.now
-            ≡ (if has public.attributes attributes.Written then public.data_size else 0) }
-        ensures { Inserts (H.can_refuse || R.can_refuse) self.old
-            (record { public = public; auth_value = auth_value; bytes = bytes.now }) result
-            self.new }
-    {
-        self.check_room(&public)?;
-        self.add(public, auth_value, bytes)
-            .map_err(|_| RestoreFault::NoMemory)
-    }
-
     /// The bytes of the index that was found.
     fn data(&self, found: Found) -> &[u8]
         requires { (handle : Handle) × IsFound self.now handle found }
@@ -299,16 +278,13 @@ impl<H: SortedMap<Head, NV_INDEX_LIMIT>, R: Area> Indices for StoredIndices<H, R
     }
 
     fn define(&mut self, public: NvPublic, auth_value: AuthValue) -> Result<(), DefineFault> {
-        if !public.is_valid() {
-            return Err(DefineFault::Public);
-        }
         if public.attributes.has(NvAttribute::Written) {
             return Err(DefineFault::Written);
         }
         if !has_type_size(&public) {
             return Err(DefineFault::DataSize);
         }
-        match self.insert(public, auth_value, &[]) {
+        match self.restore(public, auth_value, &[]) {
             Ok(()) => Ok(()),
             Err(RestoreFault::Public) => Err(DefineFault::Public),
             Err(RestoreFault::DataSize) => Err(DefineFault::DataSize),
@@ -330,7 +306,9 @@ impl<H: SortedMap<Head, NV_INDEX_LIMIT>, R: Area> Indices for StoredIndices<H, R
         if !has_data_size(&public, bytes.len()) {
             return Err(RestoreFault::DataSize);
         }
-        self.insert(public, auth_value, bytes)
+        self.check_room(&public)?;
+        self.add(public, auth_value, bytes)
+            .map_err(|_| RestoreFault::NoMemory)
     }
 
     fn undefine(&mut self, handle: Handle) -> bool {

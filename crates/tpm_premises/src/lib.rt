@@ -31,7 +31,7 @@ pub fn use_premise()
     ensures { HasUse }
 {}
 
-/// A history meets the premise of the laws about replays: the same buffer is two of its commands.
+/// A history meets the premise of the laws about replays: the same buffer encodes two of its commands.
 /// The authorization entry in the buffer has an HMAC, and names an HMAC session that survives in
 /// between.
 #[inline(always)]

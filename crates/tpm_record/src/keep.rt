@@ -3,7 +3,7 @@
 
 ghost use Rattle.std.specs.Prelude.{◌≡◌, Bool, IfOk, OnErr, is_some, option_copied, replicate, true};
 ghost use Rattle.std.specs.Borrow.{Lends, sem};
-ghost use Rattle.tpm_record.specs.AddFault.{AddsAnyObject, AddsAnyPersistent};
+ghost use Rattle.tpm_record.specs.AddFault.{AddsTransient, AddsWithNumber};
 ghost use Rattle.tpm_record.specs.AnyObject.{next_object, without_object_of};
 ghost use Rattle.tpm_record.specs.Entity.{object_of};
 ghost use Rattle.tpm_record.specs.Objects.{objects_of};
@@ -141,9 +141,10 @@ pub trait Keep: Drop + Sized {
         }
     }
 
-    /// Adds a transient object with the lowest free handle, and returns the handle.
+    /// Adds a transient object with the lowest free handle, and returns the handle. Fails if all
+    /// slots are taken, or if an allocation fails.
     fn add_object(&mut self, object: Object) -> Result<u32, AddFault>
-        ensures { AddsAnyObject can_refuse (record_of self.old) object result (record_of self.new) }
+        ensures { AddsTransient can_refuse (record_of self.old) object result (record_of self.new) }
     {
         match self.objects_mut().add(object) {
             Ok(handle) => Ok(handle.number),
@@ -157,7 +158,7 @@ pub trait Keep: Drop + Sized {
     fn add_persistent(&mut self, number: u32, object: Object) -> Result<(), AddFault>
         requires named { is_persistent (record { number = number }) ≡ true }
         requires owned { can_persist object.hierarchy ≡ true }
-        ensures { AddsAnyPersistent can_refuse (record_of self.old) number object result
+        ensures { AddsWithNumber can_refuse (record_of self.old) number object result
             (record_of self.new) }
     {
         match self.persistent_mut().add(Handle { number }, object) {

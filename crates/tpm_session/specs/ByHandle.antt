@@ -7,8 +7,8 @@ use Rattle.tpm_session.specs.Session.{Session}
 use Rattle.tpm_session.specs.declared.by_handle.ParameterFault.{ParameterFault}
 use Rattle.tpm_session.specs.declared.by_handle.ParameterFault.TheVariants.{Size, Symmetric}
 
--- whether a parameter of this size is encrypted or decrypted: it is not if it is longer than a
--- command, or if the session has no symmetric algorithm. None without a session
+-- the result for a parameter of this size: None without a session, Size if the parameter is longer
+-- than the longest command, and Symmetric if the session has no symmetric algorithm
 abbrev pub parameter_result : Option Session → (size : ℕ) → Option (Result (Unit {0}) ParameterFault)
 parameter_result None size = None
 parameter_result (Some session) size =
@@ -18,8 +18,9 @@ parameter_result (Some session) size =
     else Ok tt
     )
 
--- the bytes of a parameter after its encryption or decryption: those that `changed` gives of the
--- session, or the same bytes without a session, and if they are longer than a command
+-- the bytes of a parameter after its encryption or decryption, which `changed` specifies for a
+-- session. The bytes are unchanged if there is no session, or if they are longer than the longest
+-- command
 abbrev pub parameter_bytes : Option Session → (Session → List ℕ) → (size : ℕ) → List ℕ → List ℕ
 parameter_bytes None changed size bytes = bytes
 parameter_bytes (Some session) changed size bytes =

@@ -1,11 +1,11 @@
 //! What a session computes, for a caller who knows its handle: the data and the HMACs of
 //! authorization entries, and the encryption of parameters (TPM 2.0 Library, Part 1, sections
-//! 19.6.5 and 21). A call returns None if no session has the handle.
+//! 19.6.5 and 21). Each call returns None if no session has the handle.
 
 ghost use Rattle.std.specs.Prelude.{◌≡◌, length, option_map};
 ghost use Rattle.tpm_session.specs.ByHandle.{parameter_bytes, parameter_result};
 ghost use Rattle.tpm_session.specs.Encryption.{encrypted_parameter, plain_parameter};
-ghost use Rattle.tpm_session.specs.EntryText.{command_mac_of, command_text, parts_of, response_mac_of};
+ghost use Rattle.tpm_session.specs.EntryText.{command_mac_of, command_text, parts_of, response_mac_of, response_text};
 ghost use Rattle.tpm_session.specs.Sessions.{places_of, session_at};
 
 use crate::encryption::SymmetricFault;
@@ -33,6 +33,25 @@ impl<S: Slots<Session, SESSION_LIMIT>> Sessions<S> {
     {
         match self.get(handle) {
             Some(session) => Some(session.command_text(text)),
+            None => None,
+        }
+    }
+
+    /// The data that the HMAC of a response's entry covers, if the entry is for this session.
+    /// `hash` is rpHash.
+    pub fn response_text<'a>(
+        &'a self,
+        handle: Handle,
+        hash: &'a [u8],
+        nonce_caller: &'a [u8],
+        attributes: SessionAttributes,
+    ) -> Option<EntryText<'a>>
+        ensures { result
+            ≡ option_map (λ session. response_text session hash.now nonce_caller.now attributes)
+            (session_at (places_of S.places self.now) handle) }
+    {
+        match self.get(handle) {
+            Some(session) => Some(session.response_text(hash, nonce_caller, attributes)),
             None => None,
         }
     }
@@ -85,6 +104,8 @@ impl<S: Slots<Session, SESSION_LIMIT>> Sessions<S> {
 
     /// Decrypts a parameter in place. On failure, the parameter is unchanged. `value` is the
     /// authorization value of the entity that the session authorizes, or empty if there is none.
+    /// `newer` and `older` are the nonces of the caller and of the device: in a command, the
+    /// caller's nonce is the newer one.
     pub fn open_parameter(
         &self,
         handle: Handle,
@@ -111,8 +132,8 @@ impl<S: Slots<Session, SESSION_LIMIT>> Sessions<S> {
         }
     }
 
-    /// Encrypts a parameter in place. On failure, the parameter is unchanged. Decrypting the result
-    /// restores the parameter.
+    /// Encrypts a parameter in place, with the same values as [`Sessions::open_parameter`]. On
+    /// failure, the parameter is unchanged. Decrypting the result restores the parameter.
     pub fn close_parameter(
         &self,
         handle: Handle,

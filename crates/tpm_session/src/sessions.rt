@@ -7,7 +7,7 @@ ghost use Rattle.tpm_containers.specs.Slots.{AreAll, Puts, at_place, free};
 ghost use Rattle.tpm_mac.specs.Digest.{digest_size};
 ghost use Rattle.tpm_session.specs.Key.{is_nonce_size};
 ghost use Rattle.tpm_session.specs.Session.{IsSession};
-ghost use Rattle.tpm_session.specs.Sessions.{Starts, handle_of, has_nonce_sizes, places_of, session_at, sessions_after_any_roll, sessions_after_roll, slots_without_session, started_session, with_any_session_policy, with_session_policy};
+ghost use Rattle.tpm_session.specs.Sessions.{Starts, handle_of, has_nonce_sizes, places_of, session_at, sessions_after_resizing_roll, sessions_after_roll, slots_without_session, started_session, with_resized_session_policy, with_session_policy};
 
 use crate::key::{SessionKey, is_nonce_size};
 use crate::nonce::Nonce;
@@ -159,11 +159,11 @@ impl<S: Slots<Session, SESSION_LIMIT>> Sessions<S> {
 
     /// Replaces the nonceTPM of the session with this handle; returns whether the session existed.
     /// A nonce of another size than the session's is cut to this size, or filled with zeros.
-    #[tactic(auto, unfolding(crate::specs::Sessions::sessions_after_roll, crate::specs::Sessions::sessions_after_any_roll, crate::specs::Sessions::session_at))]
+    #[tactic(auto, unfolding(crate::specs::Sessions::sessions_after_roll, crate::specs::Sessions::sessions_after_resizing_roll, crate::specs::Sessions::session_at))]
     pub fn roll(&mut self, handle: Handle, nonce: Nonce) -> bool
         ensures there { result ≡ is_some (session_at (places_of S.places self.old) handle) }
         ensures after { places_of S.places self.new
-            ≡ sessions_after_any_roll (places_of S.places self.old) handle nonce }
+            ≡ sessions_after_resizing_roll (places_of S.places self.old) handle nonce }
         // A nonce of the session's size is stored as it is.
         ensures same_size { IfSome (session_at (places_of S.places self.old) handle)
             (λ session. length nonce ≡ length session.nonce_tpm)
@@ -183,11 +183,11 @@ impl<S: Slots<Session, SESSION_LIMIT>> Sessions<S> {
     /// Replaces the policy state of the session with this handle; returns whether the session
     /// existed. A policy digest of another size than a digest of the session's hash algorithm is
     /// cut to this size, or filled with zeros.
-    #[tactic(auto, unfolding(crate::specs::Sessions::with_session_policy, crate::specs::Sessions::with_any_session_policy, crate::specs::Sessions::session_at))]
+    #[tactic(auto, unfolding(crate::specs::Sessions::with_session_policy, crate::specs::Sessions::with_resized_session_policy, crate::specs::Sessions::session_at))]
     pub fn set_policy(&mut self, handle: Handle, policy: PolicyState) -> bool
         ensures there { result ≡ is_some (session_at (places_of S.places self.old) handle) }
         ensures after { places_of S.places self.new
-            ≡ with_any_session_policy (places_of S.places self.old) handle policy }
+            ≡ with_resized_session_policy (places_of S.places self.old) handle policy }
         // A policy whose digest has this size is stored as it is.
         ensures same_size { IfSome (session_at (places_of S.places self.old) handle)
             (λ session. length policy.digest ≡ digest_size session.hash)

@@ -273,7 +273,8 @@ pub fn few_tries_laws()
         → tries_at_most old executions ≡ tries_within old executions + 1 }
 {}
 
-/// No event that `Machine::execute` or `Machine::run` can be passed places an object in the history.
+/// No event that `Machine::execute` or `Machine::run` can be passed places an object in the
+/// history.
 #[inline(always)]
 #[tactic(auto, using(crate::proofs::history::Placings::places_nothing))]
 pub fn placing_laws()

@@ -201,9 +201,11 @@ command_again c is =
 
 pub command_found : (old : List ℕ) (result : Result Command Rc) (new : List ℕ) → AreBytes old
     → Reads whole_command (command_at old) old result new
-    → IfOk result (λ command. IsCommand (whole_command command) × (old ≡ command_text (whole_command command))
+    → IfOk result (λ command. IsCommand (whole_command command)
+    × (old ≡ command_text (whole_command command))
     × (new ≡ []))
-command_found old (Ok command) new fits reads = command_takes old (whole_command command, new) fits reads
+command_found old (Ok command) new fits reads =
+    command_takes old (whole_command command, new) fits reads
 command_found old (Err fault) new fits reads = tt
 
 -- ---- writing a command

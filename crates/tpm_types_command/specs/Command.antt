@@ -30,6 +30,7 @@ pub record Whole : Type 0 where
   pub entries : List Entry
   pub parameters : List ℕ
 
+-- a command with its own entries
 abbrev pub whole_command : Command → Whole
 whole_command c = record {
   code = c.code;
@@ -38,6 +39,7 @@ whole_command c = record {
   parameters = c.parameters.now;
 }
 
+-- a command that borrows its entries
 abbrev pub whole_of : CommandRef → Whole
 whole_of c = record {
   code = c.code;

@@ -11,7 +11,7 @@ use tpm_types_common::Handle;
 mod writing;
 
 /// A command whose entries are in an array of the caller. The device passes a command in this form,
-/// because a copy of the entries takes longer than some whole commands.
+/// because copying the entries takes longer than executing some commands.
 #[derive(Drop)]
 pub struct CommandRef<'a, 'b> {
     pub code: CommandCode,

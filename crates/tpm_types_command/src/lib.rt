@@ -5,9 +5,9 @@
 //!
 //! The crate uses `tpm_commands` for the supported commands, and `tpm_types_common` for handles and
 //! response codes. A read returns the value, or the standard's response code for the first fault. A
-//! read that fails leaves the input unchanged, and a write that fails writes nothing. Each entry and
-//! each command has exactly one encoding, and no other bytes decode to it. A [`CommandRef`] is a
-//! command that borrows its entries. No function of this crate allocates memory.
+//! read that fails leaves the input unchanged, and a write that fails writes nothing. Each entry
+//! and each command has exactly one encoding, and no other bytes decode to it. A [`CommandRef`] is
+//! a command that borrows its entries. No function of this crate allocates memory.
 
 pub mod auth_area;
 pub mod auth_entry;

@@ -147,7 +147,8 @@ sized_nv_public_spelled = filled_spelled nv_public_spelled nv_public_small
 pub valid_public : (p : NvPublic) → p.nv_index.number < 2 ^ 32 → p.attributes.bits < 2 ^ 32
     → length p.auth_policy ≤ 32 → p.data_size < 2 ^ 16 → is_nv_public p ≡ true → IsNvPublic p
 valid_public p handle bits policy size is =
-    let parts = and_parts (is_nv_index p.nv_index) (bit_and p.attributes.bits reserved_bits == 0) is in
+    let reserved = bit_and p.attributes.bits reserved_bits == 0 in
+    let parts = and_parts (is_nv_index p.nv_index) reserved is in
     record {
       nv_index = record { fits = handle; named = parts.0 };
       attributes = record {

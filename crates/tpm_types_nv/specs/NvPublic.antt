@@ -44,8 +44,8 @@ pub record IsNvPublic (p : NvPublic) : Type 0 where
   pub auth_policy : length p.auth_policy ≤ 32
   pub data_size : p.data_size < 2 ^ 16
 
--- whether a public area can be encoded: its handle is that of an index, and no reserved attribute is
--- set
+-- whether the handle is that of an index, and no reserved bit of the attributes is set. The types of
+-- the other fields bound them, so that the public area can then be encoded
 abbrev pub is_nv_public : NvPublic → Bool
 is_nv_public p = is_nv_index p.nv_index && bit_and p.attributes.bits reserved_bits == 0
 

@@ -59,7 +59,7 @@ impl NvAttributes {
     ghost use Rattle.tpm_types_nv.specs.NvAttributes.{has, index_type, is_of, nv_attributes_at, reserved_bits, with_attribute, without_attribute};
 
     /// Whether no reserved bit is set.
-    pub fn are_named(self) -> bool
+    pub fn has_no_reserved_bits(self) -> bool
         ensures { result ≡ bit_and self.bits reserved_bits == 0 }
     {
         self.bits & RESERVED_BITS == 0

@@ -67,7 +67,7 @@ impl NvPublic {
         // The types of these fields bound them.
         let (_handle, _bits) = (self.nv_index.number, self.attributes.bits);
         let (_policy, _size) = (self.auth_policy.as_slice(), self.data_size);
-        self.nv_index.is_nv_index() && self.attributes.are_named()
+        self.nv_index.is_nv_index() && self.attributes.has_no_reserved_bits()
     }
 
     /// Reads the handle of an index. Fails with INSUFFICIENT if it is truncated, or with VALUE if

@@ -10,7 +10,7 @@ pub struct ConnectionNumber {
     ghost in_range: { number < 8 },
 }
 
-/// A connection, which its number names.
+/// A connection, identified by its number.
 pub type Conn = ConnectionNumber;
 
 impl ConnectionNumber {

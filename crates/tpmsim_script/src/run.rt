@@ -12,7 +12,7 @@ ghost use Rattle.tpmsim_script.specs.Player.{playing_of};
 ghost use Rattle.tpmsim_script.specs.Run.{AreTheirs, NextFound, OnNoMemory, OnTooMany, OnUnread};
 ghost use Rattle.tpmsim_script.specs.Run.{OnUnwritten, PlaysAllAllowed, PlaysToFailure, Ran};
 ghost use Rattle.tpmsim_script.specs.Run.{UnlessFailed, end_at_limit, is_unsaved};
-ghost use Rattle.tpmsim_script.specs.ScriptFault.{AreScriptFaults, OnScriptNoMemory, RanScript};
+ghost use Rattle.tpmsim_script.specs.ScriptFault.{AreScriptFaults, OnScriptNoMemory, RanScript, script_result};
 ghost use Rattle.tpmsim_script.specs.Script.{Plays, at_first, new_device, script_bytes};
 
 use crate::fault::RunFault;
@@ -32,8 +32,8 @@ use tpm_record::Keep;
 pub const SCRIPT_LINES: u32 = 1_048_576;
 
 /// Like [`run_device`], but runs the script from `reader` on a new device, which is manufactured
-/// with the bytes 00 to ff and is not saved. A script with too many lines ends like one whose reader
-/// failed.
+/// with the bytes 00 to ff and is not saved. A script with too many lines ends like one whose
+/// reader failed.
 pub fn run_script<K: Keep, R: Read, W: Write>(
     alloc: Global,
     reader: &mut Tap<R>,
@@ -43,8 +43,8 @@ pub fn run_script<K: Keep, R: Read, W: Write>(
     ensures played { K.can_refuse ≡ false → RanScript (Plays (R.remaining (device_of reader.old))
         (W.contents (device_of writer.old)) (W.contents (device_of writer.new))
         (at_first trace new_device) 1) result }
-    // The lines that the reader returned before it failed were played, or as many lines as a script
-    // may have.
+    // If allocations never fail, the lines that the reader returned before it failed were played,
+    // or as many lines as a script may have.
     ensures failed { AreScriptFaults result (marks_of reader.new) (marks_of writer.new)
         (K.can_refuse ≡ false → PlaysToFailure
         (R.remaining (device_of reader.old)) (R.remaining (device_of reader.new))
@@ -57,11 +57,17 @@ pub fn run_script<K: Keep, R: Read, W: Write>(
         ((reader.new ≡ reader.old) × (writer.new ≡ writer.old)) }
 {
     let machine: Machine<K> = new_machine(alloc)?;
-    match run_device(alloc, machine, &mut SavesNothing, reader, writer, trace) {
+    script_result(run_device(alloc, machine, &mut SavesNothing, reader, writer, trace))
+}
+
+/// The result of a run on a new device, which is not saved.
+fn script_result(ended: Result<(), RunFault>) -> Result<(), ScriptFault>
+    ensures { result ≡ script_result ended }
+{
+    match ended {
         Ok(()) => Ok(()),
         Err(RunFault::Line(number)) => Err(ScriptFault::Line(number)),
         Err(RunFault::Read | RunFault::TooManyLines) => Err(ScriptFault::Read),
-        // `SavesNothing` never fails.
         Err(RunFault::Write | RunFault::Save) => Err(ScriptFault::Write),
         Err(RunFault::NoMemory) => Err(ScriptFault::NoMemory),
     }

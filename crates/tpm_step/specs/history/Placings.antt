@@ -14,7 +14,7 @@ has_placed (PowerCycled ∷ history) = has_placed history
 has_placed (ObjectPlaced at object ∷ history) = true
 
 -- No event that `Machine::execute` or `Machine::run` can be passed places an object: whatever the
--- device and the row's check, the history has a placed object after the event only if it had one
+-- device and the row's check, the history has a placed object after the event exactly if it had one
 -- before.
 abbrev pub PlacesNothing : Type 0
 PlacesNothing = (r : Record) (event : declared.Event) (check : ℕ) (history : History)

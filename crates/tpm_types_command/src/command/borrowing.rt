@@ -1,4 +1,4 @@
-//! A command with borrowed entries, which is written like the command itself.
+//! The borrowed form of a command, and the calls that the command answers through this form.
 
 ghost use Rattle.std.specs.Prelude.{◌≡◌};
 ghost use Rattle.std.specs.Option.{SomeIff};
