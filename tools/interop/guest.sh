@@ -143,14 +143,16 @@ check() {
 # the same.
 replays() {
     for record in "$folder/$1"/record/*.tpm; do
-        if python3 - "$attached/libtpms.so.0" "$record" <<'END'; then
+        if python3 - "$top/dist/libtpmsim.so.0" "$record" <<'END'; then
 import ctypes
 import sys
 
 library, record = sys.argv[1:]
-text = open(record, "rb").read() + b"# the end\n"
-volatile_state = 2
-sys.exit(ctypes.CDLL(library).TPMLIB_SetState(volatile_state, text, len(text)))
+text = open(record, "rb").read()
+device, taken, size = ctypes.c_void_p(), ctypes.c_size_t(), ctypes.c_size_t(len(text))
+journal_open = ctypes.CDLL(library).tpmsim_journal_open
+told = journal_open(ctypes.byref(device), text, size, ctypes.byref(taken))
+sys.exit(told != 0 or taken.value != len(text))
 END
             ok "$1: $(basename "$record") plays again, $(grep -c '^cmd' "$record") commands"
         else
