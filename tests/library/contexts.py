@@ -171,6 +171,25 @@ def cleared(client: Client) -> None:
     print("one of the platform, saved after it:", client.load_code(again))
 
 
+def never_again(client: Client) -> None:
+    """Contexts of each hierarchy that were saved before TPM2_Clear and a TPM Reset are not loaded,
+    although resetCount then has the value that it had when they were saved.
+    """
+    client.restart(CLEAR, CLEAR)
+    client.tpm.call("Clear", RH_PLATFORM, uses=[b""])
+    client.restart(CLEAR, CLEAR)
+    resets = client.device.model.reset_count
+    kept = [client.saved(key(client, hierarchy=it)) for it in PRIMARY_HIERARCHIES]
+    codes = ", ".join(map(client.load_code, kept))
+    print(f"of each hierarchy: {codes}")
+    client.flush(*range(FIRST_OBJECT, FIRST_OBJECT + 2 * len(kept)))
+    client.tpm.call("Clear", RH_PLATFORM, uses=[b""])
+    print(f"after TPM2_Clear: {', '.join(map(client.load_code, kept))}")
+    client.restart(CLEAR, CLEAR)
+    assert client.device.model.reset_count == resets
+    print(f"after a TPM Reset, with the same resetCount: {', '.join(map(client.load_code, kept))}")
+
+
 def cycled(client: Client) -> None:
     """Loads contexts after power cycles: of an object without stClear, of one with stClear, and of
     a session.
@@ -223,7 +242,7 @@ def listed(client: Client) -> None:
     assert are_there()
 
 
-TESTS = children, copies, flushed, bent, cleared, cycled, sessions, listed
+TESTS = children, copies, flushed, bent, cleared, never_again, cycled, sessions, listed
 
 main = functools.partial(play, TESTS, titled=False)
 

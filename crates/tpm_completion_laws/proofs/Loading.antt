@@ -25,7 +25,7 @@ use Rattle.tpm_types_common.specs.Handle.{hierarchy_handle, is_session, numbered
 use Rattle.tpm_types_common.specs.declared.handle.Handle.{Handle}
 use Rattle.tpm_types_object.specs.ObjectAttributes.{has}
 use Rattle.tpm_types_object.specs.declared.object_attributes.ObjectAttribute.TheVariants as attribute
-use Rattle.tpm_context.specs.Context.{blob_text, context_text, object_cipher, proof_of}
+use Rattle.tpm_context.specs.Context.{blob_text, context_text, object_cipher, context_proof}
 use Rattle.tpm_context.specs.Head.{head_of, saved_number, saved_of}
 use Rattle.tpm_context.specs.Protection.{integrity_of, restart_bound}
 use Rattle.tpm_context.specs.declared.binding.Binding.{Binding}
@@ -70,7 +70,7 @@ context_handle h b sequence o small =
     let number = saved_number (saved_of o.public) in
     let cipher = object_cipher h b.start sequence o in
     let blob =
-    sized_text (blob_text (integrity_of (proof_of h o.hierarchy) b (head_of sequence o) cipher)
+    sized_text (blob_text (integrity_of (context_proof h o.hierarchy) b (head_of sequence o) cipher)
     cipher) in
     let after_number : List ℕ = to_be_bytes w32 (hierarchy_number o) ++ blob in
     let after_sequence : List ℕ = to_be_bytes w32 number ++ after_number in
@@ -104,8 +104,8 @@ context_small : (h : Hierarchies) (b : Binding) (sequence : ℕ) (o : Object) �
 unfolding context_text
 context_small h b sequence o is =
     let cipher = object_cipher h b.start sequence o in
-    let integrity = integrity_of (proof_of h o.hierarchy) b (head_of sequence o) cipher in
-    let one = integrity_size (proof_of h o.hierarchy) b (head_of sequence o) cipher in
+    let integrity = integrity_of (context_proof h o.hierarchy) b (head_of sequence o) cipher in
+    let one = integrity_size (context_proof h o.hierarchy) b (head_of sequence o) cipher in
     let two = cipher_small h b.start sequence o is in
     let three = length-append (sized_text integrity) cipher in
     omega (arith, one, two, three)

@@ -27,6 +27,7 @@ use Rattle.tpm_completion.specs.Loaded.{SequenceStaysValid, StaysValid}
 use Rattle.tpm_completion.specs.Saving.{binding_of}
 use Rattle.tpm_completion.specs.declared.completion.Completion.{Completion}
 use Rattle.tpm_completion.specs.declared.sending.Sent.{Sent}
+use Rattle.tpm_context.proofs.ContextLaws.{same_proof}
 use Rattle.tpm_context.specs.Meaning.{restart_of}
 use Rattle.tpm_context.specs.declared.binding.Binding.{Binding}
 use Rattle.tpm_context.specs.declared.fault.ContextFault.{ContextFault}
@@ -245,7 +246,8 @@ same_binding r later c d start reset restart = rw (start, reset, restart) refl
 left_valid : (r : Record) (c : Completion) (object : Object) (seen : Seen) → Leaves r c seen
     → StaysValid r seen.step.after c seen.layer object
 left_valid r c object seen leaves = record {
-  proof = ap (λ (s : Secrets). s.proof) (leaves.fixed.secrets object.hierarchy);
+  proof = same_proof seen.step.after.fixed.hierarchies r.fixed.hierarchies leaves.fixed.secrets
+      object.hierarchy;
   start = leaves.start;
   reset_count = leaves.fixed.reset_count;
   restart_count = ap (λ (b : Binding). restart_of b object)
