@@ -11,11 +11,12 @@ import collections
 import functools
 from collections.abc import Callable, Iterable
 
-from tpmsim.caller import HERE, hmac_key, OPEN, Refused, storage_key
+from tpmsim.caller import HERE, hmac_key, OPEN, Refused, Session, storage_key, Use
 from tpmsim.model.machine import SESSIONS
 from tpmsim.model.object_commands import OBJECTS
 from tpmsim.model.state import CLEAR, STATE
-from tpmsim.standard import CC, command, mac, number, RH_LOCKOUT, RH_OWNER, RH_PLATFORM, SHA256
+from tpmsim.standard import CC, command, mac, number, RH_LOCKOUT, RH_OWNER, RH_PLATFORM, SE_POLICY
+from tpmsim.standard import SHA256
 from tpmsim.standard.handle_kinds import PRIMARY_HIERARCHIES
 from tpmsim.standard.objects import Attribute
 from tests.common.layer import Client, play, run
@@ -56,6 +57,15 @@ def hmac_is_right(client: Client, handle: int, text: bytes) -> bool:
 def numbers(contexts: Iterable[bytes]) -> list[int]:
     """Returns the sequence numbers of contexts."""
     return [int.from_bytes(it[:8], "big") for it in contexts]
+
+
+def done_or_refused(act: Callable[[], object]) -> str:
+    """Returns the response code of a call."""
+    try:
+        act()
+    except Refused as refusal:
+        return f"{refusal.number:03x}"
+    return "000"
 
 
 def refused(act: Callable[[], object]) -> str:
@@ -224,6 +234,30 @@ def sessions(client: Client) -> None:
         assert client.loaded(client.saved(handle)) == handle
 
 
+def hidden(client: Client) -> None:
+    """A saved session cannot be used until its context is loaded. It can be flushed."""
+    handle, session = key(client), client.tpm.session()
+    policy = client.tpm.session(kind=SE_POLICY)
+
+    def use(first: Session, *others: Session) -> str:
+        uses = [Use(first), *map(Use, others)]
+        return done_or_refused(
+            lambda: client.tpm.call("HMAC", handle, uses=uses, buffer=b"data", hashAlg=SHA256)
+        )
+
+    def read() -> str:
+        return done_or_refused(lambda: client.tpm.call("PolicyGetDigest", policy.handle))
+
+    print("a session and a policy session:", use(session), read())
+    other = client.tpm.session()
+    kept = [client.saved(it.handle) for it in (session, policy)]
+    print("saved, in an entry and as a handle:", use(session), read())
+    print("saved, in the second entry:", use(other, session))
+    print("loaded again:", *map(client.load_code, kept), use(session), read())
+    client.saved(session.handle)
+    print("saved and flushed:", client.code(flush(session.handle)), use(session))
+
+
 def listed(client: Client) -> None:
     """The lists and counts of objects match the loaded objects, whether they are saved or not."""
 
@@ -242,7 +276,7 @@ def listed(client: Client) -> None:
     assert are_there()
 
 
-TESTS = children, copies, flushed, bent, cleared, never_again, cycled, sessions, listed
+TESTS = children, copies, flushed, bent, cleared, never_again, cycled, sessions, hidden, listed
 
 main = functools.partial(play, TESTS, titled=False)
 

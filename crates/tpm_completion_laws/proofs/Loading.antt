@@ -36,21 +36,27 @@ use Rattle.tpm_context.proofs.Reading.{cipher_small, integrity_size}
 use Rattle.tpm_record.specs.declared.hierarchy.Hierarchies.{Hierarchies}
 use Rattle.tpm_completion.proofs.Loaded.{loads_what_was_saved}
 use Rattle.tpm_completion.specs.Command.{Command}
-use Rattle.tpm_completion.specs.Completed.{completed_after, done_after, loaded_after}
+use Rattle.tpm_completion.specs.Completed.{completed_after, completed_with, done_after, loaded_after}
 use Rattle.tpm_completion.specs.Completion.{forgotten}
 use Rattle.tpm_completion.specs.Context.{is_of_sequence, is_of_session, names_own, saved_handle_at}
 use Rattle.tpm_completion.specs.Execution.{Seen, placed_after}
 use Rattle.tpm_completion.specs.Saving.{binding_of}
 use Rattle.tpm_completion.specs.Loaded.{StaysValid, saved_context}
+use Rattle.tpm_completion.specs.Hiding.{handles_of}
 use Rattle.tpm_completion.specs.Loading.{object_context_in, placed_reply}
 use Rattle.tpm_completion.specs.declared.completion.Completion.{Completion}
-use Rattle.tpm_completion_laws.proofs.Buffers.{IsLacking, asked_again, header_lacks, lacking_step, step_lacks}
+use Rattle.tpm_completion_laws.proofs.Buffers.{IsLacking, asked_again, header_lacks, lacking_step, plain_heard, step_lacks}
 use Rattle.tpm_completion_laws.proofs.Saving.{lacking_effect, passed_lacks}
 use Rattle.tpm_completion_laws.specs.Objects.{IsLoaded, LoadsObjects, load_buffer}
 
 pub lacks_load : IsLacking 0x161
 unfolding code_named
 lacks_load = record { small = omega arith; unnamed = refl }
+
+-- TPM2_ContextLoad has no handles
+pub load_handles : handles_of 0x161 ≡ 0
+unfolding handles_of code_named
+load_handles = refl
 
 -- ---- the context names neither a session nor a sequence object
 
@@ -183,7 +189,9 @@ loads_objects r later c d number o locality elapsed random small is whole starte
     ∙ asked_is context (names_none r.fixed.hierarchies (binding_of r c) number o small) in
     let opens = loads_what_was_saved r t c (forgotten t d) number o small is
     (still_valid r later c d o elapsed stays) in
-    let effect = ap (λ (seen : Seen). completed_after seen buffer locality random)
+    let effect = ap (λ (bytes : List ℕ). completed_with d later (Given bytes locality elapsed random))
+    (plain_heard d 0x161 context lacks_load load_handles)
+    ∙ ap (λ (seen : Seen). completed_after seen buffer locality random)
     (passed_lacks later d buffer locality elapsed random lacks)
     ∙ ap (done_after first buffer locality random) asked ∙ ap (loaded_after first) opens in
     subst (IsLoaded t o (next_handle later.objects)) (sym effect)
