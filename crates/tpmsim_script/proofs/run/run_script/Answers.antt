@@ -1,11 +1,16 @@
-use Rattle.std.proofs.Common.{◌≡◌, false}
+use Rattle.std.proofs.Common.{◌≡◌, ℕ, false, Option}
+use Rattle.tpm_bytes.specs.Tap.{device_of}
+use Rattle.tpmsim_script.specs.Script.{Plays, at_first, new_device}
 use Rattle.tpmsim_script.proofs.ScriptFaults.{faults, no_memory, ran}
 use Rattle.tpmsim_script.proofs.run.run_script.Goals as goal
 
 pub returns-clause-played : goal.returns-clause-played
 returns-clause-played g c =
+    let P : Option ℕ → Type 0 = Plays (g.R.Read.remaining (device_of c.args.reader.now))
+    (g.W.Write.contents (device_of c.args.writer.now))
+    (g.W.Write.contents (device_of c.run_device.new.writer)) (at_first c.args.trace new_device) 1 in
     λ cannot. rw c.script_result.ensures
-    (ran _ c.run_device.result
+    (ran P c.run_device.result
     (rw c.in_ok-machine.ensures.state at (c.run_device.ensures.played cannot)))
 
 pub returns-clause-failed : goal.returns-clause-failed
