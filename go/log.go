@@ -10,7 +10,10 @@ type log struct{ text strings.Builder }
 
 func (it *log) line(line string) { it.text.WriteString(line + "\n") }
 
-func (it *log) command(buffer, drawn, response []byte) {
+func (it *log) command(completes bool, buffer, drawn, response []byte) {
+	if completes {
+		it.line("# completed")
+	}
 	if len(drawn) > 0 {
 		it.line(fmt.Sprintf("entropy %x", drawn))
 	}

@@ -152,7 +152,7 @@ func (tpm *TPM) execute(command []byte) (outcome, error) {
 	told := tpm.native.execute(command, tpm.locality, tpm.elapsed, random, tpm.completes)
 	tpm.elapsed = 0
 	if tpm.log != nil {
-		tpm.log.command(command, random[:told.drawn], told.response)
+		tpm.log.command(tpm.completes, command, random[:told.drawn], told.response)
 	}
 	if err := tpm.source.renew(told.drawn); err != nil {
 		tpm.native.free() // so that no random bytes are drawn twice

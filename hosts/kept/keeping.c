@@ -3,6 +3,7 @@
 #include "past.h"
 #include "told.h"
 #include "transfer.h"
+#include "written.h"
 #include <errno.h>
 #include <inttypes.h>
 #include <stdio.h>
@@ -185,13 +186,40 @@ static uint8_t do_task(struct keeping *keeping, const tpmsim_ask *ask, struct re
 
 /* ---- the loop */
 
-/* Reads the whole journal to find out why it cannot be opened, and sets the reason. */
-static bool refuse_damage(struct keeping *keeping, struct reason *reason) {
+/* Returns why these first bytes of the journal, which was read, cannot be opened. */
+static uint8_t why_refused(const struct keeping *keeping, size_t size) {
     tpmsim device = {0};
     size_t taken;
-    if (!read_from(keeping, 0, reason)) return false;
-    uint8_t told = tpmsim_journal_open(&device, keeping->buffer, keeping->read, &taken);
+    uint8_t told = tpmsim_journal_open(&device, keeping->buffer, size, &taken);
     tpmsim_free(&device);
+    return told;
+}
+
+/* Returns the number of commands after the head of the journal, which was read. */
+static size_t commands_after_head(const struct keeping *keeping) {
+    size_t head = written_head(keeping->buffer, keeping->read);
+    return written_commands(keeping->buffer + head, keeping->read - head);
+}
+
+/* Sets the reason for a journal whose commands this library answers otherwise. */
+static bool refuse_otherwise(struct keeping *keeping, struct reason *reason) {
+    char by[WRITTEN_ROOM], said[512];
+    written_by(keeping->buffer, keeping->read, by);
+    snprintf(said, sizeof said,
+             "was written by %s of the library, which answers otherwise than this one, and stays "
+             "as it is: power-cycle the device with the tpmsim-power of that version, or drop all "
+             "%zu commands since the last power cycle or checkpoint with tpmsim-power --cut",
+             by, commands_after_head(keeping));
+    refuse(reason, keeping->folder.path, JOURNAL_NAME, said, 0);
+    reason->told = TPMSIM_OTHERWISE;
+    return false;
+}
+
+/* Reads the whole journal to find out why it cannot be opened, and sets the reason. */
+static bool refuse_damage(struct keeping *keeping, struct reason *reason) {
+    if (!read_from(keeping, 0, reason)) return false;
+    uint8_t told = why_refused(keeping, keeping->read);
+    if (told == TPMSIM_OTHERWISE) return refuse_otherwise(keeping, reason);
     /* Another process may have cut the journal in the meantime */
     if (told == TPMSIM_DONE) told = TPMSIM_DAMAGED;
     return refuse_told(reason, keeping->folder.path, JOURNAL_NAME, told);
@@ -228,6 +256,40 @@ bool keeping_run(struct keeping *keeping, uint8_t told, struct reason *reason) {
         tpmsim_keeper_next(&keeping->keeper, got, keeping->number, keeping->size, keeping->buffer,
                            keeping->read);
     }
+}
+
+/* Replaces the journal, which was read, with its head. */
+static bool begin_with_head(struct keeping *keeping, struct reason *reason) {
+    char said[128];
+    size_t commands = commands_after_head(keeping);
+    tpmsim_ask ask = {.size = written_head(keeping->buffer, keeping->read),
+                      .cut = keeping->size};
+    if (why_refused(keeping, ask.size) != TPMSIM_DONE)
+        return refuse_told(reason, keeping->folder.path, JOURNAL_NAME, TPMSIM_DAMAGED);
+    if (!make(keeping, &ask, reason)) return false;
+    if (!name(keeping, reason)) {
+        if (!*reason->text)
+            refuse_file(keeping, NEW_NAME, "cannot take the journal's place", reason);
+        return false;
+    }
+    keeping->size = ask.size;
+    snprintf(said, sizeof said, "all %zu commands since the last power cycle or checkpoint were "
+             "dropped", commands);
+    refuse(&keeping->notice, keeping->folder.path, JOURNAL_NAME ":", said, 0);
+    return folder_force(&keeping->folder, reason);
+}
+
+bool keeping_take_head(struct keeping *keeping, struct reason *reason) {
+    *keeping->notice.text = *reason->text = 0;
+    if (!folder_lock(&keeping->folder, reason)) return false;
+    bool is_done = look(keeping, reason) == TPMSIM_GOT_DONE && read_from(keeping, 0, reason);
+    /* Another process may have replaced the journal in the meantime. */
+    if (is_done && why_refused(keeping, keeping->read) == TPMSIM_OTHERWISE)
+        is_done = begin_with_head(keeping, reason);
+    folder_unlock(&keeping->folder);
+    if (!is_done && !*reason->text)
+        refuse(reason, keeping->folder.path, JOURNAL_NAME, "is not there", 0);
+    return is_done;
 }
 
 bool keeping_open(struct keeping *keeping, const struct kept_options *options,

@@ -43,6 +43,10 @@ const char *keeping_name(const struct keeping *keeping);
  * the beginning of the call returned. If it is not TPMSIM_DONE, no task is performed. */
 bool keeping_run(struct keeping *keeping, uint8_t told, struct reason *reason);
 
+/* If this library answers a command of the journal otherwise than the version that wrote it,
+ * replaces the journal with its head, and describes in the notice what was dropped. */
+bool keeping_take_head(struct keeping *keeping, struct reason *reason);
+
 void keeping_close(struct keeping *keeping);
 
 #endif

@@ -73,6 +73,17 @@ static bool show(struct kept *kept, struct reason *reason) {
     return run(kept, tpmsim_keeper_begin(&kept->keeping.keeper, TPMSIM_JOB_SHOW, none, 0), reason);
 }
 
+/* Like show, but may first replace the journal of another version with its head. */
+static bool show_or_take_head(struct kept *kept, const struct kept_options *options,
+                              struct reason *reason) {
+    if (show(kept, reason)) return true;
+    if (!options->takes_head || reason->told != TPMSIM_OTHERWISE ||
+        !keeping_take_head(&kept->keeping, reason))
+        return false;
+    if (*kept_notice(kept) && kept->tell) kept->tell(kept_notice(kept));
+    return show(kept, reason);
+}
+
 /* Opens the existing device, which needs no seed, or makes a new one. */
 static bool open_any(struct kept *kept, const struct kept_options *options, struct reason *reason) {
     const struct folder *folder = &kept->keeping.folder;
@@ -81,7 +92,7 @@ static bool open_any(struct kept *kept, const struct kept_options *options, stru
     int there = folder->path ? folder_look(folder, JOURNAL_NAME, &status, reason) : 0;
     if (there < 0) return false;
     if (there == 0 && !options->is_there) return begin(kept, options->image, reason);
-    return there == 1 ? show(kept, reason)
+    return there == 1 ? show_or_take_head(kept, options, reason)
                       : refuse(reason, folder->path, JOURNAL_NAME, "is not there", 0);
 }
 

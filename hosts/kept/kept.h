@@ -41,6 +41,9 @@ struct kept_options {
     bool is_there;
     /* If true, a damaged journal is cut off at its first damage. Otherwise it is refused. */
     bool cuts;
+    /* If true, a journal of another version, whose commands this library answers otherwise, is
+     * replaced with its head, and all its commands are dropped. Otherwise it is refused. */
+    bool takes_head;
     /* Called with a sentence when something was cut from a journal; may be NULL. */
     void (*tell)(const char *sentence);
 };

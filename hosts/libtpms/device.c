@@ -13,6 +13,10 @@
 enum { HEAD_MOST = 73 * 1024 };
 
 static tpmsim device;
+/* The device that was on before, without its power, if it was on with the completing layer. */
+static tpmsim previous;
+/* Whether the device has been on, with its clock and record. */
+static bool is_begun;
 static uint8_t completing;
 static uint64_t latest;
 /* The record of the last command until it is written. */
@@ -33,21 +37,45 @@ uint64_t time_of_device(void) { return latest; }
 static uint8_t head[HEAD_MOST];
 
 static bool begin_with_head(size_t size) {
-    bool is_begun = begin_record(head, size);
+    is_begun = begin_record(head, size);
     explicit_bzero(head, size);
     return is_begun;
+}
+
+/* Replaces the device, which was opened from the permanent state, with the previous one: they differ
+   only in Clock and in the completing layer, which the permanent state does not contain. A state
+   text does not contain the journal's time, so no time passes for the device without power. */
+static bool take_previous(void) {
+    size_t size = tpmsim_snapshot(&previous, head, sizeof head);
+    uint8_t told = tpmsim_restore(&device, head, size);
+    explicit_bzero(head, size);
+    if (told != TPMSIM_DONE) report("the device is not powered on: %s", words_of_told(told));
+    return told == TPMSIM_DONE;
+}
+
+/* Starts the journal of a device whose power has come on. Writes its head and returns the size of
+   the head; 0 if that fails. The completing layer of the previous device goes on, so that contexts
+   of objects load after a TPM Resume. The layer of another device starts again. */
+static size_t start_journal(void) {
+    bool is_same = previous.private_ != NULL && is_permanent(&previous);
+    if (is_same && !take_previous()) return 0;
+    tpmsim_free(&previous);
+    if (is_same) return tpmsim_journal_checkpoint(&device, latest, head, sizeof head);
+    return tpmsim_journal_begin(&device, latest, head, sizeof head);
 }
 
 bool begin_device(void) {
     latest = time_of_day();
     begin_host_clock(latest);
-    return begin_with_head(tpmsim_journal_begin(&device, latest, head, sizeof head));
+    size_t size = start_journal();
+    return size > 0 && begin_with_head(size);
 }
 
 bool resume_device(uint64_t time) {
     uint64_t now = time_of_day();
     begin_host_clock(now > time ? now : time);
     latest = time;
+    tpmsim_free(&previous);
     return begin_with_head(tpmsim_journal_checkpoint(&device, latest, head, sizeof head));
 }
 
@@ -90,7 +118,17 @@ bool execute(const uint8_t *buffer, size_t size, uint8_t locality, struct respon
     return write_last();
 }
 
+/* Keeps the device without its power, for the case that its power comes on again. */
+static void keep_previous(void) {
+    tpmsim_free(&previous);
+    tpmsim_power_cycle(&device);
+    previous = device;
+    device.private_ = NULL;
+}
+
 void free_device(void) {
+    if (is_begun && completing) keep_previous();
+    is_begun = false;
     tpmsim_free(&device);
     end_record();
     explicit_bzero(record, sizeof record);

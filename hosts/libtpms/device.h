@@ -23,7 +23,9 @@ bool device_is_on(void);
 /* Switches the completing layer on or off for all later commands. */
 void let_device_complete(bool completes);
 
-/* Powers the device on. This starts its completing layer, its clock and its record. */
+/* Powers the device on, which has just been opened from its permanent state. This starts its clock
+   and its record. If this device was on before in this process, its completing layer goes on.
+   Otherwise the layer starts again. */
 bool begin_device(void);
 
 /* Continues a device whose last command was executed when the host's clock showed this time, and
@@ -46,7 +48,7 @@ bool last_was_written(void);
    for a failure. */
 bool write_last(void);
 
-/* Powers the device off. */
+/* Powers the device off. With the completing layer, the device stays in memory, for begin_device. */
 void free_device(void);
 
 #endif

@@ -2,6 +2,7 @@
 #include "permanent.h"
 
 #include "callbacks.h"
+#include "foreign.h"
 #include "report.h"
 
 #include <libtpms/tpm_nvfilename.h>
@@ -30,7 +31,8 @@ bool make_permanent_state(tpmsim *device, struct state *state) {
 
 bool open_permanent_state(tpmsim *device, const struct state *state) {
     uint8_t told = tpmsim_open(device, state->bytes, state->size);
-    if (told != TPMSIM_DONE) report("the permanent state is refused: %s", words_of_told(told));
+    if (told != TPMSIM_DONE)
+        report("the permanent state is refused: %s", words_of_state(state, told));
     return told == TPMSIM_DONE;
 }
 

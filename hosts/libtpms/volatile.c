@@ -4,6 +4,7 @@
 #include "volatile.h"
 
 #include "digests.h"
+#include "foreign.h"
 #include "older.h"
 #include "report.h"
 
@@ -52,7 +53,7 @@ static const char *fault_of(tpmsim *device, const struct state *state, struct mo
     if (is_older_state(state->bytes, state->size))
         return open_older_state(device, state->bytes, state->size, moment);
     uint8_t told = tpmsim_restore(device, state->bytes, size);
-    if (told != TPMSIM_DONE) return words_of_told(told);
+    if (told != TPMSIM_DONE) return words_of_state(state, told);
     return read_tail(state->bytes + size, moment) ? NULL : "its last 41 bytes are not as they were written";
 }
 

@@ -11,10 +11,12 @@ struct board {
     /* Whether a dynamic launch has started and its code is being hashed. */
     bool is_launching;
     struct digests launched;
+    /* Whether the device has failed. It then has no clients, and gets no new ones. */
+    bool has_failed;
 };
 
 /* If the device cannot continue, each of the following functions returns false and sets `reason`.
- * The simulator then ends. */
+ * The device has then failed. */
 
 /* Executes a command. The response is empty if the power is off, and is LOCALITY for a locality
  * above 4. */

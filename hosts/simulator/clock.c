@@ -11,8 +11,9 @@ static bool read_passed(uint64_t *passed_ms) {
     return true;
 }
 
-bool clock_begin(struct clock *clock, bool is_still) {
-    clock->is_still = is_still;
+bool clock_begin(struct clock *clock, bool is_still, bool repeats) {
+    *clock = (struct clock){.is_still = is_still};
+    if (is_still && repeats) return true;
     return host_now(&clock->began_ms) && read_passed(&clock->began_passed_ms);
 }
 

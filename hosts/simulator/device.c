@@ -47,18 +47,42 @@ static bool keep(struct device *device, bool always, struct reason *reason) {
     return !device->has_image || image_file_keep(&device->image, &device->handle, always, reason);
 }
 
-/* Power-cycles the device: starts a new journal, and a new record file if recording was requested. */
-static bool cycle(struct device *device, struct reason *reason) {
+/* tpmsim_journal_begin, with which the completing layer starts again, or tpmsim_journal_checkpoint,
+ * with which it goes on. */
+typedef size_t (*start_journal)(tpmsim *device, uint64_t now_ms, uint8_t *head, size_t size);
+
+/* Starts a journal for a device whose power comes on, and a new record file if recording was
+ * requested. */
+static bool begin(struct device *device, start_journal start, struct reason *reason) {
     uint64_t now_ms = clock_now(&device->clock);
-    size_t size = tpmsim_journal_begin(&device->handle, now_ms, device->entry, 0);
+    size_t size = start(&device->handle, now_ms, device->entry, 0);
     uint8_t *head = malloc(size);
     if (!head) return refuse_device(told_words(TPMSIM_NO_MEMORY), reason);
-    tpmsim_journal_begin(&device->handle, now_ms, head, size);
+    start(&device->handle, now_ms, head, size);
     bool is_done = record_file_begin(&device->record, head, size, reason) &&
                    keep(device, false, reason);
     explicit_bzero(head, size);
     free(head);
     return is_done;
+}
+
+/* Restores the device from its own state text, which does not contain the journal's time. So the
+ * time until the next journal does not count for the device. */
+static bool forget_journal(struct device *device, struct reason *reason) {
+    uint8_t *text = malloc(TPMSIM_STATE_SIZE);
+    if (!text) return refuse_device(told_words(TPMSIM_NO_MEMORY), reason);
+    size_t size = tpmsim_snapshot(&device->handle, text, TPMSIM_STATE_SIZE);
+    uint8_t told = tpmsim_restore(&device->handle, text, size);
+    explicit_bzero(text, size);
+    free(text);
+    return told == TPMSIM_DONE || refuse_device(told_words(told), reason);
+}
+
+/* Power-cycles the device. The completing layer keeps its start and its count of contexts, so that
+ * contexts of objects load after a TPM Resume. */
+static bool cycle(struct device *device, struct reason *reason) {
+    tpmsim_power_cycle(&device->handle);
+    return forget_journal(device, reason) && begin(device, tpmsim_journal_checkpoint, reason);
 }
 
 static bool open_image(struct device *device, const char *path, struct reason *reason) {
@@ -71,11 +95,11 @@ static bool open_image(struct device *device, const char *path, struct reason *r
 static bool open_in_memory(struct device *device, const struct options *options, unsigned number,
                            struct reason *reason) {
     random_begin(&device->random, options->seed, options->seed_size, number);
-    if (!clock_begin(&device->clock, options->is_timeless))
+    if (!clock_begin(&device->clock, options->is_timeless, options->seed_size > 0))
         return refuse_device("needs the host's clock, which cannot be read or is before 1970", reason);
     bool is_open = options->image ? open_image(device, options->image, reason)
                                   : manufacture(device, reason);
-    return is_open && cycle(device, reason);
+    return is_open && begin(device, tpmsim_journal_begin, reason);
 }
 
 static bool execute_in_memory(struct device *device, const uint8_t *buffer, size_t size,

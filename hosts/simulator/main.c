@@ -18,16 +18,30 @@ static bool open_devices(struct board *boards, const struct options *options,
     return true;
 }
 
-/* Closes all devices. If a device cannot be saved, returns false, and sets `reason` to the
- * reason for the first such device. */
+/* Closes all devices. If a device cannot be saved that has not failed before, returns false, and
+ * sets `reason` to the reason for the first such device. */
 static bool close_devices(struct board *boards, unsigned count, struct reason *reason) {
     bool is_done = true;
-    struct reason other;
+    struct reason one;
     for (unsigned i = 0; i < count; i++) {
-        is_done = device_close(boards[i].device, is_done ? reason : &other) && is_done;
+        bool is_closed = device_close(boards[i].device, &one) || boards[i].has_failed;
         boards[i].device = NULL;
+        if (is_done && !is_closed) *reason = one;
+        is_done = is_done && is_closed;
     }
     return is_done;
+}
+
+static bool any_has_failed(const struct board *boards, unsigned count) {
+    for (unsigned i = 0; i < count; i++)
+        if (boards[i].has_failed) return true;
+    return false;
+}
+
+/* Reports why the simulator ends, and returns its status. */
+static int fault(const struct reason *reason) {
+    fprintf(stderr, "tpmsim-simulator: %s\n", reason->text);
+    return FAULT;
 }
 
 /* Serves clients until the simulator ends. Then closes the devices, and finally closes all
@@ -42,26 +56,30 @@ static bool serve(struct board *boards, const struct options *options,
     return is_done;
 }
 
-static bool run(const struct options *options, struct reason *reason) {
+/* Returns the simulator's status. */
+static int run(const struct options *options) {
+    struct reason reason;
     struct listeners listeners = {0};
     struct board *boards = calloc(options->devices, sizeof *boards);
-    if (!boards) return refuse(reason, "the simulator", NULL, "needs memory that is not there", 0);
-    bool is_done = open_devices(boards, options, reason) &&
-                   listeners_open(&listeners, options, reason) && server_take_signals(reason) &&
-                   serve(boards, options, &listeners, reason);
+    if (!boards) {
+        refuse(&reason, "the simulator", NULL, "needs memory that is not there", 0);
+        return fault(&reason);
+    }
+    bool is_done = open_devices(boards, options, &reason) &&
+                   listeners_open(&listeners, options, &reason) && server_take_signals(&reason) &&
+                   serve(boards, options, &listeners, &reason);
+    int status = any_has_failed(boards, options->devices) ? FAULT : GOOD;
+    if (!is_done) status = fault(&reason);
     struct reason unused;
     close_devices(boards, options->devices, &unused);
     listeners_close(&listeners);
     free(boards);
-    return is_done;
+    return status;
 }
 
 int main(int count, char **words) {
     static struct options options;
-    struct reason reason;
     enum options_read read = options_read(&options, count, words);
     if (read != OPTIONS_GOOD) return read == OPTIONS_SHOWN ? GOOD : WRONG_WORDS;
-    if (run(&options, &reason)) return GOOD;
-    fprintf(stderr, "tpmsim-simulator: %s\n", reason.text);
-    return FAULT;
+    return run(&options);
 }

@@ -40,8 +40,8 @@ static const char HELP_TEXT[] =
     "  --help, --version\n"
     "\n"
     "Without --state and --image the device ends with the simulator. SIGTERM, SIGINT and a client's\n"
-    "request to stop end it. The status is 2 for wrong words, and 3 if it cannot listen, or if the\n"
-    "device cannot be had or kept.\n";
+    "request to stop end it. If one of several devices fails, only its clients lose their connections.\n"
+    "The status is 2 for wrong words, and 3 if it cannot listen, or if a device cannot be had or kept.\n";
 
 /* Prints what is wrong with the command line. */
 static enum options_read wrong(const char *said) {

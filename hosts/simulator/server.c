@@ -3,6 +3,7 @@
 #include "client.h"
 #include <errno.h>
 #include <signal.h>
+#include <stdio.h>
 #include <stdlib.h>
 #include <sys/epoll.h>
 #include <sys/resource.h>
@@ -16,6 +17,8 @@ enum { FILES_LEFT = 8, MILLISECONDS_TO_NEXT_TRY = 1000, MOST_IN_A_TURN = 64 };
 /* The source of an event: either a listener, which has a number, or a client. */
 struct source {
     struct client *client;
+    /* The client's device. */
+    struct board *board;
     size_t number;
     /* The events on the client's socket for which the server waits. */
     uint32_t events;
@@ -84,9 +87,11 @@ static bool is_one_too_many(int socket) {
 static bool add_client(struct server *server, int socket, size_t listener) {
     struct source *source = has_room(server) ? malloc(sizeof *source) : NULL;
     if (!source) return false;
-    *source = (struct source){.number = server->count, .events = EPOLLIN};
+    *source = (struct source){.board = &server->boards[listener / 2],
+                              .number = server->count,
+                              .events = EPOLLIN};
     if (watch(server, EPOLL_CTL_ADD, socket, EPOLLIN, source))
-        source->client = client_of(socket, &server->boards[listener / 2], listener % 2 == 1);
+        source->client = client_of(socket, source->board, listener % 2 == 1);
     if (!source->client) {
         free(source);
         return false;
@@ -112,12 +117,46 @@ static bool wait_for(const struct server *server, struct source *source) {
     return watch(server, EPOLL_CTL_MOD, client_socket(source->client), events, source);
 }
 
-/* Serves a client. If it stops the simulator, it is not removed before the simulator ends. */
-static enum outcome serve_client(struct server *server, struct source *source,
-                                 struct reason *reason) {
-    enum outcome outcome = client_go_on(source->client, reason);
+/* ---- devices that fail */
+
+static size_t count_of_boards(const struct server *server) { return server->listeners->count / 2; }
+
+/* Reports why a device has failed. With several devices, the line also has the device's number. */
+static void fail_board(const struct server *server, struct board *board, const struct reason *reason) {
+    board->has_failed = true;
+    if (count_of_boards(server) == 1)
+        fprintf(stderr, "tpmsim-simulator: %s\n", reason->text);
+    else
+        fprintf(stderr, "tpmsim-simulator: device %zu is no longer served: %s\n",
+                (size_t)(board - server->boards), reason->text);
+}
+
+/* Closes the connections of all clients whose device has failed. */
+static void remove_clients_of_failed(struct server *server) {
+    for (size_t i = server->count; i > 0; i--)
+        if (server->of_clients[i - 1]->board->has_failed)
+            remove_client(server, server->of_clients[i - 1]);
+}
+
+/* Whether at least one device has not failed. */
+static bool any_serves(const struct server *server) {
+    for (size_t i = 0; i < count_of_boards(server); i++)
+        if (!server->boards[i].has_failed) return true;
+    return false;
+}
+
+/* Serves a client. If it stops the simulator, it is not removed before the simulator ends. If its
+ * device fails, it is removed at the end of the turn, with the device's other clients. */
+static enum outcome serve_client(struct server *server, struct source *source) {
+    struct reason reason;
+    if (source->board->has_failed) return GOES_ON;
+    enum outcome outcome = client_go_on(source->client, &reason);
+    if (outcome == FAILS) {
+        fail_board(server, source->board, &reason);
+        return GOES_ON;
+    }
     if (outcome == GOES_ON && !wait_for(server, source)) outcome = ENDS;
-    if (outcome == ENDS || outcome == FAILS) remove_client(server, source);
+    if (outcome == ENDS) remove_client(server, source);
     return outcome;
 }
 
@@ -128,11 +167,14 @@ static bool is_of_client(int error) {
     return error == EINTR || error == ECONNABORTED || error == EAGAIN || error == EWOULDBLOCK;
 }
 
+/* Accepts a client. If its device has failed, or there is no room for it, closes its connection. */
 static void accept_client(struct server *server, size_t listener) {
     int socket =
         accept4(server->listeners->sockets[listener], NULL, NULL, SOCK_NONBLOCK | SOCK_CLOEXEC);
     if (socket >= 0) {
-        if (is_one_too_many(socket) || !add_client(server, socket, listener)) close(socket);
+        if (server->boards[listener / 2].has_failed || is_one_too_many(socket) ||
+            !add_client(server, socket, listener))
+            close(socket);
     } else if (!is_of_client(errno)) {
         server->is_full = true;
     }
@@ -150,9 +192,8 @@ static bool wait_for_clients(struct server *server, int how, uint32_t events) {
 
 /* ---- turns */
 
-static enum outcome serve_source(struct server *server, struct source *source,
-                                 struct reason *reason) {
-    if (source->client) return serve_client(server, source, reason);
+static enum outcome serve_source(struct server *server, struct source *source) {
+    if (source->client) return serve_client(server, source);
     accept_client(server, source->number);
     return GOES_ON;
 }
@@ -172,7 +213,8 @@ static enum outcome turn(struct server *server, struct reason *reason) {
     if (found < 0 && errno != EINTR) return fail("cannot wait for clients", reason);
     enum outcome outcome = GOES_ON;
     for (int i = 0; i < found && outcome < STOPS; i++)
-        outcome = serve_source(server, events[i].data.ptr, reason);
+        outcome = serve_source(server, events[i].data.ptr);
+    remove_clients_of_failed(server);
     if (was_full) {
         server->is_full = false;
         if (!wait_for_clients(server, EPOLL_CTL_MOD, EPOLLIN)) return fail("cannot go on", reason);
@@ -198,7 +240,7 @@ struct server *server_of(const struct listeners *listeners, struct board *boards
 
 bool server_run(struct server *server, struct reason *reason) {
     enum outcome outcome = GOES_ON;
-    while (!is_over && outcome < STOPS) outcome = turn(server, reason);
+    while (!is_over && outcome < STOPS && any_serves(server)) outcome = turn(server, reason);
     return outcome != FAILS;
 }
 

@@ -16,8 +16,9 @@ struct server;
 struct server *server_of(const struct listeners *listeners, struct board *boards,
                          struct reason *reason);
 
-/* Serves until a signal or a client ends the simulator. If a device cannot continue, returns false
- * and sets `reason`. */
+/* Serves until a signal or a client ends the simulator, or all devices have failed. If a device
+ * fails, reports the reason on standard error, and closes the connections of its clients. If the
+ * server itself fails, returns false and sets `reason`. */
 bool server_run(struct server *server, struct reason *reason);
 
 /* Closes all connections of a server, which may be NULL. Only then does the client that stopped the

@@ -1,6 +1,7 @@
 /* tpmsim-power DIR [--cut] [--keep N]: power-cycles the device that is kept in a folder. With
- * --cut, a damaged journal is first cut off at the damage. With --keep N, the last N journals stay
- * in the folder. */
+ * --cut, a damaged journal is first cut off at the damage, and a journal of another version, whose
+ * commands this library answers otherwise, is first replaced with its head. With --keep N, the last
+ * N journals stay in the folder. */
 #include "kept.h"
 #include <stdio.h>
 #include <stdlib.h>
@@ -23,7 +24,7 @@ static bool read_keep(const char *word, unsigned *keep) {
 static bool read_words(struct kept_options *options, char **words) {
     for (; *words; words++) {
         if (strcmp(*words, "--cut") == 0)
-            options->cuts = true;
+            options->cuts = options->takes_head = true;
         else if (strcmp(*words, "--keep") != 0 || !words[1] || !read_keep(*++words, &options->keep))
             return false;
     }

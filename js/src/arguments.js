@@ -3,6 +3,20 @@
 import { BadArgument } from "./errors.js";
 
 /**
+ * Whether an array has lost its bytes, because its buffer was transferred or shortened. JavaScript
+ * has no property that says so before ECMAScript 2024, but every method of such an array throws.
+ * @param {Uint8Array} given
+ */
+function isLost(given) {
+  try {
+    Uint8Array.prototype.keys.call(given);
+    return false;
+  } catch {
+    return true;
+  }
+}
+
+/**
  * Returns the argument if it is a Uint8Array, such as node's Buffer. It may come from another
  * window.
  * @param {string} name
@@ -13,7 +27,11 @@ export function bytes(name, given) {
   if (Object.prototype.toString.call(given) !== "[object Uint8Array]") {
     throw new BadArgument(name, "a Uint8Array");
   }
-  return /** @type {Uint8Array} */ (given);
+  const checked = /** @type {Uint8Array} */ (given);
+  if (isLost(checked)) {
+    throw new BadArgument(name, "there any more: its buffer was transferred or shortened");
+  }
+  return checked;
 }
 
 /**

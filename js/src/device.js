@@ -100,7 +100,7 @@ export class Device {
     const secrets =
       manufactured === undefined
         ? source.secrets()
-        : bytesOf("manufactured", manufactured, RANDOM_SIZE);
+        : bytesOf("manufactured", manufactured, RANDOM_SIZE).slice();
     const given = await loaded(module);
     const device = new Device(KEY, given.manufacture(secrets), source, given);
     try {
@@ -164,7 +164,7 @@ export class Device {
    * @returns {Generator<Played, void, undefined>}
    */
   play(script) {
-    const lines = typeof script === "string" ? script : bytes("script", script);
+    const lines = typeof script === "string" ? script : bytes("script", script).slice();
     return played(this, this.#module, lines);
   }
 

@@ -32,6 +32,52 @@ test("bytes", () => {
   assert.deepEqual(tpm.snapshot(), before);
 });
 
+/** Returns an array whose buffer was transferred, and one whose buffer was shortened. */
+function lost(size) {
+  const transferred = new Uint8Array(size);
+  structuredClone(transferred.buffer, { transfer: [transferred.buffer] });
+  const buffer = new ArrayBuffer(size, { maxByteLength: size });
+  const shortened = new Uint8Array(buffer, 0, size);
+  buffer.resize(size - 1);
+  return [transferred, shortened];
+}
+
+test("bytes that are lost", async () => {
+  const before = tpm.snapshot();
+  for (const given of lost(256)) {
+    assert.equal(given.length, 0);
+    assert.throws(() => tpm.execute(given), refused("command"));
+    assert.throws(() => tpm.execute(given, { complete: true }), refused("command"));
+    assert.throws(() => tpm.execute(command, { random: given }), refused("random"));
+    assert.throws(() => tpm.open(given), refused("image"));
+    assert.throws(() => tpm.restore(given), refused("state"));
+    assert.throws(() => tpm.play(given), refused("script"));
+    assert.throws(() => tpm.words.spell(given), refused("command"));
+    assert.throws(() => tpm.words.meaning(given), refused("response"));
+    for (const name of ["seed", "manufactured", "image", "state"]) {
+      await assert.rejects(Device.create({ [name]: given }), refused(name));
+    }
+  }
+  assert.deepEqual(tpm.snapshot(), before);
+  assert.throws(() => tpm.execute({ [Symbol.toStringTag]: "Uint8Array" }), refused("command"));
+});
+
+test("bytes that are lost during a call", async () => {
+  const secrets = new Uint8Array(256).fill(7);
+  const [other, image] = [new Uint8Array(secrets), tpm.save()];
+  const creating = Device.create({ manufactured: secrets });
+  structuredClone(secrets.buffer, { transfer: [secrets.buffer] });
+  assert.deepEqual((await creating).save(), (await Device.create({ manufactured: other })).save());
+  const opening = Device.create({ image });
+  structuredClone(image.buffer, { transfer: [image.buffer] });
+  await assert.rejects(opening, refused("image"));
+  const script = new TextEncoder().encode("do Startup 0\ndo GetRandom 4\n");
+  const played = (await Device.create()).play(script);
+  assert.equal(played.next().value.trace, "Startup L0 +0 ok 00000000");
+  structuredClone(script.buffer, { transfer: [script.buffer] });
+  assert.equal(played.next().value.trace, "GetRandom L0 +0 ok 00000000");
+});
+
 test("bytes of another realm are bytes", () => {
   const other = runInContext("new Uint8Array([0x80, 1])", createContext());
   assert.ok(!(other instanceof Uint8Array));

@@ -42,6 +42,7 @@ DEEDS = {
     "object N is not there",
     "session N is not there",
     "session N is saved already",
+    "session N is saved, and its context is not loaded",
     "N is neither a transient object nor a session",
     "the object of context N is loaded as N",
     "no slot of an object is free",

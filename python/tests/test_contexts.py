@@ -320,9 +320,11 @@ class Computed(unittest.TestCase):
             bound = number(9, 8) + number(saved_handle, 4)
             counts = number(START, 8) + number(RESETS, 4) + number(RESTARTS if is_key else 0, 4)
             integrity, cipher = context[INTEGRITY_AT:CIPHER_AT], context[CIPHER_AT:]
-            self.assertEqual(integrity, hmac_by_openssl(PROOF, counts + bound + cipher))
+            is_platform = is_key and it.held.hierarchy == RH_PLATFORM
+            proof = PROOF + PROOF if is_platform else PROOF
+            self.assertEqual(integrity, hmac_by_openssl(proof, counts + bound + cipher))
             label = b"CONTEXT\0" + bound + number(START, 8) + number(256, 4)
-            made_bytes = hmac_by_openssl(PROOF, number(1, 4) + label)
+            made_bytes = hmac_by_openssl(proof, number(1, 4) + label)
             words = "openssl", "enc", "-d", "-aes-128-cfb"
             with_key = "-K", made_bytes[:16].hex(), "-iv", made_bytes[16:].hex()
             done = subprocess.run(

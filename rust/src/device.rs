@@ -269,7 +269,7 @@ impl Device {
         self.elapsed = 0;
         let drawn = outcome.drawn;
         if let Some(log) = &mut self.log {
-            log.command(buffer, &self.source.bytes()[..drawn], &outcome.response);
+            log.command(by, buffer, &self.source.bytes()[..drawn], &outcome.response);
         }
         if let Err(fault) = self.source.renew(drawn) {
             panic!("the system has no random bytes: {fault}");

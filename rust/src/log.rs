@@ -1,6 +1,10 @@
 //! The log of a device, which `tpmsim-explain` and `tpmsim-audit` read.
 
+use crate::native::Executor;
 use std::fmt::Write;
+
+/// The line before a command that was executed with the completing layer above the device.
+const COMPLETED: &str = "# completed";
 
 /// Lines of a script, with the responses as comments.
 pub(crate) struct Log {
@@ -26,8 +30,11 @@ impl Log {
         self.text.push('\n');
     }
 
-    /// Adds a command, the random bytes that it drew, and its response.
-    pub(crate) fn command(&mut self, buffer: &[u8], drawn: &[u8], response: &[u8]) {
+    /// Adds a command, what executed it, the random bytes that it drew, and its response.
+    pub(crate) fn command(&mut self, by: Executor, buffer: &[u8], drawn: &[u8], response: &[u8]) {
+        if let Executor::Completed = by {
+            self.line(COMPLETED);
+        }
         if !drawn.is_empty() {
             self.bytes("entropy ", drawn);
         }

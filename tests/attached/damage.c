@@ -28,8 +28,7 @@ static void must_be(const struct text *wanted, const char *what) {
 static void refuse_opening(size_t counts[4]) {
     static const char *const sentences[] = {
         "state/journal is damaged, and stays as it is", "state/journal is no journal of a device",
-        "state/journal was written by a library that answers otherwise than this one, and stays as "
-        "it is",
+        "state/journal was written by ",
         "state/journal holds "};
     struct kept_options options = {.folder = FOLDER, .force = TPMSIM_FORCE_NEVER};
     struct reason reason = {0};

@@ -28,7 +28,7 @@ trap 'keep_journals; rm -rf "$room"' EXIT
 # keep_journals: copies the journals and logs of a test to the folder KEPT_JOURNALS, if that variable is set.
 keep_journals() {
     [ -n "${KEPT_JOURNALS:-}" ] || return 0
-    grep -rlaE '^# (tpmsim journal [12]|image|state) [0-9a-f]{40}' "$room" 2>/dev/null | while read -r journal; do
+    grep -rlaE '^# (tpmsim (journal [12]|v[0-9a-f]{8})|image|state) [0-9a-f]{40}' "$room" 2>/dev/null | while read -r journal; do
         cp "$journal" "$(mktemp "$KEPT_JOURNALS/$(basename "$0" .sh).XXXXXX")"
     done
 }

@@ -23,7 +23,11 @@ BLOCK = re.compile(
 METHOD = re.compile(r"^    (?P<public>pub )?(?:const )?fn (?P<name>\w+)", re.M)
 ASSOCIATED = re.compile(r"^    type (?P<name>\w+)", re.M)
 CASES = re.compile(r"^pub enum (?P<name>\w+)[^{;]*\{\n(?P<body>.*?)^\}", re.M | re.S)
-CASE = re.compile(r"^    (\w+)", re.M)
+CASE = re.compile(r"^    (\w+)(?: \{(.*?)\})?", re.M | re.S)
+STRUCT = re.compile(r"^pub struct (?P<name>\w+)[^{;]*\{\n(?P<body>.*?)^\}", re.M | re.S)
+FIELD = re.compile(r"^    pub (\w+):", re.M)
+CASE_FIELD = re.compile(r"(\w+): ")
+ALIAS = re.compile(r"^pub type (?P<name>\w+)(?:<[^=]*>)? = (?P<text>[^;]+);", re.M)
 MODULE = re.compile(r"^pub mod (\w+);", re.M)
 USE = re.compile(r"^pub use ([^;]+);", re.M)
 CLAUSE = re.compile(r"\s*(requires|ensures)\*?(?: \w+)? (?=\{)")
@@ -47,15 +51,21 @@ class Item:
     name: str
     call: Call | None = None
     members: dict[str, Call | None] = field(default_factory=dict)
-    cases: list[str] = field(default_factory=list)
+    cases: dict[str, list[str]] = field(default_factory=dict)
+    fields: list[str] = field(default_factory=list)
+    alias: str = ""
 
 
 @dataclass(frozen=True)
 class Found:
-    """What a name refers to: its signature if it is a function, and its variants if it is an enum."""
+    """What a name refers to: its signature if it is a function, its variants if it is an enum, its
+    fields if it is a struct or a variant, and the type that an alias stands for.
+    """
 
     call: Call | None
-    cases: tuple[str, ...]
+    cases: tuple[str, ...] = ()
+    fields: tuple[str, ...] = ()
+    alias: str = ""
 
 
 def closing(text: str, start: int) -> int:
@@ -207,15 +217,22 @@ class Crate:
             self.add_members(text)
 
     def add_items(self, text: str, module: str) -> None:
-        """Adds the public items of a file, with the variants of each enum."""
+        """Adds the public items of a file, with the variants of each enum, the public fields of
+        each struct, and the type that each alias stands for.
+        """
+        items = {}
         for found in ITEM.finditer(text):
             if found["public"] or (found["name"] == "main" and not module):
                 call = call_at(text, found.end()) if found["kind"] == "fn" else None
-                self.items.append(Item(module, found["name"], call))
+                items[found["name"]] = Item(module, found["name"], call)
         for found in CASES.finditer(text):
-            for item in self.items:
-                if (item.module, item.name) == (module, found["name"]):
-                    item.cases = CASE.findall(found["body"])
+            cases = {name: CASE_FIELD.findall(body) for name, body in CASE.findall(found["body"])}
+            items[found["name"]].cases = cases
+        for found in STRUCT.finditer(text):
+            items[found["name"]].fields = FIELD.findall(found["body"])
+        for found in ALIAS.finditer(text):
+            items[found["name"]].alias = plain(found["text"])
+        self.items += items.values()
 
     def add_uses(self, text: str, module: str) -> None:
         """Adds the public modules that a file declares, and the names that it re-exports, with
@@ -256,8 +273,8 @@ class Crate:
 def member_of(item: Item, members: list[str]) -> Found | None:
     """Returns the item itself, or the member or variant that `members` names."""
     if not members:
-        return Found(item.call, tuple(item.cases))
+        return Found(item.call, tuple(item.cases), tuple(item.fields), item.alias)
     name = members[0]
     if name in item.members:
-        return Found(item.members[name], ())
-    return Found(None, ()) if name in item.cases else None
+        return Found(item.members[name])
+    return Found(None, (), tuple(item.cases[name])) if name in item.cases else None

@@ -2,10 +2,11 @@
 
     python3 tests/common/public_calls.py ASKED PAGE FOLDER
 
-ASKED lists the requested items. PAGE has tables of the differences between that list and the crates
-in FOLDER. Each requested item must exist in its crate by that name, unless PAGE names a
-replacement, which must exist. Each difference that PAGE lists must be real. The program prints a
-line for each fault. The status is 1 if there is a fault.
+ASKED lists the requested items, after its heading `== The crates` if it has one;
+tests/program/required.txt describes the lines. PAGE has tables of the differences between that list
+and the crates in FOLDER. Each requested item must exist in its crate by that name, unless PAGE
+names a replacement, which must exist. Each difference that PAGE lists must be real. The program
+prints a line for each fault. The status is 1 if there is a fault.
 """
 
 import pathlib
@@ -16,12 +17,15 @@ from dataclasses import dataclass, field
 
 from tests.common.crate_names import Call, Crates
 
+CRATES = "== The crates\n"
 NAMES = ("asked for", "is", "why")
 SHAPES = ("call", "asked for", "is", "why")
 FAULTS = ("fault", "asked for", "is", "why")
-PREMISES = ("call", "premise", "asked for", "why")
+PREMISES = ("call", "premise", "why")
 LINES = ("crate", "asked for", "is", "why")
 PARTS = ("crate", "parts", "why")
+FAULT = re.compile(r"Result<.*, (\w+)>")
+MEMORY = {"NoMemory", "Memory", "AllocError"}
 SELF = re.compile(r"\((?:&mut |&)?self(?:, )?")
 SPAN = re.compile(r"`([^`]+)`")
 TABLE = re.compile(r"^\|(.+)\|\n\|[-|]+\|\n((?:\|.*\|\n)*)", re.M)
@@ -29,33 +33,56 @@ TABLE = re.compile(r"^\|(.+)\|\n\|[-|]+\|\n((?:\|.*\|\n)*)", re.M)
 
 @dataclass
 class Asked:
-    """The requested items: crates with their maximum numbers of lines, functions with their types
-    if known, and enums with their variants.
+    """The requested items. Each dictionary belongs to a kind of line: `limits` to `lines`, and the
+    others to the kind of the same name. A name in a dictionary begins with its crate.
     """
 
     limits: dict[str, int] = field(default_factory=dict)
     calls: dict[str, str] = field(default_factory=dict)
     types: dict[str, list[str]] = field(default_factory=dict)
+    forms: dict[str, str] = field(default_factory=dict)
+    fields: dict[str, list[str]] = field(default_factory=dict)
+    premises: dict[str, list[str]] = field(default_factory=dict)
+    faults: dict[str, list[str]] = field(default_factory=dict)
+    memory: dict[str, list[str]] = field(default_factory=dict)
 
     def calls_of(self, crate: str) -> list[str]:
         """Returns the requested functions of a crate."""
         return [call for call in self.calls if call.startswith(f"{crate}::")]
 
+    def add(self, kind: str, crate: str, name: str, more: str) -> None:
+        """Adds a line of the list: its kind, its crate, its name, and the text after the colon."""
+        path = f"{crate}::{name}" if name else crate
+        match kind:
+            case "lines":
+                self.limits[crate] = int(name)
+            case "call":
+                self.calls[path] = more
+            case "type":
+                self.types[path] = more.split()
+            case "form":
+                self.forms[path] = more
+            case "fields":
+                self.fields[path] = more.split()
+            case "premise":
+                self.premises[path] = more.split(" ; ")
+            case "faults":
+                self.faults[path] = more.split()
+            case "memory":
+                self.memory[path] = [f"{crate}::{call}" for call in more.split()]
+            case _:
+                raise ValueError(f"not a kind of line: {kind}")
+
 
 def read_asked(text: str) -> Asked:
-    """Reads the list of requested items, whose lines begin with `lines`, `call` or `type`."""
+    """Reads the list of requested items."""
     asked = Asked()
-    for line in text.splitlines():
+    for line in (text.partition(CRATES)[2] or text).splitlines():
         if not line or line.startswith("#"):
             continue
-        kind, crate, rest = line.split(maxsplit=2)
-        name, _, more = rest.partition(": ")
-        if kind == "lines":
-            asked.limits[crate] = int(rest)
-        elif kind == "call":
-            asked.calls[f"{crate}::{name}"] = more
-        else:
-            asked.types[f"{crate}::{name}"] = more.split()
+        front, _, more = line.partition(": ")
+        kind, crate, *name = front.rstrip(":").split(maxsplit=2)
+        asked.add(kind, crate, "".join(name), more)
     return asked
 
 
@@ -145,13 +172,21 @@ class Comparison:
                 if not self.crates.find(name):
                     yield f"{name}: not there, as the page says"
 
+    def plain(self, shape: str) -> str:
+        """Replaces each requested type that is an alias by the type that it stands for."""
+        for name in self.asked.types:
+            found = self.crates.find(name)
+            if found and found.alias.isidentifier():
+                shape = re.sub(rf"\b{name.rpartition('::')[2]}\b", found.alias, shape)
+        return shape
+
     def is_as_asked(self, call: Call, asked: str) -> bool:
         """Returns whether a function has the requested types, under their current names."""
         for name, others in self.others.items():
             old, new = name.rpartition("::")[2], others[0].rpartition("::")[2]
             asked = re.sub(rf"\b{old}\b", new, asked)
-        shape = SELF.sub("(", call.shape)
-        return bool(re.fullmatch(re.escape(asked).replace("_", ".+") or ".*", shape))
+        shape = self.plain(SELF.sub("(", call.shape))
+        return bool(re.fullmatch(re.escape(self.plain(asked)).replace("_", ".+") or ".*", shape))
 
     def shapes(self) -> Iterator[str]:
         """Yields the functions whose types are neither the requested ones nor those on the page."""
@@ -190,38 +225,81 @@ class Comparison:
             yield f"{name}: the page says its cases, and it was not asked for"
 
     def premises(self) -> Iterator[str]:
-        """Yields each `requires` clause of a function that the page does not list, and each clause
-        on the page that no function has.
+        """Yields each `requires` clause of a function that neither the list nor the page contains,
+        and each clause on the page that no function has, or that the list contains too.
         """
         told: dict[str, list[str]] = {}
         for row in self.rows(PREMISES):
             for name in self.calls_in(row[0]):
                 told.setdefault(name, []).extend(SPAN.findall(row[1]))
-        for name in self.known:
+        for asked, name in zip(self.asked.calls, self.known):
             call, clauses = self.call(name), told.pop(name, [])
+            allowed = self.asked.premises.get(asked, [])
             premises = call.premises if call else ()
             for premise in premises:
-                if not any(clause in premise for clause in clauses):
+                if not any(clause in premise for clause in [*clauses, *allowed]):
                     yield f"{name}: the page does not name its premise {premise}"
             for clause in clauses:
                 if call and not any(clause in premise for premise in premises):
                     yield f"{name}: it has no premise {clause}"
+                if any(clause in text or text in clause for text in allowed):
+                    yield f"{name}: its premise {clause} was asked for"
         for name in told:
             yield f"{name}: the page names its premise, and it was not asked for"
 
+    def forms(self) -> Iterator[str]:
+        """Yields the types that are not what was requested: aliases of another type, structs or
+        variants with other fields.
+        """
+        for name, asked in self.asked.forms.items():
+            found = self.crates.find(name)
+            form = (found.call.shape if found.call else found.alias) if found else "missing"
+            if form != asked:
+                yield f"{name}: it is {form}, not {asked}"
+        for name, fields in self.asked.fields.items():
+            found = self.crates.find(self.standing(name))
+            if not found or set(found.fields) != set(fields):
+                yield f"{name}: its fields are {', '.join(found.fields) if found else 'missing'}"
+
+    def faults_of(self, name: str) -> set[str]:
+        """Returns the faults of a function: the variants of its error type, or its name if it has
+        none.
+        """
+        call = self.call(self.standing(name))
+        kind = FAULT.search(call.shape) if call else None
+        if not kind:
+            return set()
+        found = self.crates.find(f"{self.standing(name).partition('::')[0]}::{kind[1]}")
+        return set(found.cases) if found and found.cases else {kind[1]}
+
+    def faults(self) -> Iterator[str]:
+        """Yields the crates whose functions have other faults than the requested ones, and the
+        functions that may fail because memory runs out, although they must not.
+        """
+        for crate, faults in self.asked.faults.items():
+            given = {fault for call in self.asked.calls_of(crate) for fault in self.faults_of(call)}
+            if given != set(faults):
+                yield f"{crate}: its faults are {', '.join(sorted(given)) or 'none'}"
+        for crate, calls in self.asked.memory.items():
+            for name in self.asked.calls_of(crate):
+                if name not in calls and self.faults_of(name) & MEMORY:
+                    yield f"{name}: it may fail because memory runs out"
+
     def lines(self) -> Iterator[str]:
-        """Yields the crates that do not exist, and those that have more lines than both the list
-        and the page allow.
+        """Yields the crates that do not exist, and those that have more lines than the list allows,
+        unless the page says exactly how many. A row of the page may name further crates, whose
+        lines count too.
         """
         told = {SPAN.findall(row[0])[0]: row for row in self.rows(LINES)}
         for name, limit in self.asked.limits.items():
-            lines = self.crates.crate(name).lines
+            names = SPAN.findall(told[name][0]) if name in told else [name]
+            lines = sum(self.crates.crate(part).lines for part in names)
             asked, wanted = numbers_of(told[name]) if name in told else (limit, 0)
             if not lines:
                 yield f"{name}: there is no crate of that name"
             if asked != limit:
                 yield f"{name}: the page says that {asked} lines were asked for, not {limit}"
-            if lines > limit and abs(lines - wanted) * 10 > lines:
+            if lines > limit and lines != wanted:
                 yield f"{name}: it has {lines} lines, for {limit}"
             if lines <= limit and name in told:
                 yield f"{name}: the page says that it has more than {limit} lines"
@@ -241,7 +319,8 @@ def main(asked_path: str, page_path: str, folder: str) -> int:
     asked = read_asked(pathlib.Path(asked_path).read_text("utf-8"))
     page = pathlib.Path(page_path).read_text("utf-8")
     compared = Comparison(asked, page, Crates(pathlib.Path(folder)))
-    methods = (compared.names, compared.shapes, compared.cases, compared.premises, compared.lines)
+    methods = [compared.names, compared.shapes, compared.cases, compared.premises]
+    methods += [compared.forms, compared.faults, compared.lines]
     faults = [fault for method in methods for fault in method()]
     for fault in faults:
         print(fault)

@@ -11,11 +11,12 @@ import collections
 import functools
 from collections.abc import Callable, Iterable
 
-from tpmsim.caller import HERE, hmac_key, OPEN, Refused, storage_key
+from tpmsim.caller import HERE, hmac_key, OPEN, Refused, Session, storage_key, Use
 from tpmsim.model.machine import SESSIONS
 from tpmsim.model.object_commands import OBJECTS
 from tpmsim.model.state import CLEAR, STATE
-from tpmsim.standard import CC, command, mac, number, RH_LOCKOUT, RH_OWNER, RH_PLATFORM, SHA256
+from tpmsim.standard import CC, command, mac, number, RH_LOCKOUT, RH_OWNER, RH_PLATFORM, SE_POLICY
+from tpmsim.standard import SHA256
 from tpmsim.standard.handle_kinds import PRIMARY_HIERARCHIES
 from tpmsim.standard.objects import Attribute
 from tests.common.layer import Client, play, run
@@ -56,6 +57,15 @@ def hmac_is_right(client: Client, handle: int, text: bytes) -> bool:
 def numbers(contexts: Iterable[bytes]) -> list[int]:
     """Returns the sequence numbers of contexts."""
     return [int.from_bytes(it[:8], "big") for it in contexts]
+
+
+def done_or_refused(act: Callable[[], object]) -> str:
+    """Returns the response code of a call."""
+    try:
+        act()
+    except Refused as refusal:
+        return f"{refusal.number:03x}"
+    return "000"
 
 
 def refused(act: Callable[[], object]) -> str:
@@ -171,6 +181,25 @@ def cleared(client: Client) -> None:
     print("one of the platform, saved after it:", client.load_code(again))
 
 
+def never_again(client: Client) -> None:
+    """Contexts of each hierarchy that were saved before TPM2_Clear and a TPM Reset are not loaded,
+    although resetCount then has the value that it had when they were saved.
+    """
+    client.restart(CLEAR, CLEAR)
+    client.tpm.call("Clear", RH_PLATFORM, uses=[b""])
+    client.restart(CLEAR, CLEAR)
+    resets = client.device.model.reset_count
+    kept = [client.saved(key(client, hierarchy=it)) for it in PRIMARY_HIERARCHIES]
+    codes = ", ".join(map(client.load_code, kept))
+    print(f"of each hierarchy: {codes}")
+    client.flush(*range(FIRST_OBJECT, FIRST_OBJECT + 2 * len(kept)))
+    client.tpm.call("Clear", RH_PLATFORM, uses=[b""])
+    print(f"after TPM2_Clear: {', '.join(map(client.load_code, kept))}")
+    client.restart(CLEAR, CLEAR)
+    assert client.device.model.reset_count == resets
+    print(f"after a TPM Reset, with the same resetCount: {', '.join(map(client.load_code, kept))}")
+
+
 def cycled(client: Client) -> None:
     """Loads contexts after power cycles: of an object without stClear, of one with stClear, and of
     a session.
@@ -205,6 +234,30 @@ def sessions(client: Client) -> None:
         assert client.loaded(client.saved(handle)) == handle
 
 
+def hidden(client: Client) -> None:
+    """A saved session cannot be used until its context is loaded. It can be flushed."""
+    handle, session = key(client), client.tpm.session()
+    policy = client.tpm.session(kind=SE_POLICY)
+
+    def use(first: Session, *others: Session) -> str:
+        uses = [Use(first), *map(Use, others)]
+        return done_or_refused(
+            lambda: client.tpm.call("HMAC", handle, uses=uses, buffer=b"data", hashAlg=SHA256)
+        )
+
+    def read() -> str:
+        return done_or_refused(lambda: client.tpm.call("PolicyGetDigest", policy.handle))
+
+    print("a session and a policy session:", use(session), read())
+    other = client.tpm.session()
+    kept = [client.saved(it.handle) for it in (session, policy)]
+    print("saved, in an entry and as a handle:", use(session), read())
+    print("saved, in the second entry:", use(other, session))
+    print("loaded again:", *map(client.load_code, kept), use(session), read())
+    client.saved(session.handle)
+    print("saved and flushed:", client.code(flush(session.handle)), use(session))
+
+
 def listed(client: Client) -> None:
     """The lists and counts of objects match the loaded objects, whether they are saved or not."""
 
@@ -223,7 +276,7 @@ def listed(client: Client) -> None:
     assert are_there()
 
 
-TESTS = children, copies, flushed, bent, cleared, cycled, sessions, listed
+TESTS = children, copies, flushed, bent, cleared, never_again, cycled, sessions, hidden, listed
 
 main = functools.partial(play, TESTS, titled=False)
 

@@ -3,7 +3,7 @@
 
        explained LOG
 
-   The second read of an index uses a wrong password. */
+   The completing layer answers two commands. The read of an index uses a wrong password. */
 #include "common.h"
 #include "log_in_c.h"
 
@@ -19,12 +19,18 @@ static const uint8_t WRITE[] = {0x80, 2, 0,    0, 0, 0x2b, 0, 0,   0x01, 0x37, 1
 static const uint8_t READ[] = {0x80, 2, 0, 0, 0, 0x27, 0, 0, 0x01, 0x4e, 1, 0, 0, 1, 1, 0, 0, 1, 0, 0,
                                0, 13, 0x40, 0, 0, 9, 0, 0, 0, 0, 4, 'g', 'o', 'o', 'D', 0, 4, 0, 0};
 
-static void play(FILE *log, const uint8_t *buffer, size_t size) {
+static const uint8_t STIR_RANDOM[] = {0x80, 1, 0, 0, 0, 13, 0, 0, 0x01, 0x46, 0, 1, 7};
+static const uint8_t HASH_SEQUENCE_START[] = {0x80, 1, 0, 0, 0, 14, 0, 0, 0x01, 0x86, 0, 0, 0, 11};
+
+static void play(FILE *log, uint8_t completes, const uint8_t *buffer, size_t size) {
     tpmsim_answered told;
     char text[5];
-    must(!tpmsim_execute(&device, buffer, size, 0, 0, random_bytes, response, &told), "no device");
-    log_command(log, buffer, size, random_bytes, response, &told);
-    printf("%08x by %s\n", told.code, tpmsim_check_text(told.check, text));
+    uint8_t done =
+        completes ? tpmsim_complete(&device, buffer, size, 0, 0, random_bytes, response, &told)
+                  : tpmsim_execute(&device, buffer, size, 0, 0, random_bytes, response, &told);
+    must(done == TPMSIM_DONE, "no device");
+    log_command(log, completes, buffer, size, random_bytes, response, &told);
+    printf("%08x by %s: %03x\n", told.code, tpmsim_check_text(told.check, text), code_of(response));
 }
 
 static void check_texts(void) {
@@ -47,11 +53,14 @@ int main(int count, char **words) {
     count_up(random_bytes, 1);
     must(!tpmsim_manufacture(&device, random_bytes), "no memory");
     log_bytes(log, "# image ", image, tpmsim_save(&device, image, sizeof image));
-    play(log, STARTUP, sizeof STARTUP);
-    play(log, GET_RANDOM, sizeof GET_RANDOM);
-    play(log, DEFINE, sizeof DEFINE);
-    play(log, WRITE, sizeof WRITE);
-    play(log, READ, sizeof READ);
+    play(log, 0, STARTUP, sizeof STARTUP);
+    play(log, 0, GET_RANDOM, sizeof GET_RANDOM);
+    play(log, 1, STIR_RANDOM, sizeof STIR_RANDOM);
+    play(log, 1, HASH_SEQUENCE_START, sizeof HASH_SEQUENCE_START);
+    play(log, 0, STIR_RANDOM, sizeof STIR_RANDOM);
+    play(log, 1, DEFINE, sizeof DEFINE);
+    play(log, 0, WRITE, sizeof WRITE);
+    play(log, 0, READ, sizeof READ);
     must(!fclose(log), "the log is not written");
     tpmsim_free(&device);
 }

@@ -1,9 +1,9 @@
 // A caller in Go that logs what it executes, with the function that
 // docs/LIBRARY.md shows:
 //
-// 	explained LOG
+//	explained LOG
 //
-// It reads an index that nobody has written.
+// The completing layer answers two commands. The last command reads an index that nobody has written.
 package main
 
 // #include "tpmsim.h"
@@ -42,19 +42,29 @@ func main() {
 	}
 	size := C.tpmsim_save(&holder, pointer(image), C.size_t(len(image)))
 	fmt.Fprintf(log, "# image %x\n", image[:size])
-	for _, command := range []string{
-		"8001 0000000c 00000144 0000",
-		"8001 0000000c 0000017b 0010",
-		"8002 0000002d 0000012a 40000001 00000009 40000009 0000 00 0000 0000 " +
-			"000e 01000001 000b 00020002 0000 0008",
-		"8002 00000023 0000014e 40000001 01000001 00000009 40000009 0000 00 0000 0008 0000",
+	for _, it := range []struct {
+		completes bool
+		command   string
+	}{
+		{false, "8001 0000000c 00000144 0000"},
+		{true, "8001 0000000c 0000017b 0010"},
+		{true, "8001 0000000d 00000146 0001 07"},
+		{true, "8001 0000000e 00000186 0000 000b"},
+		{false, "8001 0000000d 00000146 0001 07"},
+		{false, "8002 0000002d 0000012a 40000001 00000009 40000009 0000 00 0000 0000 " +
+			"000e 01000001 000b 00020002 0000 0008"},
+		{false, "8002 00000023 0000014e 40000001 01000001 00000009 40000009 0000 00 0000 0008 0000"},
 	} {
 		var told C.struct_tpmsim_answered
-		buffer := bytes(command)
-		C.tpmsim_execute(&holder, pointer(buffer), C.size_t(len(buffer)), 0, 0, pointer(random),
-			pointer(response), &told)
-		logCommand(log, buffer, random[:told.drawn], response[:told.size])
-		fmt.Printf("%08x by %d\n", told.code, told.check)
+		buffer := bytes(it.command)
+		at, size := pointer(buffer), C.size_t(len(buffer))
+		if it.completes {
+			C.tpmsim_complete(&holder, at, size, 0, 0, pointer(random), pointer(response), &told)
+		} else {
+			C.tpmsim_execute(&holder, at, size, 0, 0, pointer(random), pointer(response), &told)
+		}
+		logCommand(log, it.completes, buffer, random[:told.drawn], response[:told.size])
+		fmt.Printf("%08x by %d: %x\n", told.code, told.check, response[8:10])
 	}
 	C.tpmsim_free(&holder)
 	log.Close()

@@ -3,7 +3,8 @@
 //!
 //!     explained LOG
 //!
-//! It reads an index that nobody has written.
+//! The completing layer answers two commands. The last command reads an index that nobody has
+//! written.
 use std::fs::File;
 use std::io::{self, Write};
 use std::ptr::null_mut;
@@ -23,6 +24,16 @@ struct Answered {
 extern "C" {
     fn tpmsim_manufacture(device: &mut *mut u8, random: &[u8; 256]) -> u8;
     fn tpmsim_execute(
+        device: &mut *mut u8,
+        buffer: *const u8,
+        size: usize,
+        locality: u8,
+        elapsed_ms: u32,
+        random: &[u8; 256],
+        response: &mut [u8; 4096],
+        answered: &mut Answered,
+    ) -> u8;
+    fn tpmsim_complete(
         device: &mut *mut u8,
         buffer: *const u8,
         size: usize,
@@ -53,18 +64,29 @@ fn main() -> io::Result<()> {
         write!(log, "{byte:02x}")?;
     }
     writeln!(log)?;
-    for command in [
-        "8001 0000000c 00000144 0000",
-        "8001 0000000c 0000017b 0010",
-        "8002 0000002d 0000012a 40000001 00000009 40000009 0000 00 0000 0000 \
-         000e 01000001 000b 00020002 0000 0008",
-        "8002 00000023 0000014e 40000001 01000001 00000009 40000009 0000 00 0000 0008 0000",
+    for (completes, command) in [
+        (false, "8001 0000000c 00000144 0000"),
+        (true, "8001 0000000c 0000017b 0010"),
+        (true, "8001 0000000d 00000146 0001 07"),
+        (true, "8001 0000000e 00000186 0000 000b"),
+        (false, "8001 0000000d 00000146 0001 07"),
+        (
+            false,
+            "8002 0000002d 0000012a 40000001 00000009 40000009 0000 00 0000 0000 \
+             000e 01000001 000b 00020002 0000 0008",
+        ),
+        (
+            false,
+            "8002 00000023 0000014e 40000001 01000001 00000009 40000009 0000 00 0000 0008 0000",
+        ),
     ] {
+        let call = if completes { tpmsim_complete } else { tpmsim_execute };
         let (buffer, mut response, mut told) = (bytes(command), [0; 4096], Answered::default());
         let (at, size) = (buffer.as_ptr(), buffer.len());
-        unsafe { tpmsim_execute(&mut device, at, size, 0, 0, &random, &mut response, &mut told) };
-        log_command(&mut log, &buffer, &random[..told.drawn], &response[..told.size])?;
-        println!("{:08x} by {}", told.code, told.check);
+        unsafe { call(&mut device, at, size, 0, 0, &random, &mut response, &mut told) };
+        let (drawn, answer) = (&random[..told.drawn], &response[..told.size]);
+        log_command(&mut log, completes, &buffer, drawn, answer)?;
+        println!("{:08x} by {}: {:02x}{:02x}", told.code, told.check, answer[8], answer[9]);
     }
     unsafe { tpmsim_free(&mut device) };
     Ok(())

@@ -1,16 +1,25 @@
-# A program in Go logs its commands with the function that docs/LIBRARY.md shows. From this log,
-# tools/explain.py explains why a command was refused.
+# A program in Go logs its commands with the function that docs/LIBRARY.md shows, and another one with the Go
+# module. From these logs, tools/explain.py explains why a command was refused. The answers of the completing
+# layer are no refusals.
 tests=$(cd "$(dirname "$0")/.." && pwd -P)
 . "$tests/common/cases.sh"
 . "$tests/common/library.sh"
+. "$tests/common/go.sh"
 needs go python3
+copy_module
 
-export CGO_ENABLED=1 CGO_CFLAGS="-I$dist" CGO_LDFLAGS="-L$dist -l:libtpmsim.a"
-export GOCACHE="$room/cache" GOPATH="$room/path" GO111MODULE=off GOFLAGS=-buildvcs=false
+export CGO_CFLAGS="-I$dist"
 {
     printf 'package main\n\nimport (\n\t"fmt"\n\t"io"\n)\n\n'
     awk '/^```/ { shown = $0 == "```go"; next } shown' "$tests/../docs/LIBRARY.md"
 } >log_in_go.go
 cp "$sources/explained.go" . && go vet explained.go log_in_go.go &&
-    go build -o "$room/caller" explained.go log_in_go.go && "$room/caller" log
+    CGO_LDFLAGS="$CGO_LDFLAGS -l:libtpmsim.a" go build -o "$room/caller" explained.go log_in_go.go &&
+    "$room/caller" log
 python3 "$tests/../tools/explain.py" log
+
+echo '== the module'
+mkdir module/logged && cp "$sources/logged.go" module/logged/main.go && play build -o "$room/logged" ./logged &&
+    "$room/logged" >logged
+grep -c '^# completed$' logged
+python3 "$tests/../tools/explain.py" logged

@@ -1,5 +1,6 @@
-# A program in Rust logs its commands with the function that docs/LIBRARY.md shows. From this log,
-# tools/explain.py explains why a command was refused.
+# A program in Rust logs its commands with the function that docs/LIBRARY.md shows, and another one with the Rust
+# package. From these logs, tools/explain.py explains why a command was refused. The answers of the completing
+# layer are no refusals.
 tests=$(cd "$(dirname "$0")/.." && pwd -P)
 . "$tests/common/cases.sh"
 . "$tests/common/library.sh"
@@ -10,3 +11,11 @@ awk '/^```/ { shown = $0 == "```rust"; next } shown' "$tests/../docs/LIBRARY.md"
 FOLDER=$PWD rustc --edition 2021 -D warnings -L "$dist" -o "$room/caller" "$sources/explained.rs" &&
     "$room/caller" log
 python3 "$tests/../tools/explain.py" log
+
+echo '== the package'
+CARGO_PKG_VERSION='' rustc --edition 2021 --crate-name tpmsim --crate-type rlib -L "$dist" -l static=tpmsim \
+    --out-dir "$room" "$tests/../rust/src/lib.rs" &&
+    rustc --edition 2021 -D warnings --extern "tpmsim=$room/libtpmsim.rlib" -L "$dist" -o "$room/logged" \
+        "$sources/logged.rs" && "$room/logged" >logged
+grep -c '^# completed$' logged
+python3 "$tests/../tools/explain.py" logged

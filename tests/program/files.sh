@@ -18,9 +18,7 @@ run 'an empty script' run empty
 run 'an empty script on standard input' run - <empty
 
 # Files that cannot be read.
-run 'a file that is not there' run missing
 run 'a folder that is not there' run missing/script
-run 'a folder in place of a script' run a_folder
 run 'a file in place of a folder' run script/script
 run 'a folder as standard input' run - <a_folder
 run 'standard input that is closed' run - <&-

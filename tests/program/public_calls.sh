@@ -1,7 +1,7 @@
-# Checks that the crates, functions and types that public_calls.txt requires exist, or that docs/DECISIONS.md
-# names their replacements. That page must list no other replacements. Then the test introduces each kind
-# of mismatch into two small crates, which have their own list and page. public_calls.py must report each
-# mismatch. shellcheck disable=SC2016 # the backquotes belong to a document
+# Checks that the crates, functions and types that the second part of required.txt requires exist, or that
+# docs/DECISIONS.md names their replacements. That page must list no other replacements. Then the test introduces
+# each kind of mismatch into two small crates, which have their own list and page. public_calls.py must report
+# each mismatch. shellcheck disable=SC2016 # the backquotes belong to a document
 tests=$(cd "$(dirname "$0")/.." && pwd -P)
 . "$tests/common/cases.sh"
 needs python3
@@ -14,7 +14,7 @@ compare() {
 }
 
 echo '== docs/DECISIONS.md'
-compare "$tests/program/public_calls.txt" "$top/docs/DECISIONS.md" "$top"
+compare "$tests/program/required.txt" "$top/docs/DECISIONS.md" "$top"
 
 mkdir -p right/crates/one/src right/crates/two/src
 cd right || exit 1
@@ -66,7 +66,33 @@ pub trait Open {
 END
 printf 'pub mod rows;\n\npub fn passed() {}\n' >crates/two/src/lib.rt
 echo 'pub fn row() {}' >crates/two/src/rows.rt
+mkdir -p crates/three/src
+cat >crates/three/src/lib.rt <<'END'
+pub struct Pair {
+    pub left: u8,
+    pub right: u8,
+    inner: u8,
+}
+
+pub enum Fault {
+    Late { hour: u8, minute: u8 },
+    NoMemory,
+}
+
+pub type Other = Pair;
+pub type Both = ArrayVec<Pair, 2>;
+
+pub fn take(pair: Pair) -> Result<Other, Fault>
+    requires left { pair.left ≢ 0 }
+{
+}
+
+pub fn give(pair: &Pair) -> Result<(), Empty> {
+}
+END
 cat >asked.txt <<'END'
+call four made
+== The crates
 lines one 40
 lines two 3
 call one Thing::get
@@ -78,6 +104,18 @@ call two row
 type one Thing: One Three
 type one Open::Section
 type one Open::All
+lines three 30
+call three take: (Pair) -> Result<Other, Fault>
+call three give: (&Other) -> Result<(), Empty>
+type three Other
+fields three Pair: left right
+fields three Fault::Late: hour minute
+form three Both: ArrayVec<Pair, 2>
+premise three take: right ≢ 0 ; left ≢ 0
+faults three: Late NoMemory Empty
+faults two
+memory three: take
+memory two
 END
 cat >page.md <<'END'
 | asked for | is | why |
@@ -93,9 +131,9 @@ cat >page.md <<'END'
 |---|---|---|---|
 | `one::Thing` | `One`, `Three` | `One`, `Two` | None. |
 
-| call | premise | asked for | why |
-|---|---|---|---|
-| `one::Thing::get` | `number <`, `≢ 2` | no | None. |
+| call | premise | why |
+|---|---|---|
+| `one::Thing::get` | `number <`, `≢ 2` | None. |
 
 | crate | asked for | is | why |
 |---|---|---|---|
@@ -154,5 +192,22 @@ turn crates/one/src/inner.rt 's/Two(u8)/Four/'
 turn crates/one/src/open.rt 's/begin(&mut self)/& requires { true }/'
 turn crates/two/src/lib.rt 's/passed()/& -> usize/'
 turn page.md 's/| 4 |/| 5 |/'
-turn asked.txt 's/lines one/lines three/'
+turn asked.txt 's/lines one/lines five/'
 report_turned 'other shapes, cases, premises and lines'
+
+turn crates/three/src/lib.rt 's/pub right/right/'
+turn crates/three/src/lib.rt 's/, minute: u8//'
+turn crates/three/src/lib.rt 's/ArrayVec<Pair, 2>/ArrayVec<Pair, 3>/'
+turn crates/three/src/lib.rt 's/pair.left ≢ 0/pair.left ≢ 1/'
+turn asked.txt 's/^faults two/faults two: Empty/'
+turn asked.txt 's/^memory three: take/memory three: give/'
+report_turned 'other fields, aliases and faults'
+
+turn crates/three/src/lib.rt 's/Other = Pair/Other = Both/'
+turn crates/three/src/lib.rt 's/struct Pair/struct Twin/'
+turn asked.txt 's/NoMemory Empty/NoMemory/'
+# shellcheck disable=SC2016 # the backticks are those of the page
+turn page.md 's/^| `one::Thing::get`.*no.*$/&/; s/^| `one::Thing::get` | `number.*$/&\n| `three::take` | `left ≢ 0` | None. |/'
+# shellcheck disable=SC2016 # the backticks are those of the page
+turn page.md 's/^| `two` | 3 | 4/| `two`, `three` | 3 | 4/'
+report_turned 'an alias of another type, a premise that was asked for, and lines of two crates'

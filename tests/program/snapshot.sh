@@ -69,7 +69,7 @@ same_device 'the snapshots then' later again
 
 # A journal that begins with a state text can be executed again, and printed as a script.
 "$program" replay second/journal >again && same 'what is answered again' answers again
-"$program" script second | sed -n '1s/\(journal 2\) .*/\1/p; 3p'
+"$program" script second | sed -n '1s/\(tpmsim v[0-9a-f]*\) .*/\1/p; 3p'
 
 # The device is replaced while a process uses it. That process continues with the restored device.
 mkfifo input

@@ -88,5 +88,6 @@ run 'keep -1' power --keep -1 state
 run 'keep nothing' power --keep= state
 run 'keep with an image' run --image image --keep 1 -
 run 'keep without a place' run --keep 1 -
-run 'keep with a served image' serve --socket socket --image image --keep 1 --connections 0
+run 'keep with a served image' serve --socket socket --image image --entropy /dev/urandom --locality 0 \
+    --connections 0 --keep 1
 run 'keep of a snapshot' snapshot --keep 1 state

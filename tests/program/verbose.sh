@@ -34,8 +34,10 @@ both 'no state text' restore state none
 both 'a file that is no state text' restore state empty
 both 'no journal' replay none
 both 'a file that is no journal' replay empty
-both 'a log that is there' serve --socket socket --image image --log script --connections 0
-both 'a socket in no folder' serve --socket none/socket --image image --connections 0
+both 'a log that is there' serve --socket socket --image image --log script --entropy /dev/urandom --locality 0 \
+    --connections 0
+both 'a socket in no folder' serve --socket none/socket --image image --entropy /dev/urandom --locality 0 \
+    --connections 0
 both 'random bytes that are not there' serve --socket socket --state state --entropy none
 both 'a usage' run
 both 'a line' asm Bogus

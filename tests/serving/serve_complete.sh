@@ -38,6 +38,6 @@ sed 's/^/    /' again
 "$program" replay without | grep -v '[^0-9a-f]' | sed 's/^/    /'
 
 # An image cannot store the state of the completing layer.
-run 'an image' serve --socket socket --image image --complete --connections 0
+run 'an image' serve --socket socket --image image --entropy /dev/urandom --locality 0 --connections 0 --complete
 run 'neither' serve --socket socket --complete --connections 0
 run 'a script' run --state state --complete -

@@ -1,12 +1,10 @@
-# Tests the command lines of `tpmsim serve`, and files that it cannot use. The program first checks the command
-# line, then the image, the random bytes and the socket, and finally each connection.
+# Tests command lines of `tpmsim serve`, and files that it cannot use, which required.txt does not have.
 common=$(cd "$(dirname "$0")/.." && pwd -P)/common
 tests=$(cd "$(dirname "$0")/.." && pwd -P)
 . "$tests/common/cases.sh"
 needs python3
 
 startup=80010000000c000001440000
-random=80010000000c0000017b0004
 small=
 
 head -c 768 /dev/zero >entropy
@@ -48,63 +46,18 @@ talk() {
     [ ! -e socket ] || echo '    the socket is still there'
 }
 
-# Options in a different order, and numbers with leading zeros.
+# Numbers with leading zeros, a number without digits, and words that `serve` does not take.
 serve 'no connection'
-run 'options in another order' serve --connections 00 --locality 04 --entropy entropy \
-    --image image --socket socket
-run 'options with =' serve --connections=0 --locality=4 --entropy=entropy --image=image \
-    --socket=socket
-
-# Bad command lines.
-run 'no options' serve
-run 'no socket' serve --image image --entropy entropy --locality 0 --connections 0
-run 'no image' serve --socket socket --entropy entropy --locality 0 --connections 0
+serve 'leading zeros' --connections 00 --locality 04
 serve 'a word too many' more
-serve 'another option' --trace
-serve 'an option twice' --locality 0 --locality 0
-serve 'locality 5' --locality 5
-serve 'locality 256' --locality 256
-serve 'a locality that is no number' --locality x
-serve 'a locality with a sign' --locality +1
-serve 'no digits' --locality ''
-serve '2^32 connections' --connections 4294967296
-serve 'a number of connections with a sign' --connections -1
-serve 'a hex number of connections' --connections 0x1
+serve 'no digits' --connections ''
 
-# The order of the checks: the command line before the image, the image before the random bytes, and the random
-# bytes before the socket.
-serve 'a bad locality, and no image' --locality 5 --image a_folder
-serve 'no image, and no random bytes' --image a_folder --entropy missing
-serve '2^32 - 1 connections, and no random bytes' --connections 4294967295 --entropy missing
-serve 'no random bytes, and no socket' --entropy missing --socket a_folder
-head -c 255 /dev/zero >few
-serve 'too few random bytes for a new device, and no socket' --entropy few --socket a_folder
-
-# Images that can be read, and files that are not images.
+# An image that can be read, and paths of an image, of random bytes and of a socket that cannot be used.
 talk 'the image of a new device' "$startup"
 echo "    $(($(wc -c <image))) bytes"
-for kind in none '41 bytes' cut longer magic version digest body; do
-    python3 "$common/damage.py" image "$kind" >damaged
-    serve "an image with this damage: $kind" --image damaged
-done
-: >empty
-serve 'an empty file' --image empty
-serve 'a folder in place of an image' --image a_folder
-serve 'a file in place of a folder' --image empty/image
-
-# The random bytes are missing, or too few to manufacture the device or to execute a command. The device is
-# saved before the program ends.
-serve 'no random bytes' --entropy missing
-rm -f image
-serve 'too few for a new device' --entropy few
-serve 'a folder of random bytes' --entropy a_folder
-talk 'random bytes for two commands' "$startup" "$random" "$random"
-[ -e image ] && echo '    an image is there'
-talk 'with an image for three' "$startup" "$random" "$random" "$random"
-
-# Sockets that cannot be created.
-serve 'a folder in place of a socket' --socket a_folder
-serve 'a socket in no folder' --socket missing/socket
+serve 'the image' --image image
+serve 'a file in place of a folder' --image image/image
+serve 'a folder of random bytes' --image new --entropy a_folder
 serve 'a path that is too long' --socket "$(printf '%0108d' 0)"
 
 # An image that is too large to be written, because it contains an NV index of 1,024 bytes. The old image
@@ -116,8 +69,4 @@ cp image kept
 small=small
 talk 'no room for the new image' "$startup"
 small=
-cmp image kept && echo '    the image is as it was'
-rm -f image.new
-mkdir image.new
-talk 'a folder in place of the new image' "$startup"
 cmp image kept && echo '    the image is as it was'

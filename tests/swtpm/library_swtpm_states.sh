@@ -113,6 +113,13 @@ for name in $(python3 "$tests/swtpm/volatile_states.py" bend volatile bent); do
     printf 'set volatile bent/%s\n' "$name" | play
 done
 
+label "a permanent state of swtpm's own libtpms"
+mkdir libtpms
+printf '\0\3\253\066\107\043\0\3\0\3\311\352\144\061' >libtpms/permall
+cp libtpms/permall libtpms/before
+(cd libtpms && printf 'on\n' | play)
+cmp libtpms/permall libtpms/before && echo 'what was kept is as it was'
+
 label 'a bad state takes the others with it'
 play <<END
 set permanent other/permall

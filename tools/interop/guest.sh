@@ -2,7 +2,8 @@
 # Boots Linux guests in QEMU, whose TPM is tpmsim in swtpm. The firmware is SeaBIOS or OVMF, each with tpm-tis
 # and tpm-crb. Firmware and kernel must leave the same PCR values as with swtpm's own libtpms. The guest extends
 # a PCR, seals data to it, hashes a file with a sequence, sleeps and wakes (S3), reboots and unseals the data.
-# In another run of QEMU, the guest unseals the data again. Then a running guest is saved with its TPM, and
+# After it has slept, the guest uses contexts from before, and a process that holds /dev/tpmrm0 goes on. In
+# another run of QEMU, the guest unseals the data again. Then a running guest is saved with its TPM, and
 # continues in another QEMU. Not part of the gate, because it takes minutes. It installs nothing, and leaves only
 # its folder, if one is named.
 #
@@ -142,14 +143,16 @@ check() {
 # the same.
 replays() {
     for record in "$folder/$1"/record/*.tpm; do
-        if python3 - "$attached/libtpms.so.0" "$record" <<'END'; then
+        if python3 - "$top/dist/libtpmsim.so.0" "$record" <<'END'; then
 import ctypes
 import sys
 
 library, record = sys.argv[1:]
-text = open(record, "rb").read() + b"# the end\n"
-volatile_state = 2
-sys.exit(ctypes.CDLL(library).TPMLIB_SetState(volatile_state, text, len(text)))
+text = open(record, "rb").read()
+device, taken, size = ctypes.c_void_p(), ctypes.c_size_t(), ctypes.c_size_t(len(text))
+journal_open = ctypes.CDLL(library).tpmsim_journal_open
+told = journal_open(ctypes.byref(device), text, size, ctypes.byref(taken))
+sys.exit(told != 0 or taken.value != len(text))
 END
             ok "$1: $(basename "$record") plays again, $(grep -c '^cmd' "$record") commands"
         else
@@ -175,7 +178,7 @@ combination() {
         diff "$folder/wanted" "$folder/given"
     fi
     boot "$name-first" tpmsim "$name-state" 'guest=work sleep'
-    check "$name-first" 2 23
+    check "$name-first" 2 26
     boot "$name-again" tpmsim "$name-state" guest=work
     check "$name-again" 1 5
     for run in "$name-pcrs" "$name-first" "$name-again"; do replays "$run"; done

@@ -7,7 +7,8 @@
 #   move   extends PCR 20 from locality 2, waits while its machine moves to another QEMU, extends PCR 20 again,
 #          and extends PCR 15 from locality 0
 #   work   prints the PCRs too. Then it makes an NV index and a sealed object, and reboots. If these two
-#          already exist, it opens them. With `sleep` it sleeps in between (S3)
+#          already exist, it opens them. With `sleep` it sleeps in between (S3). This script then holds
+#          /dev/tpmrm0 open, with an object, and uses the object after it has slept
 /bin/busybox mkdir -p /proc /sys /dev /tmp /bin /sbin
 /bin/busybox --install -s /bin
 mount -t proc proc /proc
@@ -40,6 +41,33 @@ same() {
     else
         result FAILED "$1: $(head -c 80 output)"
     fi
+}
+
+# ask HEX: sends a command to the resource manager through descriptor 3, and sets `answer` to the response.
+ask() {
+    # shellcheck disable=SC2059 # the format is the command
+    printf "$(echo "$1" | sed 's/../\\x&/g')" 2>error >&3
+    answer=$(dd bs=4096 count=1 <&3 2>>error | od -An -v -tx1 | tr -d ' \n')
+}
+
+# hold: opens the resource manager, and makes a storage key with TPM2_CreatePrimary. Sets `public` to the
+# response of TPM2_ReadPublic.
+hold() {
+    exec 3<>/dev/tpmrm0
+    ask 80020000003b00000131400000010000000940000009000001000000040000000000120025000b00030472000000060080004300\
+00000000000000
+    reading=80010000000e00000173$(echo "$answer" | cut -c 21-28)
+    ask "$reading"
+    public=$answer
+}
+
+# is_held LABEL: reports whether the object that `hold` made can still be read.
+is_held() {
+    ask "$reading"
+    case $answer in
+    ????????????00000000*) [ "$answer" != "$public" ] || { result ok "$1" && return; } ;;
+    esac
+    result FAILED "$1: $answer $(tail -n 1 error)"
 }
 
 off() {
@@ -125,12 +153,16 @@ same 'its digest is right' "$(sha256sum large | cut -d ' ' -f 1)"
 TPM2TOOLS_TCTI=device:/dev/tpm0
 
 if grep -q sleep /proc/cmdline; then
+    hold
     echo +3 >/sys/class/rtc/rtc0/wakealarm
     echo deep >/sys/power/mem_sleep
     if echo mem >/sys/power/state; then result ok 'it slept'; else result FAILED 'it slept'; fi
     tool 'what is sealed is opened after that, by the PCR that was extended' \
         unseal -c 0x81000002 -p pcr:sha256:15
     same 'it is what was sealed' disk-key
+    tool 'the object of a context from before is used' unseal -c sealed -p pcr:sha256:15
+    same 'it is what was sealed' disk-key
+    is_held 'a process that held the resource manager still has its object'
 fi
 sync
 reboot -f

@@ -44,3 +44,4 @@ pub use tpm_actions_policy::policy_password::policy_password;
 pub use tpm_actions_policy::policy_pcr::policy_pcr;
 pub use tpm_actions_policy::policy_restart::policy_restart;
 pub use tpm_actions_policy::policy_secret::policy_secret;
+pub use tpm_record::rows::answer::Answer;

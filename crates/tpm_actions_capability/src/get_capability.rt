@@ -2,7 +2,6 @@
 //! `specs/GetCapability`.
 
 ghost use Rattle.std.specs.Prelude.{◌≡◌, []};
-ghost use Rattle.tpm_record.specs.rows.Answer.{IsEmpty};
 ghost use Rattle.tpm_record.specs.rows.Request.{request_of};
 ghost use Rattle.tpm_record.specs.rows.Rows.{Acts};
 ghost use Rattle.tpm_actions_capability.specs.Element.{listing};
@@ -188,10 +187,10 @@ pub fn get_capability<K: Keep>(
     call: &Call,
     answer: &mut Answer,
 ) -> Result<(), Refused>
-    requires { IsEmpty answer.old }
     ensures { Acts (get_capability_row (K.record_of keep.old) (request_of call.now))
         (K.record_of keep.old) result answer.new (K.record_of keep.new) }
 {
+    answer.clear();
     let asked = read_parameters(call.parameters)?;
     let text = &mut answer.parameters;
     match Capability::of(asked.capability)? {

@@ -2,7 +2,6 @@
 //! indices (specified in `specs/Clear`).
 
 ghost use Rattle.std.specs.Prelude.{◌≡◌};
-ghost use Rattle.tpm_record.specs.rows.Answer.{IsEmpty};
 ghost use Rattle.tpm_record.specs.rows.Request.{request_of};
 ghost use Rattle.tpm_record.specs.rows.Rows.{Acts};
 ghost use Rattle.tpm_actions_device.specs.Clear.{clear_row, cleared_fixed};
@@ -38,10 +37,10 @@ fn clear_fixed(fixed: &mut Fixed, random: &[u8; 256])
 /// counter is at its maximum.
 #[tactic(auto, unfolding(crate::specs::Clear::clear_row))]
 pub fn clear<K: Keep>(keep: &mut K, call: &Call, answer: &mut Answer) -> Result<(), Refused>
-    requires { IsEmpty answer.old }
     ensures { Acts (clear_row (K.record_of keep.old) (request_of call.now))
         (K.record_of keep.old) result answer.new (K.record_of keep.new) }
 {
+    answer.clear();
     end(&Cursor::new(call.parameters))?;
     if keep.fixed().disable_clear {
         return Err(action_refusal(ActionCheck::First, ResponseCode::Disabled.anywhere()));

@@ -1,7 +1,6 @@
 //! TPM2_ClearControl: disables or enables TPM2_Clear (specified in `specs/ClearControl`).
 
 ghost use Rattle.std.specs.Prelude.{◌≡◌};
-ghost use Rattle.tpm_record.specs.rows.Answer.{IsEmpty};
 ghost use Rattle.tpm_actions_device.specs.ClearControl.{clear_control_row};
 ghost use Rattle.tpm_record.specs.rows.Request.{request_of};
 ghost use Rattle.tpm_record.specs.rows.Rows.{Acts};
@@ -17,15 +16,11 @@ use tpm_types_common::{ActionCheck, Handle, Refused, ResponseCode, read_yes_no};
 /// TPM2_ClearControl: disables or enables TPM2_Clear. Returns AUTH_FAIL if TPM_RH_LOCKOUT is used
 /// to enable TPM2_Clear.
 #[tactic(auto, unfolding(crate::specs::ClearControl::clear_control_row))]
-pub fn clear_control<K: Keep>(
-    keep: &mut K,
-    call: &Call,
-    _answer: &mut Answer,
-) -> Result<(), Refused>
-    requires { IsEmpty _answer.old }
+pub fn clear_control<K: Keep>(keep: &mut K, call: &Call, answer: &mut Answer) -> Result<(), Refused>
     ensures { Acts (clear_control_row (K.record_of keep.old) (request_of call.now))
-        (K.record_of keep.old) result _answer.new (K.record_of keep.new) }
+        (K.record_of keep.old) result answer.new (K.record_of keep.new) }
 {
+    answer.clear();
     let handle = call.first_handle()?;
     let mut text = Cursor::new(call.parameters);
     let disables = parameter(1, read_yes_no(&mut text))?;

@@ -1,7 +1,6 @@
 //! TPM2_DictionaryAttackLockReset: resets the number of failed tries (specified in
 //! `specs/DictionaryAttackLockReset`).
 
-ghost use Rattle.tpm_record.specs.rows.Answer.{IsEmpty};
 ghost use Rattle.tpm_actions_device.specs.DictionaryAttackLockReset.{dictionary_attack_lock_reset_row};
 ghost use Rattle.tpm_record.specs.rows.Request.{request_of};
 ghost use Rattle.tpm_record.specs.rows.Rows.{Acts};
@@ -18,12 +17,12 @@ use tpm_types_common::Refused;
 pub fn dictionary_attack_lock_reset<K: Keep>(
     keep: &mut K,
     call: &Call,
-    _answer: &mut Answer,
+    answer: &mut Answer,
 ) -> Result<(), Refused>
-    requires { IsEmpty _answer.old }
     ensures { Acts (dictionary_attack_lock_reset_row (K.record_of keep.old) (request_of call.now))
-        (K.record_of keep.old) result _answer.new (K.record_of keep.new) }
+        (K.record_of keep.old) result answer.new (K.record_of keep.new) }
 {
+    answer.clear();
     end(&Cursor::new(call.parameters))?;
     keep.fixed_mut().lockout.reset();
     Ok(())

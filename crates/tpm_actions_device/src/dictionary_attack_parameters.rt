@@ -2,7 +2,6 @@
 //! recovery times (specified in `specs/DictionaryAttackParameters`).
 
 ghost use Rattle.std.specs.Prelude.{◌≡◌};
-ghost use Rattle.tpm_record.specs.rows.Answer.{IsEmpty};
 ghost use Rattle.tpm_actions_device.specs.DictionaryAttackParameters.{dictionary_attack_parameters_row, lockout_parameters};
 ghost use Rattle.tpm_record.specs.rows.Request.{request_of};
 ghost use Rattle.tpm_record.specs.rows.Rows.{Acts};
@@ -44,12 +43,12 @@ fn read_parameters(parameters: &[u8]) -> Result<AttackParameters, Refused>
 pub fn dictionary_attack_parameters<K: Keep>(
     keep: &mut K,
     call: &Call,
-    _answer: &mut Answer,
+    answer: &mut Answer,
 ) -> Result<(), Refused>
-    requires { IsEmpty _answer.old }
     ensures { Acts (dictionary_attack_parameters_row (K.record_of keep.old) (request_of call.now))
-        (K.record_of keep.old) result _answer.new (K.record_of keep.new) }
+        (K.record_of keep.old) result answer.new (K.record_of keep.new) }
 {
+    answer.clear();
     let asked = read_parameters(call.parameters)?;
     let lockout = &mut keep.fixed_mut().lockout;
     lockout.set_parameters(asked.max_tries, asked.recovery_time, asked.lockout_recovery);

@@ -4,7 +4,6 @@
 ghost use Rattle.std.specs.Prelude.{◌≡◌};
 ghost use Rattle.tpm_actions_device.specs.FlushContext.{can_be_flushed, flush_context_row, flushed_from, is_loaded};
 ghost use Rattle.tpm_types_common.specs.Handle.{is_session};
-ghost use Rattle.tpm_record.specs.rows.Answer.{IsEmpty};
 ghost use Rattle.tpm_record.specs.rows.Request.{request_of};
 ghost use Rattle.tpm_record.specs.rows.Rows.{Acts};
 
@@ -42,15 +41,11 @@ fn is_loaded<K: Keep>(keep: &K, handle: Handle) -> bool
 
 /// TPM2_FlushContext: ends a session, or removes a transient object.
 #[tactic(auto, unfolding(crate::specs::FlushContext::flush_context_row))]
-pub fn flush_context<K: Keep>(
-    keep: &mut K,
-    call: &Call,
-    _answer: &mut Answer,
-) -> Result<(), Refused>
-    requires { IsEmpty _answer.old }
+pub fn flush_context<K: Keep>(keep: &mut K, call: &Call, answer: &mut Answer) -> Result<(), Refused>
     ensures { Acts (flush_context_row (K.record_of keep.old) (request_of call.now))
-        (K.record_of keep.old) result _answer.new (K.record_of keep.new) }
+        (K.record_of keep.old) result answer.new (K.record_of keep.new) }
 {
+    answer.clear();
     let mut parameters = Cursor::new(call.parameters);
     let number = number(1, parameters.u32())?;
     end(&parameters)?;

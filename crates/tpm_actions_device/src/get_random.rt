@@ -1,6 +1,5 @@
 //! TPM2_GetRandom: returns random bytes, at most 32 (specified in `specs/GetRandom`).
 
-ghost use Rattle.tpm_record.specs.rows.Answer.{IsEmpty};
 ghost use Rattle.tpm_actions_device.specs.GetRandom.{get_random_row};
 ghost use Rattle.tpm_record.specs.rows.Request.{request_of};
 ghost use Rattle.tpm_record.specs.rows.Rows.{Acts};
@@ -18,10 +17,10 @@ const RANDOM_LIMIT: usize = 32;
 /// TPM2_GetRandom: returns the requested number of random bytes, at most 32.
 #[tactic(auto, unfolding(crate::specs::GetRandom::get_random_row))]
 pub fn get_random<K: Keep>(_keep: &mut K, call: &Call, answer: &mut Answer) -> Result<(), Refused>
-    requires { IsEmpty answer.old }
     ensures { Acts (get_random_row (K.record_of _keep.old) (request_of call.now))
         (K.record_of _keep.old) result answer.new (K.record_of _keep.new) }
 {
+    answer.clear();
     let mut parameters = Cursor::new(call.parameters);
     let requested = number(1, parameters.u16())?;
     end(&parameters)?;

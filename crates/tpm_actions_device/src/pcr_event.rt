@@ -2,7 +2,6 @@
 //! (specified in `specs/PcrEvent`).
 
 ghost use Rattle.tpm_actions_device.specs.PcrEvent.{pcr_event_row};
-ghost use Rattle.tpm_record.specs.rows.Answer.{IsEmpty};
 ghost use Rattle.tpm_record.specs.rows.Request.{request_of};
 ghost use Rattle.tpm_record.specs.rows.Rows.{Acts};
 
@@ -19,10 +18,10 @@ use tpm_types_common::{DATA_LIMIT, Refused, read_buffer};
 /// TPM_RH_NULL, the command checks and changes no PCR, but still returns the digests.
 #[tactic(auto, unfolding(crate::specs::PcrEvent::pcr_event_row))]
 pub fn pcr_event<K: Keep>(keep: &mut K, call: &Call, answer: &mut Answer) -> Result<(), Refused>
-    requires { IsEmpty answer.old }
     ensures { Acts (pcr_event_row (K.record_of keep.old) (request_of call.now))
         (K.record_of keep.old) result answer.new (K.record_of keep.new) }
 {
+    answer.clear();
     let handle = call.first_handle()?;
     let mut parameters = Cursor::new(call.parameters);
     let event = parameter(1, read_buffer(&mut parameters, DATA_LIMIT))?;

@@ -3,7 +3,6 @@
 
 ghost use Rattle.std.specs.Prelude.{◌≡◌};
 ghost use Rattle.tpm_actions_device.specs.PcrExtend.{pcr_extend_row};
-ghost use Rattle.tpm_record.specs.rows.Answer.{IsEmpty};
 ghost use Rattle.tpm_record.specs.rows.Request.{request_of};
 ghost use Rattle.tpm_record.specs.rows.Rows.{Acts};
 
@@ -18,11 +17,11 @@ use tpm_types_common::{DigestValues, Refused};
 /// TPM2_PCR_Extend: extends a PCR with each digest in turn. With TPM_RH_NULL, the command checks
 /// and changes no PCR.
 #[tactic(auto, unfolding(crate::specs::PcrExtend::pcr_extend_row))]
-pub fn pcr_extend<K: Keep>(keep: &mut K, call: &Call, _answer: &mut Answer) -> Result<(), Refused>
-    requires { IsEmpty _answer.old }
+pub fn pcr_extend<K: Keep>(keep: &mut K, call: &Call, answer: &mut Answer) -> Result<(), Refused>
     ensures { Acts (pcr_extend_row (K.record_of keep.old) (request_of call.now))
-        (K.record_of keep.old) result _answer.new (K.record_of keep.new) }
+        (K.record_of keep.old) result answer.new (K.record_of keep.new) }
 {
+    answer.clear();
     let handle = call.first_handle()?;
     let mut parameters = Cursor::new(call.parameters);
     let digests = parameter(1, DigestValues::read(&mut parameters))?;

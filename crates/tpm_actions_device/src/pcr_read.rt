@@ -6,7 +6,6 @@ ghost use Rattle.std.specs.Int.{w32, to_be_bytes};
 ghost use Rattle.tpm_types_common.specs.DigestList.{digest_list_text, digests_of};
 ghost use Rattle.tpm_types_common.specs.PcrSelection.{selection_text};
 ghost use Rattle.tpm_actions_device.specs.PcrRead.{pcr_read_row};
-ghost use Rattle.tpm_record.specs.rows.Answer.{IsEmpty};
 ghost use Rattle.tpm_record.specs.rows.Request.{request_of};
 ghost use Rattle.tpm_record.specs.rows.Rows.{Acts};
 
@@ -34,10 +33,10 @@ fn write_reading(update_count: u64, reading: &PcrReading, answer: &mut Parameter
 /// selection of exactly these PCRs.
 #[tactic(auto, unfolding(crate::specs::PcrRead::pcr_read_row))]
 pub fn pcr_read<K: Keep>(keep: &mut K, call: &Call, answer: &mut Answer) -> Result<(), Refused>
-    requires { IsEmpty answer.old }
     ensures { Acts (pcr_read_row (K.record_of keep.old) (request_of call.now))
         (K.record_of keep.old) result answer.new (K.record_of keep.new) }
 {
+    answer.clear();
     let mut parameters = Cursor::new(call.parameters);
     let selection = parameter(1, PcrSelection::read(&mut parameters))?;
     end(&parameters)?;

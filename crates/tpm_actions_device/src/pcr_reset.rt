@@ -2,7 +2,6 @@
 
 ghost use Rattle.std.specs.Prelude.{◌≡◌};
 ghost use Rattle.tpm_actions_device.specs.PcrReset.{pcr_reset_row};
-ghost use Rattle.tpm_record.specs.rows.Answer.{IsEmpty};
 ghost use Rattle.tpm_record.specs.rows.Request.{request_of};
 ghost use Rattle.tpm_record.specs.rows.Rows.{Acts};
 
@@ -16,11 +15,11 @@ use tpm_types_common::Refused;
 
 /// TPM2_PCR_Reset: resets a PCR to zeros in both banks.
 #[tactic(auto, unfolding(crate::specs::PcrReset::pcr_reset_row))]
-pub fn pcr_reset<K: Keep>(keep: &mut K, call: &Call, _answer: &mut Answer) -> Result<(), Refused>
-    requires { IsEmpty _answer.old }
+pub fn pcr_reset<K: Keep>(keep: &mut K, call: &Call, answer: &mut Answer) -> Result<(), Refused>
     ensures { Acts (pcr_reset_row (K.record_of keep.old) (request_of call.now))
-        (K.record_of keep.old) result _answer.new (K.record_of keep.new) }
+        (K.record_of keep.old) result answer.new (K.record_of keep.new) }
 {
+    answer.clear();
     let handle = call.first_handle()?;
     end(&Cursor::new(call.parameters))?;
     if let Some(pcr) = handle.pcr() {

@@ -2,7 +2,6 @@
 //! `specs/ReadClock`).
 
 ghost use Rattle.std.specs.Prelude.{◌≡◌};
-ghost use Rattle.tpm_record.specs.rows.Answer.{IsEmpty};
 ghost use Rattle.tpm_actions_device.specs.ReadClock.{read_clock_row};
 ghost use Rattle.tpm_record.specs.rows.Request.{request_of};
 ghost use Rattle.tpm_record.specs.rows.Rows.{Acts};
@@ -18,10 +17,10 @@ use tpm_types_common::Refused;
 /// back.
 #[tactic(auto, unfolding(crate::specs::ReadClock::read_clock_row))]
 pub fn read_clock<K: Keep>(keep: &mut K, call: &Call, answer: &mut Answer) -> Result<(), Refused>
-    requires { IsEmpty answer.old }
     ensures { Acts (read_clock_row (K.record_of keep.old) (request_of call.now))
         (K.record_of keep.old) result answer.new (K.record_of keep.new) }
 {
+    answer.clear();
     end(&Cursor::new(call.parameters))?;
     let fixed = keep.fixed();
     let text = &mut answer.parameters;

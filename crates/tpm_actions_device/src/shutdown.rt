@@ -1,7 +1,6 @@
 //! TPM2_Shutdown: saves the state that the next TPM2_Startup uses (specified in `specs/Shutdown`).
 
 ghost use Rattle.std.specs.Prelude.{◌≡◌};
-ghost use Rattle.tpm_record.specs.rows.Answer.{IsEmpty};
 ghost use Rattle.tpm_record.specs.rows.Request.{request_of};
 ghost use Rattle.tpm_record.specs.rows.Rows.{Acts};
 ghost use Rattle.tpm_actions_device.specs.Shutdown.{shutdown_row};
@@ -16,11 +15,11 @@ use tpm_types_common::{Refused, StartupType};
 /// TPM2_Shutdown: saves the state that the next TPM2_Startup uses. With STATE, this state includes
 /// the values of PCRs 0 to 15.
 #[tactic(auto, unfolding(crate::specs::Shutdown::shutdown_row))]
-pub fn shutdown<K: Keep>(keep: &mut K, call: &Call, _answer: &mut Answer) -> Result<(), Refused>
-    requires { IsEmpty _answer.old }
+pub fn shutdown<K: Keep>(keep: &mut K, call: &Call, answer: &mut Answer) -> Result<(), Refused>
     ensures { Acts (shutdown_row (K.record_of keep.old) (request_of call.now))
-        (K.record_of keep.old) result _answer.new (K.record_of keep.new) }
+        (K.record_of keep.old) result answer.new (K.record_of keep.new) }
 {
+    answer.clear();
     let mut text = Cursor::new(call.parameters);
     let kind = parameter(1, StartupType::read(&mut text))?;
     end(&text)?;

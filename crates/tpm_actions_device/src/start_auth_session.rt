@@ -4,7 +4,6 @@
 ghost use Rattle.tpm_bytes.specs.Reading.{Gives};
 ghost use Rattle.std.specs.Prelude.{◌≡◌, ◌≤◌, true, length, IfOk, OnOk};
 ghost use Rattle.tpm_session.specs.Key.{is_nonce_size};
-ghost use Rattle.tpm_record.specs.rows.Answer.{IsEmpty};
 ghost use Rattle.tpm_record.specs.rows.Request.{request_of};
 ghost use Rattle.tpm_record.specs.rows.Rows.{ActsIfRoom};
 ghost use Rattle.tpm_actions_device.specs.StartAuthSession.{binding_of, has_other_mask, parameters_in, parameters_of, parameters_pass, start_auth_session_row};
@@ -104,11 +103,11 @@ pub fn start_auth_session<K: Keep>(
     call: &Call,
     answer: &mut Answer,
 ) -> Result<(), Refused>
-    requires { IsEmpty answer.old }
     ensures { ActsIfRoom K.can_refuse
         (start_auth_session_row (K.record_of keep.old) (request_of call.now))
         (K.record_of keep.old) result answer.new (K.record_of keep.new) }
 {
+    answer.clear();
     let bind = call.second_handle()?;
     let asked = read_parameters(call.parameters)?;
     check_parameters(&asked)?;

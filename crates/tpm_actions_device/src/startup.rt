@@ -2,7 +2,6 @@
 //! `specs/Startup`).
 
 ghost use Rattle.std.specs.Prelude.{◌≡◌};
-ghost use Rattle.tpm_record.specs.rows.Answer.{IsEmpty};
 ghost use Rattle.tpm_record.specs.rows.Request.{request_of};
 ghost use Rattle.tpm_record.specs.rows.Rows.{Acts};
 ghost use Rattle.tpm_actions_device.specs.Startup.{reset_fixed, reset_hierarchies, reset_lockout, without_platform_auth};
@@ -135,10 +134,10 @@ fn begin<K: Keep>(keep: &mut K, start: Start, random: &[u8; 256]) -> usize
 /// but TPM2_Shutdown(STATE) saved no state.
 #[tactic(auto, unfolding(crate::specs::Startup::startup_row))]
 pub fn startup<K: Keep>(keep: &mut K, call: &Call, answer: &mut Answer) -> Result<(), Refused>
-    requires { IsEmpty answer.old }
     ensures { Acts (startup_row (K.record_of keep.old) (request_of call.now))
         (K.record_of keep.old) result answer.new (K.record_of keep.new) }
 {
+    answer.clear();
     let mut text = Cursor::new(call.parameters);
     let kind = parameter(1, StartupType::read(&mut text))?;
     end(&text)?;

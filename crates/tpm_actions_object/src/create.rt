@@ -2,7 +2,6 @@
 //! `specs/Create`).
 
 ghost use Rattle.std.specs.Prelude.{◌≡◌, ◌≤◌, drop, take};
-ghost use Rattle.tpm_record.specs.rows.Answer.{IsEmpty};
 ghost use Rattle.tpm_record.specs.rows.Request.{request_of};
 ghost use Rattle.tpm_record.specs.rows.Rows.{Acts};
 ghost use Rattle.tpm_actions_object.specs.Create.{create_row};
@@ -33,10 +32,10 @@ fn initial_vector(random: &[u8; 256], drawn: usize) -> [u8; 16]
 /// TPM2_Create: makes an object under a storage parent, and returns it wrapped.
 #[tactic(auto, unfolding(crate::specs::Create::create_row))]
 pub fn create<K: Keep>(keep: &mut K, call: &Call, answer: &mut Answer) -> Result<(), Refused>
-    requires { IsEmpty answer.old }
     ensures { Acts (create_row (K.record_of keep.old) (request_of call.now))
         (K.record_of keep.old) result answer.new (K.record_of keep.new) }
 {
+    answer.clear();
     let parent = loaded(keep, call.first_handle()?)?;
     let asked = read_parameters(call.parameters)?;
     check_parent(parent)?;

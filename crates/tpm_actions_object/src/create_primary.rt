@@ -6,7 +6,6 @@ ghost use Rattle.tpm_bytes.specs.Writing.{sized_text};
 ghost use Rattle.tpm_name.specs.ObjectName.{object_name};
 ghost use Rattle.tpm_types_common.specs.Locality.{locality_number};
 ghost use Rattle.tpm_types_object.specs.Public.{public_text};
-ghost use Rattle.tpm_record.specs.rows.Answer.{IsEmpty};
 ghost use Rattle.tpm_record.specs.rows.Request.{request_of};
 ghost use Rattle.tpm_record.specs.rows.Rows.{ActsIfRoom};
 ghost use Rattle.tpm_actions_object.specs.CreatePrimary.{create_primary_row, named_hierarchy};
@@ -60,11 +59,11 @@ pub fn create_primary<K: Keep>(
     call: &Call,
     answer: &mut Answer,
 ) -> Result<(), Refused>
-    requires { IsEmpty answer.old }
     ensures { ActsIfRoom K.can_refuse
         (create_primary_row (K.record_of keep.old) (request_of call.now))
         (K.record_of keep.old) result answer.new (K.record_of keep.new) }
 {
+    answer.clear();
     let hierarchy = named_hierarchy(call.first_handle()?)?;
     let asked = read_parameters(call.parameters)?;
     public_passes(0, &asked.template, true)?;

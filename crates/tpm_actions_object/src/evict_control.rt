@@ -5,7 +5,6 @@ ghost use Rattle.std.specs.Prelude.{◌≡◌, IfOk, OnOk, false, true};
 ghost use Rattle.tpm_record.specs.Persistent.{can_persist};
 ghost use Rattle.tpm_types_common.specs.Handle.{is_persistent};
 ghost use Rattle.tpm_types_common.specs.PersistentHandle.{persistent_handle_at};
-ghost use Rattle.tpm_record.specs.rows.Answer.{IsEmpty};
 ghost use Rattle.tpm_record.specs.rows.Request.{request_of, second_handle};
 ghost use Rattle.tpm_record.specs.rows.Rows.{Acts, ActsIfRoom, only};
 ghost use Rattle.tpm_actions_object.specs.EvictControl.{Evicts, evict_control_row, eviction_passes, is_of, is_of_platform, may_evict, may_name, objects_with_copy, remaining_objects};
@@ -141,21 +140,17 @@ fn put<K: Keep>(keep: &mut K, object: Object, wanted: Handle) -> Result<(), Refu
 /// TPM2_EvictControl: makes a copy of a transient object persistent, or removes a persistent
 /// object.
 #[tactic(auto, unfolding(crate::specs::EvictControl::evict_control_row))]
-pub fn evict_control<K: Keep>(
-    keep: &mut K,
-    call: &Call,
-    _answer: &mut Answer,
-) -> Result<(), Refused>
-    requires { IsEmpty _answer.old }
+pub fn evict_control<K: Keep>(keep: &mut K, call: &Call, answer: &mut Answer) -> Result<(), Refused>
     ensures acts { ActsIfRoom K.can_refuse
         (evict_control_row (K.record_of keep.old) (request_of call.now))
-        (K.record_of keep.old) result _answer.new (K.record_of keep.new) }
+        (K.record_of keep.old) result answer.new (K.record_of keep.new) }
     // Removing a persistent object never runs out of memory.
     ensures removes { IfOk (second_handle (request_of call.now).handles) (λ handle.
         is_persistent handle ≡ true
         → Acts (evict_control_row (K.record_of keep.old) (request_of call.now))
-        (K.record_of keep.old) result _answer.new (K.record_of keep.new)) }
+        (K.record_of keep.old) result answer.new (K.record_of keep.new)) }
 {
+    answer.clear();
     let by_platform = call.first_handle()? == Handle::PLATFORM;
     let handle = call.second_handle()?;
     let object = loaded(keep, handle)?;

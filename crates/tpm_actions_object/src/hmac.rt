@@ -1,7 +1,6 @@
 //! TPM2_HMAC: returns the HMAC of a buffer, computed with a key (specified in `specs/Hmac`).
 
 ghost use Rattle.std.specs.Prelude.{◌≡◌};
-ghost use Rattle.tpm_record.specs.rows.Answer.{IsEmpty};
 ghost use Rattle.tpm_record.specs.rows.Request.{request_of};
 ghost use Rattle.tpm_record.specs.rows.Rows.{Acts};
 ghost use Rattle.tpm_actions_object.specs.Hmac.{chosen_hash, hmac_row, own_hash, scheme_of};
@@ -58,10 +57,10 @@ fn chosen_hash(scheme: KeyedHashScheme, asked: Option<HashAlg>) -> Option<HashAl
 /// TPM2_HMAC: returns the HMAC of a buffer, computed with a key.
 #[tactic(auto, unfolding(crate::specs::Hmac::hmac_row, crate::specs::Hmac::parameters_in))]
 pub fn hmac<K: Keep>(keep: &mut K, call: &Call, answer: &mut Answer) -> Result<(), Refused>
-    requires { IsEmpty answer.old }
     ensures { Acts (hmac_row (K.record_of keep.old) (request_of call.now))
         (K.record_of keep.old) result answer.new (K.record_of keep.new) }
 {
+    answer.clear();
     let object = loaded(keep, call.first_handle()?)?;
     let mut text = Cursor::new(call.parameters);
     let buffer = parameter(1, read_buffer(&mut text, DATA_LIMIT))?;

@@ -2,7 +2,6 @@
 //! (specified in `specs/Load`).
 
 ghost use Rattle.std.specs.Prelude.{◌≡◌};
-ghost use Rattle.tpm_record.specs.rows.Answer.{IsEmpty};
 ghost use Rattle.tpm_record.specs.rows.Request.{request_of};
 ghost use Rattle.tpm_record.specs.rows.Rows.{ActsIfRoom};
 ghost use Rattle.tpm_name.specs.ObjectName.{object_name};
@@ -43,10 +42,10 @@ fn sensitive_of(
 /// TPM2_Load: unwraps the private area of an object under its parent, and loads the object.
 #[tactic(auto, unfolding(crate::specs::Load::load_row, crate::specs::Load::parameters_in))]
 pub fn load<K: Keep>(keep: &mut K, call: &Call, answer: &mut Answer) -> Result<(), Refused>
-    requires { IsEmpty answer.old }
     ensures { ActsIfRoom K.can_refuse (load_row (K.record_of keep.old) (request_of call.now))
         (K.record_of keep.old) result answer.new (K.record_of keep.new) }
 {
+    answer.clear();
     let parent = loaded(keep, call.first_handle()?)?;
     let mut text = Cursor::new(call.parameters);
     let private = parameter(1, read_buffer(&mut text, PRIVATE_LIMIT))?;

@@ -1,7 +1,6 @@
 //! TPM2_Unseal: returns the data that an object seals (specified in `specs/Unseal`).
 
 ghost use Rattle.std.specs.Prelude.{◌≡◌};
-ghost use Rattle.tpm_record.specs.rows.Answer.{IsEmpty};
 ghost use Rattle.tpm_record.specs.rows.Request.{request_of};
 ghost use Rattle.tpm_record.specs.rows.Rows.{Acts};
 ghost use Rattle.tpm_actions_object.specs.Unseal.{unseal_row};
@@ -20,10 +19,10 @@ use tpm_types_object::ObjectAttribute;
 /// TPM2_Unseal: returns the data that an object seals.
 #[tactic(auto, unfolding(crate::specs::Unseal::unseal_row))]
 pub fn unseal<K: Keep>(keep: &mut K, call: &Call, answer: &mut Answer) -> Result<(), Refused>
-    requires { IsEmpty answer.old }
     ensures { Acts (unseal_row (K.record_of keep.old) (request_of call.now))
         (K.record_of keep.old) result answer.new (K.record_of keep.new) }
 {
+    answer.clear();
     let object = loaded(keep, call.first_handle()?)?;
     end(&Cursor::new(call.parameters))?;
     if !is_keyed_hash(&object.public) {

@@ -2,7 +2,6 @@
 
 ghost use Rattle.std.specs.Prelude.{◌≡◌};
 ghost use Rattle.tpm_commands.specs.declared.command_code.CommandCode.TheVariants as command;
-ghost use Rattle.tpm_record.specs.rows.Answer.{IsEmpty};
 ghost use Rattle.tpm_record.specs.rows.Request.{request_of};
 ghost use Rattle.tpm_record.specs.rows.Rows.{Acts};
 ghost use Rattle.tpm_actions_policy.specs.Assertions.{assertion_row};
@@ -20,13 +19,13 @@ use tpm_types_common::Refused;
 pub fn policy_command_code<K: Keep>(
     keep: &mut K,
     call: &Call,
-    _answer: &mut Answer,
+    answer: &mut Answer,
 ) -> Result<(), Refused>
-    requires { IsEmpty _answer.old }
     ensures { Acts
         (assertion_row command.PolicyCommandCode (K.record_of keep.old) (request_of call.now))
-        (K.record_of keep.old) result _answer.new (K.record_of keep.new) }
+        (K.record_of keep.old) result answer.new (K.record_of keep.new) }
 {
+    answer.clear();
     let handle = call.first_handle()?;
     let mut parameters = Cursor::new(call.parameters);
     let code = number(1, parameters.u32())?;

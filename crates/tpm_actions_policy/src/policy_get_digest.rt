@@ -2,7 +2,6 @@
 //! `specs/PolicyGetDigest`).
 
 ghost use Rattle.std.specs.Prelude.{◌≡◌};
-ghost use Rattle.tpm_record.specs.rows.Answer.{IsEmpty};
 ghost use Rattle.tpm_record.specs.rows.Request.{request_of};
 ghost use Rattle.tpm_record.specs.rows.Rows.{Acts};
 ghost use Rattle.tpm_actions_policy.specs.PolicyGetDigest.{policy_get_digest_row};
@@ -22,10 +21,10 @@ pub fn policy_get_digest<K: Keep>(
     call: &Call,
     answer: &mut Answer,
 ) -> Result<(), Refused>
-    requires { IsEmpty answer.old }
     ensures { Acts (policy_get_digest_row (K.record_of keep.old) (request_of call.now))
         (K.record_of keep.old) result answer.new (K.record_of keep.new) }
 {
+    answer.clear();
     let handle = call.first_handle()?;
     end(&Cursor::new(call.parameters))?;
     let session = policy_session(keep, handle)?;

@@ -5,7 +5,6 @@ ghost use Rattle.std.specs.Prelude.{◌≡◌, IfOk, length};
 ghost use Rattle.tpm_commands.specs.declared.command_code.CommandCode.TheVariants as command;
 ghost use Rattle.tpm_nv.specs.IsContents.{IsContents};
 ghost use Rattle.tpm_record.specs.Record.{Record};
-ghost use Rattle.tpm_record.specs.rows.Answer.{IsEmpty};
 ghost use Rattle.tpm_record.specs.rows.Request.{request_of};
 ghost use Rattle.tpm_record.specs.rows.Rows.{Acts};
 ghost use Rattle.tpm_record.specs.declared.rows.target.Target.{Target};
@@ -43,11 +42,11 @@ fn read_compared<'a>(target: Target, parameters: &'a [u8]) -> Result<ComparedInd
 
 /// TPM2_PolicyNV: compares data of an NV index with an operand.
 #[tactic(auto, unfolding(crate::specs::Assertions::assertion_row))]
-pub fn policy_nv<K: Keep>(keep: &mut K, call: &Call, _answer: &mut Answer) -> Result<(), Refused>
-    requires { IsEmpty _answer.old }
+pub fn policy_nv<K: Keep>(keep: &mut K, call: &Call, answer: &mut Answer) -> Result<(), Refused>
     ensures { Acts (assertion_row command.PolicyNv (K.record_of keep.old) (request_of call.now))
-        (K.record_of keep.old) result _answer.new (K.record_of keep.new) }
+        (K.record_of keep.old) result answer.new (K.record_of keep.new) }
 {
+    answer.clear();
     let handle = call.third_handle()?;
     let index = read_compared(target_of(keep, call)?, call.parameters)?;
     make_assertion(keep, handle, &AssertionParameters::Nv(index))

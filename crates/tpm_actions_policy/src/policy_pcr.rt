@@ -3,7 +3,6 @@
 
 ghost use Rattle.std.specs.Prelude.{◌≡◌};
 ghost use Rattle.tpm_commands.specs.declared.command_code.CommandCode.TheVariants as command;
-ghost use Rattle.tpm_record.specs.rows.Answer.{IsEmpty};
 ghost use Rattle.tpm_record.specs.rows.Request.{request_of};
 ghost use Rattle.tpm_record.specs.rows.Rows.{Acts};
 ghost use Rattle.tpm_policy.specs.Assertion as assertion;
@@ -58,12 +57,12 @@ impl ComparedPcrs<'_> {
 
 /// TPM2_PolicyPCR: compares the values of PCRs, and requires that no PCR changes afterwards.
 #[tactic(auto, unfolding(crate::specs::Assertions::assertion_row))]
-pub fn policy_pcr<K: Keep>(keep: &mut K, call: &Call, _answer: &mut Answer) -> Result<(), Refused>
-    requires { IsEmpty _answer.old }
+pub fn policy_pcr<K: Keep>(keep: &mut K, call: &Call, answer: &mut Answer) -> Result<(), Refused>
     ensures { Acts
         (assertion_row command.PolicyPcr (K.record_of keep.old) (request_of call.now))
-        (K.record_of keep.old) result _answer.new (K.record_of keep.new) }
+        (K.record_of keep.old) result answer.new (K.record_of keep.new) }
 {
+    answer.clear();
     let handle = call.first_handle()?;
     let mut parameters = Cursor::new(call.parameters);
     let given = parameter(1, read_buffer(&mut parameters, DIGEST_LIMIT))?;

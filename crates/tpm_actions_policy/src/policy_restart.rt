@@ -2,7 +2,6 @@
 //! `specs/PolicyRestart`).
 
 ghost use Rattle.std.specs.Prelude.{◌≡◌};
-ghost use Rattle.tpm_record.specs.rows.Answer.{IsEmpty};
 ghost use Rattle.tpm_record.specs.rows.Request.{request_of};
 ghost use Rattle.tpm_record.specs.rows.Rows.{Acts};
 ghost use Rattle.tpm_actions_policy.specs.PolicyRestart.{policy_restart_row};
@@ -21,12 +20,12 @@ use tpm_types_common::Refused;
 pub fn policy_restart<K: Keep>(
     keep: &mut K,
     call: &Call,
-    _answer: &mut Answer,
+    answer: &mut Answer,
 ) -> Result<(), Refused>
-    requires { IsEmpty _answer.old }
     ensures { Acts (policy_restart_row (K.record_of keep.old) (request_of call.now))
-        (K.record_of keep.old) result _answer.new (K.record_of keep.new) }
+        (K.record_of keep.old) result answer.new (K.record_of keep.new) }
 {
+    answer.clear();
     let handle = call.first_handle()?;
     end(&Cursor::new(call.parameters))?;
     let policy = PolicyState::new(policy_session(keep, handle)?.hash());

@@ -4,7 +4,6 @@
 ghost use Rattle.tpm_bytes.specs.Reading.{Gives};
 ghost use Rattle.std.specs.Prelude.{◌≡◌, IfOk};
 ghost use Rattle.tpm_commands.specs.declared.command_code.CommandCode.TheVariants as command;
-ghost use Rattle.tpm_record.specs.rows.Answer.{IsEmpty};
 ghost use Rattle.tpm_record.specs.rows.Request.{request_of};
 ghost use Rattle.tpm_record.specs.rows.Rows.{Acts};
 ghost use Rattle.tpm_policy.specs.Assertion as assertion;
@@ -88,11 +87,11 @@ fn read_secret<'a>(entity: Handle, parameters: &'a [u8]) -> Result<ShownSecret<'
 /// TPM2_PolicySecret: asserts that an entity authorized the command.
 #[tactic(auto, unfolding(crate::specs::Assertions::assertion_row))]
 pub fn policy_secret<K: Keep>(keep: &mut K, call: &Call, answer: &mut Answer) -> Result<(), Refused>
-    requires { IsEmpty answer.old }
     ensures { Acts
         (assertion_row command.PolicySecret (K.record_of keep.old) (request_of call.now))
         (K.record_of keep.old) result answer.new (K.record_of keep.new) }
 {
+    answer.clear();
     let handle = call.second_handle()?;
     let secret = read_secret(call.first_handle()?, call.parameters)?;
     make_assertion(keep, handle, &AssertionParameters::Secret(secret))?;

@@ -20,7 +20,7 @@ use tpm_mac::KeyedMac;
 use tpm_policy::Demand;
 use tpm_record::{Keep, Resolved, resolve};
 use tpm_session::{CommandText, ParameterHashes, Session};
-use tpm_types_command::{AuthEntry, Command};
+use tpm_types_command::{AuthEntry, CommandRef};
 use tpm_types_common::SessionType;
 
 /// Whether a session is bound to an entity that still has the Name and the authorization value from
@@ -146,7 +146,7 @@ fn encrypting_nonce<'a, K: Keep>(keep: &'a K, entries: &[AuthEntry]) -> &'a [u8]
 
 /// The other entries whose session nonces are covered by an entry's HMAC: if the entry is the first
 /// one and authorizes a handle, all later entries; otherwise no entries.
-fn other_entries<'a, 'b>(command: &Command<'a, 'b>, number: u8) -> &'a [AuthEntry<'b>]
+fn other_entries<'a, 'b>(command: &CommandRef<'a, 'b>, number: u8) -> &'a [AuthEntry<'b>]
     ensures { map entry_of result.now ≡ other_entries (whole_of command.now) number }
 {
     let entries = command.entries;
@@ -199,7 +199,7 @@ fn value_in_key<'a, K: Keep>(
 #[tactic(auto, unfolding(crate::specs::SessionGrant::comparison_holds, crate::specs::SessionGrant::is_authentic, crate::specs::SessionGrant::entry_parts, tpm_record::specs::Entity::auth_value_of))]
 pub fn comparison_holds<K: Keep>(
     keep: &K,
-    command: &Command,
+    command: &CommandRef,
     by: &SessionEntry,
     granted: Option<Granted>,
     hashes: &mut ParameterHashes,

@@ -6,7 +6,7 @@ ghost use Rattle.std.specs.Prelude.{◌≡◌, ◌+◌, ◌<◌, ◌≤◌, [], 
 ghost use Rattle.std.specs.Option.{ForSome};
 ghost use Rattle.tpm_session.specs.FirstBuffer.{has_first_buffer};
 ghost use Rattle.tpm_types_command.specs.AuthEntry.{entry_of};
-ghost use Rattle.tpm_types_command.specs.Command.{whole_of};
+ghost use Rattle.tpm_types_command.specs.Command.{whole_command, whole_of};
 ghost use Rattle.tpm_types_common.specs.Handle.{session_kind};
 ghost use Rattle.tpm_types_common.specs.Locality.{locality_number};
 ghost use Rattle.tpm_types_common.specs.declared.handle.SessionKind.TheVariants as kind;
@@ -282,13 +282,14 @@ pub fn authorize<K: Keep>(
     command: &Command,
     locality: Locality,
 ) -> Result<Grants, Refused>
-    ensures { Gives granted_by (authorize (K.record_of keep.now) (whole_of command.now)
+    ensures { Gives granted_by (authorize (K.record_of keep.now) (whole_command command.now)
         (locality_number locality)) result }
 {
+    let command = command.borrowed();
     let mut entities = ArrayVec::new();
     resolve_all(keep, command.handles.as_slice(), &mut entities);
     let sent = &Sent {
-        command,
+        command: &command,
         entities: entities.as_slice(),
         locality,
     };

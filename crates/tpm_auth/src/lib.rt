@@ -24,4 +24,5 @@ pub use entries::{any_decrypts, decrypts, encrypts};
 pub use entry_key::used_auth_value;
 pub use grant::{Grants, authorize, authorize_sent};
 pub use session_grant::{Grant, empty_hmac_laws, granted_value};
+pub use tpm_types_common::Refused;
 pub use used::Sent;

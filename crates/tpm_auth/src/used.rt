@@ -12,13 +12,13 @@ use crate::session_grant::Grant;
 use tpm_policy::Demand;
 use tpm_record::Resolved;
 use tpm_session::Session;
-use tpm_types_command::{AuthEntry, Command};
+use tpm_types_command::{AuthEntry, CommandRef};
 use tpm_types_common::Locality;
 
 /// A command with its locality and the entities of its handles.
 #[derive(Clone, Copy)]
 pub struct Sent<'a, 'b, 'c> {
-    pub command: &'a Command<'b, 'c>,
+    pub command: &'a CommandRef<'b, 'c>,
     /// The entity of each handle, as found in the device's state.
     pub entities: &'a [Resolved<'a>],
     pub locality: Locality,

@@ -10,6 +10,7 @@ use Rattle.tpm_context.specs.declared.fault.ContextFault.{ContextFault}
 use Rattle.tpm_completion.specs.Completed.{completed_after, completed_effect, completed_with, device_effect, done_after, loaded_after, sending_after}
 use Rattle.tpm_completion.specs.Completion.{forgotten}
 use Rattle.tpm_completion.specs.Execution.{AsksFirst, LoadsOrSends, Completes, CompletesIf, Loads, Passes, PlacesIf, Seen, Sends, asked_after, opened_after, placed_after, sent_after, sent_effect, sent_event}
+use Rattle.tpm_completion.specs.Hiding.{heard}
 use Rattle.tpm_completion.specs.declared.completion.Completion.{Completion}
 use Rattle.tpm_completion.specs.declared.sending.Sent.{Sent}
 
@@ -73,13 +74,13 @@ pub exactly : (can completes : Bool) (c : Completion) (old : Record) (event : Pl
     (seen : Seen) → CompletesIf can completes c old event seen → can ≡ false
     → seen ≡ completed_effect completes c old event
 exactly false false c old event seen is never = passes_exactly c old event seen is
-exactly false true c old event seen is never = completes_exactly c old event seen is
+exactly false true c old event seen is never = completes_exactly c old (heard c event) seen is
 exactly true completes c old event seen is never = absurd (false≢true (sym never))
 
 -- a case distinction: the event is executed without the layer, or with it
 pub completes_by_cases : (can completes : Bool) (c : Completion) (old : Record) (event : PlainEvent)
     (seen : Seen) → (completes ≡ false → Passes can c old event seen)
-    → (completes ≡ true → Completes can c old event seen)
+    → (completes ≡ true → Completes can c old (heard c event) seen)
     → CompletesIf can completes c old event seen
 completes_by_cases can false c old event seen off on = off refl
 completes_by_cases can true c old event seen off on = on refl

@@ -9,7 +9,7 @@ use Rattle.tpm_record.specs.declared.hierarchy.Hierarchies.{Hierarchies}
 use Rattle.tpm_context.proofs.ContextLaws.{opens_only_as_made}
 use Rattle.tpm_context.proofs.Reading.{context_opens}
 use Rattle.tpm_context.proofs.SequenceLaws.{sequence_opens_again, sequence_opens_only_as_made}
-use Rattle.tpm_context.specs.Context.{blob_text, context_text, object_cipher, object_in_context, proof_of, sealed_text}
+use Rattle.tpm_context.specs.Context.{blob_text, context_text, object_cipher, object_in_context, context_proof, sealed_text}
 use Rattle.tpm_context.specs.Head.{head_of, head_text, sequence_head}
 use Rattle.tpm_context.specs.Meaning.{restart_of}
 use Rattle.tpm_context.specs.Protection.{ciphertext_of, integrity_of}
@@ -34,18 +34,18 @@ same_integrity proof a b sequence o cipher alike =
     rw (alike.start, alike.reset_count, alike.restart_count) refl
 
 same_text : (g h : Hierarchies) (a b : Binding) (sequence : ℕ) (o : Object)
-    → proof_of h o.hierarchy ≡ proof_of g o.hierarchy → BindsAlike a b o
+    → context_proof h o.hierarchy ≡ context_proof g o.hierarchy → BindsAlike a b o
     → context_text h b sequence o ≡ context_text g a sequence o
 unfolding context_text
 same_text g h a b sequence o proof alike =
     let head : ContextHead = head_of sequence o in
     let fields : List ℕ = object_fields_text o in
     ap (λ (p : List ℕ). sealed_text p b head (ciphertext_of p b.start head fields)) proof
-    ∙ ap (λ (s : ℕ). sealed_text (proof_of g o.hierarchy) b head
-    (ciphertext_of (proof_of g o.hierarchy) s head fields)) alike.start
+    ∙ ap (λ (s : ℕ). sealed_text (context_proof g o.hierarchy) b head
+    (ciphertext_of (context_proof g o.hierarchy) s head fields)) alike.start
     ∙ ap (λ (i : List ℕ). head_text head
     ++ sized_text (blob_text i (object_cipher g a.start sequence o)))
-    (same_integrity (proof_of g o.hierarchy) a b sequence o (object_cipher g a.start sequence o)
+    (same_integrity (context_proof g o.hierarchy) a b sequence o (object_cipher g a.start sequence o)
     alike)
 
 pub loads_what_was_saved : LoadsWhatWasSaved

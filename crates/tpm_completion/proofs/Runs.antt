@@ -9,6 +9,7 @@ use Rattle.tpm_step.specs.step.Events.{PlainEvent, Given, Cycled, Placed}
 use Rattle.tpm_context.specs.declared.fault.ContextFault.{ContextFault}
 use Rattle.tpm_completion.specs.Execution.{AsksFirst, LoadsOrSends, Completes, CompletesIf, Loads, PlacesIf, Seen, Sends, asked_after, opened_after, sent_after}
 use Rattle.tpm_completion.specs.Run.{RunsFollow, run_after, run_command, run_loading, run_of, run_placing, run_sending, run_with}
+use Rattle.tpm_completion.specs.Hiding.{heard}
 use Rattle.tpm_completion.specs.declared.completion.Completion.{Completion}
 use Rattle.tpm_completion.specs.declared.sending.Sent.{Sent}
 
@@ -70,7 +71,8 @@ pub run_leads : (can completes : Bool) (c : Completion) (old : Record) (event : 
     (seen : Seen) (is : CompletesIf can completes c old event seen)
     → Leads can old (run_of can completes c old event seen is) seen.step.after
 run_leads can false c old event seen passes = (refl, passes.executes, refl)
-run_leads can true c old event seen completes = with_leads can c old event seen completes
+run_leads can true c old event seen completes =
+    with_leads can c old (heard c event) seen completes
 
 pub runs_follow : RunsFollow
 runs_follow can completes c old event seen history is follows =

@@ -9,6 +9,7 @@ use Rattle.tpm_step.specs.step.Step.{step}
 use Rattle.tpm_context.specs.declared.fault.ContextFault.{ContextFault}
 use Rattle.tpm_completion.specs.Completion.{forgotten}
 use Rattle.tpm_completion.specs.Execution.{Seen, asked_after, effect_with_reply, opened_after, placed_after, reply_after, sent_after, sent_effect, sent_event, unopened_after}
+use Rattle.tpm_completion.specs.Hiding.{heard}
 use Rattle.tpm_completion.specs.declared.completion.Completion.{Completion}
 use Rattle.tpm_completion.specs.declared.sending.Sent.{Sent}
 
@@ -55,7 +56,8 @@ completed_with c old (Given buffer locality elapsed random) =
 completed_with c old Cycled = device_effect c old Cycled
 completed_with c old (Placed object) = device_effect c old (Placed object)
 
--- the effect of an event: with the layer if `completes` is true, otherwise without it
+-- the effect of an event: with the layer if `completes` is true, otherwise without it. With the
+-- layer, the device gets the event in which saved sessions are hidden
 abbrev pub completed_effect : (completes : Bool) → Completion → Record → PlainEvent → Seen
 completed_effect false c old event = device_effect c old event
-completed_effect true c old event = completed_with c old event
+completed_effect true c old event = completed_with c old (heard c event)

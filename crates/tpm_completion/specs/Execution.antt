@@ -16,6 +16,7 @@ use Rattle.tpm_types_common.specs.Rc.{rc_number}
 use Rattle.tpm_context.specs.Head.{fault_rc}
 use Rattle.tpm_context.specs.declared.fault.ContextFault.{ContextFault}
 use Rattle.tpm_completion.specs.Completion.{forgotten}
+use Rattle.tpm_completion.specs.Hiding.{heard}
 use Rattle.tpm_completion.specs.Loading.{context_asked, object_opened, placed_reply}
 use Rattle.tpm_completion.specs.Reply.{reply}
 use Rattle.tpm_completion.specs.Saving.{Reply, refusal_reply}
@@ -181,7 +182,8 @@ Completes can c old (Given buffer locality elapsed random) seen =
 Completes can c old Cycled seen = Passes can c old Cycled seen
 Completes can c old (Placed object) seen = Passes can c old (Placed object) seen
 
--- An event has this effect: with the layer if `completes` is true, otherwise without it.
+-- An event has this effect: with the layer if `completes` is true, otherwise without it. With the
+-- layer, the device gets the event in which saved sessions are hidden.
 abbrev pub CompletesIf : (can completes : Bool) → Completion → Record → PlainEvent → Seen → Type 0
 CompletesIf can false c old event seen = Passes can c old event seen
-CompletesIf can true c old event seen = Completes can c old event seen
+CompletesIf can true c old event seen = Completes can c old (heard c event) seen

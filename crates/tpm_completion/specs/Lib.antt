@@ -9,6 +9,7 @@ pub mod DeviceFirst
 pub mod Execution
 pub mod Handles
 pub mod Hashing
+pub mod Hiding
 pub mod Listing
 pub mod Loaded
 pub mod Loading

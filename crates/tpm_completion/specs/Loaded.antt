@@ -5,7 +5,7 @@ use Rattle.tpm_object.specs.Object.{IsObject}
 use Rattle.tpm_object.specs.declared.object.Object.{Object}
 use Rattle.tpm_record.specs.IsRecord.{IsRecord}
 use Rattle.tpm_record.specs.Record.{Record}
-use Rattle.tpm_context.specs.Context.{context_text as object_context_text, proof_of}
+use Rattle.tpm_context.specs.Context.{context_text as object_context_text, context_proof}
 use Rattle.tpm_record.specs.declared.hierarchy.Hierarchies.{Hierarchies}
 use Rattle.tpm_sequence.specs.declared.object.SequenceObject.{SequenceObject}
 use Rattle.tpm_context.specs.Meaning.{AreSame, Collides, CollidesFor, IsAsMade, IsBinding, IsEncodable, IsMaking, Making, context_of, made_with, restart_of, sequence_covered}
@@ -25,8 +25,8 @@ saved_context r c number object =
 -- `later`. The proof of the object's hierarchy, the layer's start number and the device's count of
 -- TPM Resets are the same. For an object with stClear, the count of TPM Restarts is the same too.
 pub record StaysValid (r later : Record) (c d : Completion) (object : Object) : Type 0 where
-  pub proof : proof_of later.fixed.hierarchies object.hierarchy
-      ≡ proof_of r.fixed.hierarchies object.hierarchy
+  pub proof : context_proof later.fixed.hierarchies object.hierarchy
+      ≡ context_proof r.fixed.hierarchies object.hierarchy
   pub start : d.start ≡ c.start
   pub reset_count : later.fixed.reset_count ≡ r.fixed.reset_count
   pub restart_count : restart_of (binding_of later d) object ≡ restart_of (binding_of r c) object

@@ -10,6 +10,7 @@ use Rattle.tpm_step.specs.step.Events.{PlainEvent, Given, Cycled, Placed}
 use Rattle.tpm_step.specs.step.Step.{Stepped}
 use Rattle.tpm_context.specs.declared.fault.ContextFault.{ContextFault}
 use Rattle.tpm_completion.specs.Execution.{AsksFirst, LoadsOrSends, Completes, CompletesIf, Loads, PlacesIf, Seen, Sends, asked_after, opened_after, sent_after, sent_event}
+use Rattle.tpm_completion.specs.Hiding.{heard}
 use Rattle.tpm_completion.specs.declared.completion.Completion.{Completion}
 use Rattle.tpm_completion.specs.declared.sending.Sent.{Sent}
 
@@ -66,7 +67,7 @@ run_with can c old (Placed object) seen passes = execution_with old (Placed obje
 abbrev pub run_of : (can completes : Bool) (c : Completion) (old : Record) (event : PlainEvent)
     (seen : Seen) → CompletesIf can completes c old event seen → List Execution
 run_of can false c old event seen passes = execution_with old event seen.step ∷ []
-run_of can true c old event seen completes = run_with can c old event seen completes
+run_of can true c old event seen completes = run_with can c old (heard c event) seen completes
 
 -- If a device follows a history and executes an event, it then follows that history extended by all
 -- executions that belong to the event.

@@ -1,15 +1,18 @@
 //! Executes one event, with or without the layer.
 
-ghost use Rattle.std.specs.Prelude.{◌≡◌, Ok, Some, List, ℕ, true, false};
+ghost use Rattle.std.specs.Prelude.{◌≡◌, ◌≤◌, ◌+◌, Ok, Some, List, ℕ, length, true, false};
+ghost use Rattle.tpm_types_common.specs.Limits.{buffer_limit};
 ghost use Rattle.tpm_types_common.specs.Locality.{locality_number};
 ghost use Rattle.tpm_step.specs.step.Events.{plain_event};
 ghost use Rattle.tpm_machine.specs.State.{state_of};
 ghost use Rattle.tpm_completion.specs.Completed.{completed_effect};
+ghost use Rattle.tpm_completion.specs.Hiding.{heard, heard_buffer, hidden_at};
 ghost use Rattle.tpm_completion.specs.Execution.{AsksFirst, LoadsOrSends, Completes, CompletesIf, Loads, Passes, Sends, asked_after, effect_with_reply, opened_after, reply_after, seen_of, sent_after};
 
 use crate::answer::answer;
 use crate::codes::{MEMORY, OBJECT_MEMORY, SUCCESS};
 use crate::completion::Completion;
+use crate::hiding::hide;
 use crate::loading::context_asked;
 use crate::sending::{Sent, may_send_for};
 use tpm_containers::SlotFault;
@@ -17,7 +20,7 @@ use tpm_machine::Machine;
 use tpm_object::Object;
 use tpm_record::Keep;
 use tpm_step::{Event, Outcome};
-use tpm_types_common::Locality;
+use tpm_types_common::{BUFFER_LIMIT, Locality};
 
 /// Executes one event, and overwrites `outcome`. If `completes` is true, the layer may answer after
 /// the device; otherwise the device alone executes the event. The outcome's row is always the
@@ -55,7 +58,7 @@ fn complete_if<K: Keep>(
         (state_of K.record_of machine.old) (plain_event event.now)
         (seen_of K.record_of machine.new layer.new outcome.new) }
     ensures on { completes ≡ true → Completes K.can_refuse layer.old
-        (state_of K.record_of machine.old) (plain_event event.now)
+        (state_of K.record_of machine.old) (heard layer.old (plain_event event.now))
         (seen_of K.record_of machine.new layer.new outcome.new) }
 {
     if !completes {
@@ -68,7 +71,7 @@ fn complete_if<K: Keep>(
             locality,
             elapsed_ms,
             random,
-        } => complete(
+        } => hide_and_complete(
             machine,
             layer,
             buffer,
@@ -93,6 +96,54 @@ fn pass<K: Keep>(
 {
     machine.execute_into(event, outcome);
     layer.forget(machine.keep());
+}
+
+/// Executes a command with the layer. The device gets the command in which saved sessions are hidden.
+fn hide_and_complete<K: Keep>(
+    machine: &mut Machine<K>,
+    layer: &mut Completion,
+    buffer: &[u8],
+    locality: Locality,
+    elapsed_ms: u32,
+    random: &[u8; 256],
+    outcome: &mut Outcome,
+)
+    ensures { AsksFirst K.can_refuse layer.old (state_of K.record_of machine.old)
+        (heard_buffer layer.old buffer.now) (locality_number locality) elapsed_ms random.now
+        (seen_of K.record_of machine.new layer.new outcome.new) }
+{
+    match layer.saved_place(buffer) {
+        Some(place) => complete_hidden(
+            machine, layer, buffer, place, locality, elapsed_ms, random, outcome,
+        ),
+        None => complete(machine, layer, buffer, locality, elapsed_ms, random, outcome),
+    }
+}
+
+/// Executes a command with the layer, in which the handle at an offset is hidden. The function is
+/// not inlined, so that its large buffer is not in its caller's stack frame.
+#[inline(never)]
+fn complete_hidden<K: Keep>(
+    machine: &mut Machine<K>,
+    layer: &mut Completion,
+    buffer: &[u8],
+    place: usize,
+    locality: Locality,
+    elapsed_ms: u32,
+    random: &[u8; 256],
+    outcome: &mut Outcome,
+)
+    requires small { length buffer.now ≤ buffer_limit }
+    requires within { place + 4 ≤ length buffer.now }
+    ensures { AsksFirst K.can_refuse layer.old (state_of K.record_of machine.old)
+        (hidden_at buffer.now place) (locality_number locality) elapsed_ms random.now
+        (seen_of K.record_of machine.new layer.new outcome.new) }
+{
+    let mut heard = [0; BUFFER_LIMIT];
+    let (command, _) = heard.split_at_mut(buffer.len());
+    command.copy_from_slice(buffer);
+    hide(command, place);
+    complete(machine, layer, command, locality, elapsed_ms, random, outcome);
 }
 
 /// Executes a command with the layer: the device executes it first, and the layer answers after it.

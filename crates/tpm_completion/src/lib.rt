@@ -4,7 +4,7 @@
 //! does not support. Its answer depends on a small state of its own, the device and the command.
 //! The caller turns it on or off for each command.
 //!
-//! The device executes the command first. If it refuses a command that the layer knows, or lists
+//! The device executes the command first, in which saved sessions are hidden ([`hiding`]). If it refuses a command that the layer knows, or lists
 //! less than the layer does, the client gets the layer's [`reply`]. Otherwise it gets the device's
 //! response, byte for byte. The lists are in [`capability`], [`handles`] and [`properties`], the
 //! contexts in [`context`], [`saving`] and [`loading`], four more commands in [`testing`] and
@@ -27,6 +27,7 @@ mod event_completing;
 pub mod execution;
 mod handles;
 mod hashing;
+mod hiding;
 mod hmac_starting;
 pub mod laws;
 mod listing;

@@ -22,7 +22,8 @@ use tpm_sequence::SequenceObject;
 use tpm_step::Response;
 use tpm_types_common::{Handle, SESSION_LIMIT};
 
-fn place_named(handle: Handle) -> usize
+/// The slot that a handle names.
+pub(crate) fn place_named(handle: Handle) -> usize
     ensures { result ≡ place_named handle }
 {
     (handle.number % (1 << 24)) as usize

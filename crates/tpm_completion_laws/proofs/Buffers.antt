@@ -1,9 +1,11 @@
 -- If the device does not support a command, it refuses the command with COMMAND_CODE, and the layer
 -- parses the command.
-use Rattle.std.proofs.Common.{arith, ◌≡◌, ℕ, ◌+◌, ◌^◌, ◌<◌, ◌≤◌, ◌&&◌, Bool, true, false, ltb, List, ◌++◌, length, Option, Some, None, Result, Ok, Err, refl, sym, ap, ◌∙◌}
+use Rattle.std.proofs.Common.{arith, ◌≡◌, ℕ, ◌+◌, ◌^◌, ◌<◌, ◌≤◌, ◌&&◌, Bool, true, false, ltb, List, [], ◌++◌, drop, length, take, Option, Some, None, Result, Ok, Err, refl, sym, ap, ◌∙◌}
 use Rattle.std.specs.Prelude.{◌==◌, ◌||◌, not, ok_or, if◌then◌else◌}
-use Rattle.std.specs.Int.{w16, w32, to_be_bytes}
-use Rattle.std.proofs.lemmas.Bool.{eq-eqb, le-ltb}
+use Rattle.std.specs.Int.{w16, w32, from_be_bytes, to_be_bytes}
+use Rattle.std.specs.List.{find}
+use Rattle.std.specs.Option.{option_map_or}
+use Rattle.std.proofs.lemmas.Bool.{eq-eqb, le-leb, le-ltb}
 use Rattle.std.proofs.lemmas.Nat.{from_be_bytes-to_be_bytes_2, from_be_bytes-to_be_bytes_4}
 use Rattle.tpm_bytes.specs.Reading.{◌>>=◌, number_at, refused_if, too_short}
 use Rattle.tpm_bytes.specs.declared.cursor.Short.{Short}
@@ -30,6 +32,7 @@ use Rattle.tpm_step.specs.step.General.{body_of, general, in_command, in_header}
 use Rattle.tpm_step.specs.step.Step.{Stepped, acceptance_in, acceptance, answer_where, step}
 use Rattle.tpm_completion.specs.Answer.{is_refusal, refusal}
 use Rattle.tpm_completion.specs.Command.{Command, authorized_command, plain_command}
+use Rattle.tpm_completion.specs.Hiding.{entries_after, entry_places, handle_places, handles_of, heard_buffer, hidden_at, is_saved_at, long_at, session_places, short_at}
 use Rattle.tpm_completion.specs.Loading.{context_asked, object_context_in}
 use Rattle.tpm_completion.specs.Reply.{command_reply, or_reply, plain_reply, reply, reply_by, served_reply}
 use Rattle.tpm_completion.specs.Saving.{Reply}
@@ -124,6 +127,29 @@ plain_again code body small few =
     (number_again w32 (2 ^ 32) wide32 code body small)
     ∙ ap (λ (same : Bool). refused_if (not same) too_short
     >>= (λ sized. Ok (record { code = code; parameters = body }))) fits
+
+-- the device gets a command without handles and sessions as it is
+pub plain_heard : (c : Completion) (code : ℕ) (body : List ℕ) → IsLacking code
+    → handles_of code ≡ 0
+    → heard_buffer c (framed_message 0x8001 code body) ≡ framed_message 0x8001 code body
+unfolding session_places short_at long_at
+plain_heard c code body is none =
+    let bytes : List ℕ = framed_message 0x8001 code body in
+    let long : length bytes ≡ 10 + length body = framed_size code body in
+    let code_is : long_at bytes 6 ≡ code =
+    ap (λ (b : Bool). if b then from_be_bytes w32 (take 4 (drop 6 bytes)) else 0)
+    (le-leb 10 (length bytes) (omega (arith, long)))
+    ∙ from_be_bytes-to_be_bytes_4 code is.small in
+    let tag_is : short_at bytes 0 ≡ 0x8001 =
+    ap (λ (b : Bool). if b then from_be_bytes w16 (take 2 bytes) else 0)
+    (le-leb 2 (length bytes) (omega (arith, long)))
+    ∙ from_be_bytes-to_be_bytes_2 0x8001 (omega arith) in
+    let places : session_places bytes ≡ [] =
+    ap (λ (n : ℕ). handle_places (handles_of n) ++ entries_after bytes (handles_of n)) code_is
+    ∙ ap (λ (n : ℕ). handle_places n ++ entries_after bytes n) none
+    ∙ ap (λ (n : ℕ). if n == 0x8002 then entry_places bytes 10 else []) tag_is in
+    ap (λ (places : List ℕ). option_map_or (hidden_at bytes)
+    (find (is_saved_at c bytes) places) bytes) places
 
 -- if the device refused a command that it does not support, the layer loads the context that
 -- `object_context_in` finds in the command

@@ -25,7 +25,7 @@ use Rattle.tpm_types_common.specs.Handle.{hierarchy_handle, is_session, numbered
 use Rattle.tpm_types_common.specs.declared.handle.Handle.{Handle}
 use Rattle.tpm_types_object.specs.ObjectAttributes.{has}
 use Rattle.tpm_types_object.specs.declared.object_attributes.ObjectAttribute.TheVariants as attribute
-use Rattle.tpm_context.specs.Context.{blob_text, context_text, object_cipher, proof_of}
+use Rattle.tpm_context.specs.Context.{blob_text, context_text, object_cipher, context_proof}
 use Rattle.tpm_context.specs.Head.{head_of, saved_number, saved_of}
 use Rattle.tpm_context.specs.Protection.{integrity_of, restart_bound}
 use Rattle.tpm_context.specs.declared.binding.Binding.{Binding}
@@ -36,21 +36,27 @@ use Rattle.tpm_context.proofs.Reading.{cipher_small, integrity_size}
 use Rattle.tpm_record.specs.declared.hierarchy.Hierarchies.{Hierarchies}
 use Rattle.tpm_completion.proofs.Loaded.{loads_what_was_saved}
 use Rattle.tpm_completion.specs.Command.{Command}
-use Rattle.tpm_completion.specs.Completed.{completed_after, done_after, loaded_after}
+use Rattle.tpm_completion.specs.Completed.{completed_after, completed_with, done_after, loaded_after}
 use Rattle.tpm_completion.specs.Completion.{forgotten}
 use Rattle.tpm_completion.specs.Context.{is_of_sequence, is_of_session, names_own, saved_handle_at}
 use Rattle.tpm_completion.specs.Execution.{Seen, placed_after}
 use Rattle.tpm_completion.specs.Saving.{binding_of}
 use Rattle.tpm_completion.specs.Loaded.{StaysValid, saved_context}
+use Rattle.tpm_completion.specs.Hiding.{handles_of}
 use Rattle.tpm_completion.specs.Loading.{object_context_in, placed_reply}
 use Rattle.tpm_completion.specs.declared.completion.Completion.{Completion}
-use Rattle.tpm_completion_laws.proofs.Buffers.{IsLacking, asked_again, header_lacks, lacking_step, step_lacks}
+use Rattle.tpm_completion_laws.proofs.Buffers.{IsLacking, asked_again, header_lacks, lacking_step, plain_heard, step_lacks}
 use Rattle.tpm_completion_laws.proofs.Saving.{lacking_effect, passed_lacks}
 use Rattle.tpm_completion_laws.specs.Objects.{IsLoaded, LoadsObjects, load_buffer}
 
 pub lacks_load : IsLacking 0x161
 unfolding code_named
 lacks_load = record { small = omega arith; unnamed = refl }
+
+-- TPM2_ContextLoad has no handles
+pub load_handles : handles_of 0x161 ≡ 0
+unfolding handles_of code_named
+load_handles = refl
 
 -- ---- the context names neither a session nor a sequence object
 
@@ -70,7 +76,7 @@ context_handle h b sequence o small =
     let number = saved_number (saved_of o.public) in
     let cipher = object_cipher h b.start sequence o in
     let blob =
-    sized_text (blob_text (integrity_of (proof_of h o.hierarchy) b (head_of sequence o) cipher)
+    sized_text (blob_text (integrity_of (context_proof h o.hierarchy) b (head_of sequence o) cipher)
     cipher) in
     let after_number : List ℕ = to_be_bytes w32 (hierarchy_number o) ++ blob in
     let after_sequence : List ℕ = to_be_bytes w32 number ++ after_number in
@@ -104,8 +110,8 @@ context_small : (h : Hierarchies) (b : Binding) (sequence : ℕ) (o : Object) �
 unfolding context_text
 context_small h b sequence o is =
     let cipher = object_cipher h b.start sequence o in
-    let integrity = integrity_of (proof_of h o.hierarchy) b (head_of sequence o) cipher in
-    let one = integrity_size (proof_of h o.hierarchy) b (head_of sequence o) cipher in
+    let integrity = integrity_of (context_proof h o.hierarchy) b (head_of sequence o) cipher in
+    let one = integrity_size (context_proof h o.hierarchy) b (head_of sequence o) cipher in
     let two = cipher_small h b.start sequence o is in
     let three = length-append (sized_text integrity) cipher in
     omega (arith, one, two, three)
@@ -183,7 +189,9 @@ loads_objects r later c d number o locality elapsed random small is whole starte
     ∙ asked_is context (names_none r.fixed.hierarchies (binding_of r c) number o small) in
     let opens = loads_what_was_saved r t c (forgotten t d) number o small is
     (still_valid r later c d o elapsed stays) in
-    let effect = ap (λ (seen : Seen). completed_after seen buffer locality random)
+    let effect = ap (λ (bytes : List ℕ). completed_with d later (Given bytes locality elapsed random))
+    (plain_heard d 0x161 context lacks_load load_handles)
+    ∙ ap (λ (seen : Seen). completed_after seen buffer locality random)
     (passed_lacks later d buffer locality elapsed random lacks)
     ∙ ap (done_after first buffer locality random) asked ∙ ap (loaded_after first) opens in
     subst (IsLoaded t o (next_handle later.objects)) (sym effect)

@@ -16,14 +16,15 @@ use Rattle.tpm_step.specs.step.Step.{Stepped, step}
 use Rattle.tpm_types_common.specs.Handle.{is_transient}
 use Rattle.tpm_types_common.specs.declared.handle.Handle.{Handle}
 use Rattle.tpm_completion.specs.Answer.{refusal, success}
-use Rattle.tpm_completion.specs.Completed.{completed_after, device_effect, done_after, sending_after}
+use Rattle.tpm_completion.specs.Completed.{completed_after, completed_with, device_effect, done_after, sending_after}
 use Rattle.tpm_completion.specs.Completion.{forgotten}
 use Rattle.tpm_completion.specs.Execution.{Seen, effect_with_reply}
+use Rattle.tpm_completion.specs.Hiding.{handles_of}
 use Rattle.tpm_completion.specs.Loaded.{saved_context}
 use Rattle.tpm_completion.specs.Reply.{save_asked, served_reply}
 use Rattle.tpm_completion.specs.Saving.{Reply, layer_with_count, next_number, object_numbered, object_saved, save_reply}
 use Rattle.tpm_completion.specs.declared.completion.Completion.{Completion}
-use Rattle.tpm_completion_laws.proofs.Buffers.{IsLacking, asked_again, header_lacks, lacking_step, none_sent, reply_again, step_lacks}
+use Rattle.tpm_completion_laws.proofs.Buffers.{IsLacking, asked_again, header_lacks, lacking_step, none_sent, plain_heard, reply_again, step_lacks}
 use Rattle.tpm_completion_laws.specs.Objects.{IsSaved, SavesObjects, save_buffer}
 
 -- the effect of a command that the device does not support
@@ -49,6 +50,11 @@ passed_lacks r c buffer locality elapsed random is =
 pub lacks_save : IsLacking 0x162
 unfolding code_named
 lacks_save = record { small = omega arith; unnamed = refl }
+
+-- the handle of TPM2_ContextSave counts as a parameter
+pub save_handles : handles_of 0x162 ≡ 0
+unfolding handles_of code_named
+save_handles = refl
 
 -- ---- the reply
 
@@ -123,7 +129,9 @@ saves_objects r c handle object locality elapsed random started small transient 
     let lacks = step_lacks r buffer locality elapsed random
     (header_lacks 0x162 (to_be_bytes w32 handle.number) lacks_save (omega arith)) in
     let drawn = drawn_by r (Given buffer locality elapsed random) (lacking_step t).row.check in
-    let effect = ap (λ (first : Seen). completed_after first buffer locality random)
+    let effect = ap (λ (bytes : List ℕ). completed_with c r (Given bytes locality elapsed random))
+    (plain_heard c 0x162 (to_be_bytes w32 handle.number) lacks_save save_handles)
+    ∙ ap (λ (first : Seen). completed_after first buffer locality random)
     (passed_lacks r c buffer locality elapsed random lacks)
     ∙ saved_effect t c handle object locality drawn random started small transient
     (subst (λ (n : ℕ). n < 2 ^ 64 - 1) (sym (kept_count t c)) less) there in

@@ -27,7 +27,7 @@ use Rattle.tpm_context.specs.declared.head.SavedHandle.TheVariants as saved
 use Rattle.tpm_context.proofs.Reading.{encrypted_size, integrity_size}
 use Rattle.tpm_completion.proofs.Loaded.{loads_saved_sequence}
 use Rattle.tpm_completion.specs.Answer.{refusal}
-use Rattle.tpm_completion.specs.Completed.{completed_after, done_after, sending_after}
+use Rattle.tpm_completion.specs.Completed.{completed_after, completed_with, done_after, sending_after}
 use Rattle.tpm_completion.specs.Completion.{forgotten}
 use Rattle.tpm_completion.specs.Context.{is_of_sequence, is_of_session, names_own, names_sequence, names_session, saved_handle_at}
 use Rattle.tpm_completion.specs.Execution.{Seen, effect_with_reply}
@@ -38,8 +38,8 @@ use Rattle.tpm_completion.specs.Saving.{Reply, binding_of, session_load_reply}
 use Rattle.tpm_completion.specs.SequenceLoading.{opened_put, sequence_loaded, sequence_put}
 use Rattle.tpm_completion.specs.Sequences.{free_slot, in_slot, sequence_limit, with_sequence}
 use Rattle.tpm_completion.specs.declared.completion.Completion.{Completion}
-use Rattle.tpm_completion_laws.proofs.Buffers.{asked_again, header_lacks, lacking_step, none_sent, reply_again, step_lacks}
-use Rattle.tpm_completion_laws.proofs.Loading.{kept_start, lacks_load, loading}
+use Rattle.tpm_completion_laws.proofs.Buffers.{asked_again, header_lacks, lacking_step, none_sent, plain_heard, reply_again, step_lacks}
+use Rattle.tpm_completion_laws.proofs.Loading.{kept_start, lacks_load, load_handles, loading}
 use Rattle.tpm_completion_laws.proofs.Saving.{lacking_effect, passed_lacks}
 use Rattle.tpm_completion_laws.proofs.SequencesNamed.{free_is, named_none, named_object, same_free}
 use Rattle.tpm_completion_laws.proofs.SequencesSaved.{kept_sequences}
@@ -159,7 +159,9 @@ loads_sequences r later c d number o locality elapsed random small is whole star
     let opens = loads_saved_sequence r t c layer number o small is
     (still_valid r later c d elapsed stays) in
     let same = kept_sequences t d started in
-    let effect = ap (λ (seen : Seen). completed_after seen buffer locality random)
+    let effect = ap (λ (bytes : List ℕ). completed_with d later (Given bytes locality elapsed random))
+    (plain_heard d 0x161 context lacks_load load_handles)
+    ∙ ap (λ (seen : Seen). completed_after seen buffer locality random)
     (passed_lacks later d buffer locality elapsed random lacks)
     ∙ ap (done_after first buffer locality random) asked
     ∙ ap (sending_after first buffer locality random) (none_sent t layer 0x161 context few)

@@ -12,7 +12,7 @@ use Rattle.tpm_step.specs.step.Events.{Given}
 use Rattle.tpm_types_common.specs.Handle.{is_transient}
 use Rattle.tpm_types_common.specs.declared.handle.Handle.{Handle}
 use Rattle.tpm_completion.specs.Answer.{refusal, success}
-use Rattle.tpm_completion.specs.Completed.{completed_after, done_after, sending_after}
+use Rattle.tpm_completion.specs.Completed.{completed_after, completed_with, done_after, sending_after}
 use Rattle.tpm_completion.specs.Completion.{forgotten}
 use Rattle.tpm_completion.specs.Execution.{Seen, effect_with_reply}
 use Rattle.tpm_completion.specs.Loaded.{saved_sequence}
@@ -20,8 +20,8 @@ use Rattle.tpm_completion.specs.Reply.{save_asked, served_reply}
 use Rattle.tpm_completion.specs.Saving.{Reply, layer_with_count, object_saved, save_reply, sequence_numbered, sequence_saved}
 use Rattle.tpm_completion.specs.Sequences.{no_sequences, sequence_of, slot_of}
 use Rattle.tpm_completion.specs.declared.completion.Completion.{Completion}
-use Rattle.tpm_completion_laws.proofs.Buffers.{asked_again, header_lacks, lacking_step, none_sent, reply_again, step_lacks}
-use Rattle.tpm_completion_laws.proofs.Saving.{handle_read, kept_count, lacking_effect, lacks_save, numbered_next, passed_lacks}
+use Rattle.tpm_completion_laws.proofs.Buffers.{asked_again, header_lacks, lacking_step, none_sent, plain_heard, reply_again, step_lacks}
+use Rattle.tpm_completion_laws.proofs.Saving.{handle_read, kept_count, lacking_effect, lacks_save, numbered_next, passed_lacks, save_handles}
 use Rattle.tpm_completion_laws.proofs.SequencesNamed.{same_named, sequence_transient}
 use Rattle.tpm_completion_laws.specs.Objects.{save_buffer}
 use Rattle.tpm_completion_laws.specs.Sequences.{IsSequenceSaved, SavesSequences}
@@ -101,7 +101,9 @@ saves_sequences r c handle object locality elapsed random started small less non
     (header_lacks 0x162 (to_be_bytes w32 handle.number) lacks_save (omega arith)) in
     let drawn = drawn_by r (Given buffer locality elapsed random) (lacking_step t).row.check in
     let own = same_named (forgotten t c) c handle (kept_sequences t c started) ∙ there in
-    let effect = ap (λ (first : Seen). completed_after first buffer locality random)
+    let effect = ap (λ (bytes : List ℕ). completed_with c r (Given bytes locality elapsed random))
+    (plain_heard c 0x162 (to_be_bytes w32 handle.number) lacks_save save_handles)
+    ∙ ap (λ (first : Seen). completed_after first buffer locality random)
     (passed_lacks r c buffer locality elapsed random lacks)
     ∙ saved_effect t c handle object locality drawn random started small
     (subst (λ (n : ℕ). n < 2 ^ 64 - 1) (sym (kept_count t c)) less) none own in

@@ -23,10 +23,12 @@ use Rattle.tpm_step.specs.rows.Footprint.{KeepsSecrets, Touches}
 use Rattle.tpm_completion.specs.Completed.{completed_effect, device_effect, done_after, loaded_after, sending_after}
 use Rattle.tpm_completion.specs.Completion.{forgotten}
 use Rattle.tpm_completion.specs.Execution.{Seen, asked_after, opened_after, sent_after, sent_event}
+use Rattle.tpm_completion.specs.Hiding.{heard_buffer, heard_if}
 use Rattle.tpm_completion.specs.Loaded.{SequenceStaysValid, StaysValid}
 use Rattle.tpm_completion.specs.Saving.{binding_of}
 use Rattle.tpm_completion.specs.declared.completion.Completion.{Completion}
 use Rattle.tpm_completion.specs.declared.sending.Sent.{Sent}
+use Rattle.tpm_context.proofs.ContextLaws.{same_proof}
 use Rattle.tpm_context.specs.Meaning.{restart_of}
 use Rattle.tpm_context.specs.declared.binding.Binding.{Binding}
 use Rattle.tpm_context.specs.declared.fault.ContextFault.{ContextFault}
@@ -224,14 +226,16 @@ done_leaves first buffer locality random None =
 
 completed_leaves : (completes : Bool) (r : Record) (c : Completion) (buffer : List ℕ)
     (locality elapsed : ℕ) (random : List ℕ)
-    → Keeps r.fixed (step r (Given buffer locality elapsed random)).after.fixed
+    → Keeps r.fixed
+    (step r (heard_if completes c (Given buffer locality elapsed random))).after.fixed
     → Leaves r c (completed_effect completes c r (Given buffer locality elapsed random))
 completed_leaves false r c buffer locality elapsed random keeps =
     passed_leaves r c (Given buffer locality elapsed random) keeps
 completed_leaves true r c buffer locality elapsed random keeps =
-    let first = device_effect c r (Given buffer locality elapsed random) in
-    let one = passed_leaves r c (Given buffer locality elapsed random) keeps in
-    let two = done_leaves first buffer locality random (asked_after first buffer) in
+    let heard : List ℕ = heard_buffer c buffer in
+    let first = device_effect c r (Given heard locality elapsed random) in
+    let one = passed_leaves r c (Given heard locality elapsed random) keeps in
+    let two = done_leaves first heard locality random (asked_after first heard) in
     record {
       fixed = then_keeps r.fixed first.step.after.fixed _ one.fixed two.fixed;
       start = two.start ∙ one.start;
@@ -245,7 +249,8 @@ same_binding r later c d start reset restart = rw (start, reset, restart) refl
 left_valid : (r : Record) (c : Completion) (object : Object) (seen : Seen) → Leaves r c seen
     → StaysValid r seen.step.after c seen.layer object
 left_valid r c object seen leaves = record {
-  proof = ap (λ (s : Secrets). s.proof) (leaves.fixed.secrets object.hierarchy);
+  proof = same_proof seen.step.after.fixed.hierarchies r.fixed.hierarchies leaves.fixed.secrets
+      object.hierarchy;
   start = leaves.start;
   reset_count = leaves.fixed.reset_count;
   restart_count = ap (λ (b : Binding). restart_of b object)
@@ -253,23 +258,36 @@ left_valid r c object seen leaves = record {
       leaves.fixed.restart_count);
 }
 
--- every command except TPM2_Startup and TPM2_Clear leaves contexts valid
-leaves_through : (completes : Bool) (r : Record) (c : Completion) (buffer : List ℕ)
-    (locality elapsed : ℕ) (random : List ℕ)
+-- every command of the device except TPM2_Startup and TPM2_Clear keeps the proofs and the counts
+command_keeps : (r : Record) (buffer : List ℕ) (locality elapsed : ℕ) (random : List ℕ)
     → (step r (Given buffer locality elapsed random)).row.code ≢ code_number command.Startup
     → (step r (Given buffer locality elapsed random)).row.code ≢ code_number command.Clear
-    → Leaves r c (completed_effect completes c r (Given buffer locality elapsed random))
-leaves_through completes r c buffer locality elapsed random no_startup no_clear =
+    → Keeps r.fixed (step r (Given buffer locality elapsed random)).after.fixed
+command_keeps r buffer locality elapsed random no_startup no_clear =
     let t = after_tick r elapsed in
     let keeps = stepped_keeps t locality random (acceptance_in t buffer locality random)
     (accepted_is t buffer locality random) no_startup no_clear in
-    completed_leaves completes r c buffer locality elapsed random
-    (record {
+    record {
       secrets = keeps.secrets;
       reset_count = keeps.reset_count;
       restart_count =
           keeps.restart_count;
-    })
+    }
+
+-- every command except TPM2_Startup and TPM2_Clear leaves contexts valid
+leaves_through : (completes : Bool) (r : Record) (c : Completion) (buffer : List ℕ)
+    (locality elapsed : ℕ) (random : List ℕ)
+    → (step r (heard_if completes c (Given buffer locality elapsed random))).row.code
+    ≢ code_number command.Startup
+    → (step r (heard_if completes c (Given buffer locality elapsed random))).row.code
+    ≢ code_number command.Clear
+    → Leaves r c (completed_effect completes c r (Given buffer locality elapsed random))
+leaves_through false r c buffer locality elapsed random no_startup no_clear =
+    completed_leaves false r c buffer locality elapsed random
+    (command_keeps r buffer locality elapsed random no_startup no_clear)
+leaves_through true r c buffer locality elapsed random no_startup no_clear =
+    completed_leaves true r c buffer locality elapsed random
+    (command_keeps r (heard_buffer c buffer) locality elapsed random no_startup no_clear)
 
 pub stays_valid_through : StaysValidThrough
 stays_valid_through completes r c object buffer locality elapsed random no_startup no_clear =

@@ -13,13 +13,14 @@ use Rattle.tpm_record.specs.Objects.{next_handle, object_at}
 use Rattle.tpm_record.specs.Record.{Record}
 use Rattle.tpm_record.specs.Tick.{after_tick}
 use Rattle.tpm_step.specs.step.Answer.{framed_message}
-use Rattle.tpm_step.specs.step.Events.{Given}
+use Rattle.tpm_step.specs.step.Events.{Given, PlainEvent}
 use Rattle.tpm_step.specs.step.Placing.{record_with_object}
 use Rattle.tpm_step.specs.step.Step.{step}
 use Rattle.tpm_completion.specs.Answer.{refusal, success}
 use Rattle.tpm_completion.specs.Completed.{completed_effect}
 use Rattle.tpm_completion.specs.Completion.{forgotten}
 use Rattle.tpm_completion.specs.Execution.{Seen}
+use Rattle.tpm_completion.specs.Hiding.{heard_if}
 use Rattle.tpm_completion.specs.Loaded.{StaysValid, saved_context}
 use Rattle.tpm_completion.specs.Saving.{layer_with_count}
 use Rattle.tpm_completion.specs.declared.completion.Completion.{Completion}
@@ -97,7 +98,8 @@ abbrev pub StaysValidThrough : Type 0
 StaysValidThrough =
     (completes : Bool) (r : Record) (c : Completion) (object : Object) (buffer : List ℕ)
     (locality elapsed : ℕ) (random : List ℕ)
-    → (step r (Given buffer locality elapsed random)).row.code ≢ code_number command.Startup
-    → (step r (Given buffer locality elapsed random)).row.code ≢ code_number command.Clear
+    → let heard : PlainEvent = heard_if completes c (Given buffer locality elapsed random) in
+    (step r heard).row.code ≢ code_number command.Startup
+    → (step r heard).row.code ≢ code_number command.Clear
     → let seen : Seen = completed_effect completes c r (Given buffer locality elapsed random) in
     StaysValid r seen.step.after c seen.layer object

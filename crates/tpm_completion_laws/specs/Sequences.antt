@@ -28,12 +28,13 @@ use Rattle.tpm_auth.specs.Entries.{is_password}
 use Rattle.tpm_actions_object.specs.Hmac.{hmac_row}
 use Rattle.tpm_context.specs.Meaning.{IsEncodable}
 use Rattle.tpm_step.specs.step.Entries.{password_answer}
-use Rattle.tpm_step.specs.step.Events.{Given}
+use Rattle.tpm_step.specs.step.Events.{Given, PlainEvent}
 use Rattle.tpm_step.specs.step.Step.{Stepped, step}
 use Rattle.tpm_completion.specs.Answer.{refusal, success}
 use Rattle.tpm_completion.specs.Completed.{completed_effect}
 use Rattle.tpm_completion.specs.Completion.{forgotten}
 use Rattle.tpm_completion.specs.Execution.{Seen, sent_event}
+use Rattle.tpm_completion.specs.Hiding.{heard_if}
 use Rattle.tpm_completion.specs.Loaded.{SequenceStaysValid, saved_sequence}
 use Rattle.tpm_completion.specs.Saving.{layer_with_count}
 use Rattle.tpm_completion.specs.Sending.{HmacStart, hmac_start_in, start_sent}
@@ -131,8 +132,9 @@ abbrev pub SequencesStayValidThrough : Type 0
 SequencesStayValidThrough =
     (completes : Bool) (r : Record) (c : Completion) (buffer : List ℕ) (locality elapsed : ℕ)
     (random : List ℕ)
-    → (step r (Given buffer locality elapsed random)).row.code ≢ code_number command.Startup
-    → (step r (Given buffer locality elapsed random)).row.code ≢ code_number command.Clear
+    → let heard : PlainEvent = heard_if completes c (Given buffer locality elapsed random) in
+    (step r heard).row.code ≢ code_number command.Startup
+    → (step r heard).row.code ≢ code_number command.Clear
     → let seen : Seen = completed_effect completes c r (Given buffer locality elapsed random) in
     SequenceStaysValid r seen.step.after c seen.layer
 

@@ -17,12 +17,16 @@ use Rattle.tpm_mac.specs.Hmac.{hmac_of}
 use Rattle.tpm_mac.specs.declared.algorithm.HashAlg.TheVariants.{Sha256}
 use Rattle.tpm_object.specs.Object.{IsObject}
 use Rattle.tpm_object.specs.declared.object.Object.{Object}
+use Rattle.tpm_record.specs.Hierarchy.{secrets_of}
 use Rattle.tpm_record.specs.declared.hierarchy.Hierarchies.{Hierarchies}
+use Rattle.tpm_record.specs.declared.hierarchy.Secrets.{Secrets}
+use Rattle.tpm_types_common.specs.declared.handle.HierarchyHandle.{HierarchyHandle}
+use Rattle.tpm_types_common.specs.declared.handle.HierarchyHandle.TheVariants as hierarchy
 use Rattle.tpm_context.proofs.HeadLaws.{same_saved, saved_small}
 use Rattle.tpm_context.proofs.Reading.{cipher_small, content_right, context_opens, decrypted_again, object_again}
-use Rattle.tpm_context.specs.Context.{content_in, context_text, object_cipher, object_in, object_in_context, proof_of}
+use Rattle.tpm_context.specs.Context.{content_in, context_text, object_cipher, object_in, object_in_context, context_proof}
 use Rattle.tpm_context.specs.Head.{head_of, saved_number}
-use Rattle.tpm_context.specs.Meaning.{AreSame, Collides, CollidesFor, IntegrityMeans, IsBinding, IsMaking, Making, OpensAgain, OpensOnlyAsMade, RefusesAnotherBinding, context_of, covered_text, key_of, made_with, restart_of}
+use Rattle.tpm_context.specs.Meaning.{AreSame, Collides, CollidesFor, IntegrityMeans, IsBinding, IsMaking, Making, OpensAgain, OpensOnlyAsMade, RefusesAnotherBinding, RefusesAnotherOwner, context_of, covered_text, key_of, made_with, restart_of}
 use Rattle.tpm_context.specs.Protection.{bound_text, cipher_bytes, cipher_iv, cipher_key, ciphertext_of, integrity_of, plaintext_of, restart_bound}
 use Rattle.tpm_context.specs.declared.binding.Binding.{Binding}
 use Rattle.tpm_context.specs.declared.fault.ContextFault.{ContextFault}
@@ -218,7 +222,7 @@ abbrev Finds : Making → Hierarchies → Binding → Object → Type 0
 Finds c h b object =
     let head = head_of c.sequence c.object in
     let cipher : List ℕ = object_cipher c.hierarchies c.binding.start c.sequence c.object in
-    let proof : List ℕ = proof_of h c.object.hierarchy in
+    let proof : List ℕ = context_proof h c.object.hierarchy in
     (integrity_of (key_of c) c.binding head cipher ≡ integrity_of proof b head cipher)
     × (object_in head (plaintext_of proof b.start head cipher) ≡ Ok object)
 
@@ -236,18 +240,18 @@ finds c h b object is e =
 
 same_hmac : (c : Making) (h : Hierarchies) (b : Binding) (object : Object) → Finds c h b object
     → hmac_of Sha256 (key_of c) (covered_text c.binding c)
-    ≡ hmac_of Sha256 (proof_of h c.object.hierarchy) (covered_text b c)
+    ≡ hmac_of Sha256 (context_proof h c.object.hierarchy) (covered_text b c)
 unfolding integrity_of
 same_hmac c h b object found = found.0
 
 pub opens_only_as_made : OpensOnlyAsMade
 opens_only_as_made c h b object is bound e =
     let found = finds c h b object is e in
-    by found (alike (key_of c) (covered_text c.binding c) (proof_of h c.object.hierarchy)
+    by found (alike (key_of c) (covered_text c.binding c) (context_proof h c.object.hierarchy)
     (covered_text b c) (same_hmac c h b object found))
   where
     by : Finds c h b object
-        → Alike (key_of c) (covered_text c.binding c) (proof_of h c.object.hierarchy)
+        → Alike (key_of c) (covered_text c.binding c) (context_proof h c.object.hierarchy)
         (covered_text b c)
         → AreSame c (made_with h b object c) ⊎ CollidesFor h b c
     by found (inr collision) = inr collision
@@ -257,11 +261,11 @@ opens_only_as_made c h b object is bound e =
         let t = parted (bound_text c.binding head) (bound_text b head) cipher cipher refl same.1 in
         let fields = same_bound c.binding b head head is.binding bound is.sequence is.sequence
         t.0 in
-        let opens = opened_object (key_of c) (proof_of h c.object.hierarchy) c.binding.start b.start
+        let opens = opened_object (key_of c) (context_proof h c.object.hierarchy) c.binding.start b.start
         c.sequence c.object object is.object same.0 fields.start found.1 in
         inl (
         record {
-          key = same.0 ∙ ap (λ (o : Object). proof_of h o.hierarchy) opens;
+          key = same.0 ∙ ap (λ (o : Object). context_proof h o.hierarchy) opens;
           start = fields.start;
           reset_count = fields.reset_count;
           restart_count = fields.restart_count ∙ ap (restart_of b) opens;
@@ -277,3 +281,30 @@ refuses_another_binding c h b object is bound other e =
     by : AreSame c (made_with h b object c) ⊎ CollidesFor h b c → CollidesFor h b c
     by (inl same) = absurd (other (same.start, same.reset_count))
     by (inr collision) = collision
+
+pub refuses_another_owner : RefusesAnotherOwner
+refuses_another_owner c h b object is bound platform long other e =
+    by (opens_only_as_made c h b object is bound e)
+  where
+    by : AreSame c (made_with h b object c) ⊎ CollidesFor h b c → CollidesFor h b c
+    by (inl same) =
+        let key : context_proof c.hierarchies hierarchy.Platform
+            ≡ context_proof h hierarchy.Platform =
+        ap (context_proof c.hierarchies) (sym platform) ∙ same.key
+        ∙ ap (λ (o : Object). context_proof h o.hierarchy) (sym same.object)
+        ∙ ap (context_proof h) platform in
+        absurd (other (parted c.hierarchies.platform.secrets.proof h.platform.secrets.proof
+        c.hierarchies.owner.secrets.proof h.owner.secrets.proof long key).1)
+    by (inr collision) = collision
+
+-- hierarchies with the same proofs protect their contexts with the same secrets
+pub same_proof : (g h : Hierarchies)
+    → ((of : HierarchyHandle) → secrets_of g of ≡ secrets_of h of)
+    → (of : HierarchyHandle) → context_proof g of ≡ context_proof h of
+same_proof g h same hierarchy.Owner = ap (λ (s : Secrets). s.proof) (same hierarchy.Owner)
+same_proof g h same hierarchy.Endorsement =
+    ap (λ (s : Secrets). s.proof) (same hierarchy.Endorsement)
+same_proof g h same hierarchy.Platform =
+    ap (λ (s : Secrets). s.proof ++ g.owner.secrets.proof) (same hierarchy.Platform)
+    ∙ ap (λ (s : Secrets). h.platform.secrets.proof ++ s.proof) (same hierarchy.Owner)
+same_proof g h same hierarchy.Null = ap (λ (s : Secrets). s.proof) (same hierarchy.Null)

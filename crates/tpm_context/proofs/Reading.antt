@@ -22,7 +22,7 @@ use Rattle.tpm_record.specs.declared.hierarchy.Hierarchies.{Hierarchies}
 use Rattle.tpm_types_common.proofs.SelectionLaws.{is_equal}
 use Rattle.tpm_types_common.proofs.Spelled.{rest_fits}
 use Rattle.tpm_context.proofs.HeadLaws.{head_spelled, is_of_head, is_of_own}
-use Rattle.tpm_context.specs.Context.{blob_in, blob_size, blob_text, content_in, context_text, object_cipher, object_in, object_in_context, or_blob_fault, parts_in, plain_in, proof_of, sealed_text}
+use Rattle.tpm_context.specs.Context.{blob_in, blob_size, blob_text, content_in, context_text, object_cipher, object_in, object_in_context, or_blob_fault, parts_in, plain_in, context_proof, sealed_text}
 use Rattle.tpm_context.specs.Head.{head_at, head_of, head_text, is_of}
 use Rattle.tpm_context.specs.Meaning.{IsContext}
 use Rattle.tpm_context.specs.Protection.{cipher_bytes, cipher_iv, cipher_key, ciphertext_of, integrity_of, plaintext_of, protected_text}
@@ -48,7 +48,7 @@ pub cipher_small : (h : Hierarchies) (start sequence : ℕ) (o : Object) → IsO
     → length (object_cipher h start sequence o) ≤ object_fields_size
 cipher_small h start sequence o is =
     subst (λ (n : ℕ). n ≤ object_fields_size)
-    (sym (encrypted_size (proof_of h o.hierarchy) start (head_of sequence o)
+    (sym (encrypted_size (context_proof h o.hierarchy) start (head_of sequence o)
     (object_fields_text o)))
     (object_fields_small o is)
 
@@ -194,7 +194,7 @@ content_is : (h : Hierarchies) (a b : Binding) (proof : List ℕ) (head : Contex
     (cipher : List ℕ)
     → head.sequence < 2 ^ 64 → length cipher ≤ object_fields_size
     → content_in h b (sealed_text proof a head cipher)
-    ≡ (plain_in (proof_of h head.hierarchy) b head (integrity_of proof a head cipher) cipher
+    ≡ (plain_in (context_proof h head.hierarchy) b head (integrity_of proof a head cipher) cipher
     >>= with_head head)
 unfolding content_in
 content_is h a b proof head cipher counted small =
@@ -203,13 +203,13 @@ content_is h a b proof head cipher counted small =
     let whole : length integrity ≡ 32 = integrity_size proof a head cipher in
     let fits : length blob ≤ blob_size = simp length-append (omega (arith, small, whole)) in
     ap (λ (r : Result (ContextHead × List ℕ) ContextFault). r >>= λ x. blob_in x.1
-    >>= λ l. parts_in l >>= λ p. plain_in (proof_of h x.0.hierarchy) b x.0 p.0 p.1
+    >>= λ l. parts_in l >>= λ p. plain_in (context_proof h x.0.hierarchy) b x.0 p.0 p.1
     >>= with_head x.0) (head_spelled.again head (sized_text blob) counted)
     ∙ ap (λ (r : Result (List ℕ) ContextFault). r >>= λ l. parts_in l
-    >>= λ p. plain_in (proof_of h head.hierarchy) b head p.0 p.1 >>= with_head head)
+    >>= λ p. plain_in (context_proof h head.hierarchy) b head p.0 p.1 >>= with_head head)
     (blob_again blob fits)
     ∙ ap (λ (r : Result (List ℕ × List ℕ) ContextFault). r
-    >>= λ p. plain_in (proof_of h head.hierarchy) b head p.0 p.1 >>= with_head head)
+    >>= λ p. plain_in (context_proof h head.hierarchy) b head p.0 p.1 >>= with_head head)
     (parts_again integrity cipher whole)
 
 -- if the integrity value of a context is correct, the context is decrypted
@@ -243,10 +243,10 @@ plain_right proof b head integrity cipher plain e =
 pub content_opens : (h : Hierarchies) (b : Binding) (head : ContextHead) (plain : List ℕ)
     → head.sequence < 2 ^ 64 → length plain ≤ object_fields_size
     → content_in h b
-    (sealed_text (proof_of h head.hierarchy) b head
-    (ciphertext_of (proof_of h head.hierarchy) b.start head plain)) ≡ Ok (head, plain)
+    (sealed_text (context_proof h head.hierarchy) b head
+    (ciphertext_of (context_proof h head.hierarchy) b.start head plain)) ≡ Ok (head, plain)
 content_opens h b head plain counted small =
-    let proof : List ℕ = proof_of h head.hierarchy in
+    let proof : List ℕ = context_proof h head.hierarchy in
     let cipher : List ℕ = ciphertext_of proof b.start head plain in
     let few = subst (λ (n : ℕ). n ≤ object_fields_size)
     (sym (encrypted_size proof b.start head plain)) small in
@@ -261,10 +261,10 @@ pub content_right : (h : Hierarchies) (a b : Binding) (proof : List ℕ) (head :
     (cipher : List ℕ) (x : ContextHead × List ℕ)
     → head.sequence < 2 ^ 64 → length cipher ≤ object_fields_size
     → content_in h b (sealed_text proof a head cipher) ≡ Ok x
-    → (integrity_of proof a head cipher ≡ integrity_of (proof_of h head.hierarchy) b head cipher)
-    × ((head, plaintext_of (proof_of h head.hierarchy) b.start head cipher) ≡ x)
+    → (integrity_of proof a head cipher ≡ integrity_of (context_proof h head.hierarchy) b head cipher)
+    × ((head, plaintext_of (context_proof h head.hierarchy) b.start head cipher) ≡ x)
 content_right h a b proof head cipher x counted small e =
-    let own : List ℕ = proof_of h head.hierarchy in
+    let own : List ℕ = context_proof h head.hierarchy in
     let integrity : List ℕ = integrity_of proof a head cipher in
     let z = bind_ok (plain_in own b head integrity cipher) (with_head head) x
     (sym (content_is h a b proof head cipher counted small) ∙ e) in
@@ -278,16 +278,16 @@ content_right h a b proof head cipher x counted small e =
 pub content_found : (h : Hierarchies) (b : Binding) (bytes : List ℕ) (head : ContextHead)
     (plain : List ℕ)
     → AreBytes bytes → content_in h b bytes ≡ Ok (head, plain)
-    → (bytes ≡ sealed_text (proof_of h head.hierarchy) b head
-    (ciphertext_of (proof_of h head.hierarchy) b.start head plain)) × (head.sequence < 2 ^ 64)
+    → (bytes ≡ sealed_text (context_proof h head.hierarchy) b head
+    (ciphertext_of (context_proof h head.hierarchy) b.start head plain)) × (head.sequence < 2 ^ 64)
 unfolding content_in
 content_found h b bytes head plain fits e =
     let one =
     bind_ok (head_at bytes) (λ x. blob_in x.1 >>= λ l. parts_in l
-    >>= λ p. plain_in (proof_of h x.0.hierarchy) b x.0 p.0 p.1 >>= with_head x.0)
+    >>= λ p. plain_in (context_proof h x.0.hierarchy) b x.0 p.0 p.1 >>= with_head x.0)
     (head, plain) e in
     let own = one.0.0 in
-    let proof : List ℕ = proof_of h own.hierarchy in
+    let proof : List ℕ = context_proof h own.hierarchy in
     let two = bind_ok (blob_in one.0.1) (λ l. parts_in l >>= λ p. plain_in proof b own p.0 p.1
     >>= with_head own) (head, plain) one.2 in
     let three = bind_ok (parts_in two.0) (λ p. plain_in proof b own p.0 p.1 >>= with_head own)
@@ -305,8 +305,8 @@ content_found h b bytes head plain fits e =
     t.0.parts ∙ ap (λ (l : List ℕ). head_text own ++ l)
     (u.0 ∙ ap sized_text (v.0 ∙ ap (λ (i : List ℕ). blob_text i cipher) w.0)) in
     subst (λ (x : ContextHead × List ℕ).
-    (bytes ≡ sealed_text (proof_of h x.0.hierarchy) b x.0
-    (ciphertext_of (proof_of h x.0.hierarchy) b.start x.0 x.1)) × (x.0.sequence < 2 ^ 64))
+    (bytes ≡ sealed_text (context_proof h x.0.hierarchy) b x.0
+    (ciphertext_of (context_proof h x.0.hierarchy) b.start x.0 x.1)) × (x.0.sequence < 2 ^ 64))
     (ok_is {E = ContextFault} (own, four.0) (head, plain) four.2)
     (whole ∙ ap (sealed_text proof b own) again, t.1)
 
@@ -335,10 +335,10 @@ context_found h b bytes head plain o fits are content e =
       counted = t.1;
       sized = f.0;
       text = t.0
-          ∙ ap (λ (p : List ℕ). sealed_text (proof_of h head.hierarchy) b head
-          (ciphertext_of (proof_of h head.hierarchy) b.start head p)) f.1
-          ∙ ap (λ (k : ContextHead). sealed_text (proof_of h k.hierarchy) b k
-          (ciphertext_of (proof_of h k.hierarchy) b.start k (object_fields_text o)))
+          ∙ ap (λ (p : List ℕ). sealed_text (context_proof h head.hierarchy) b head
+          (ciphertext_of (context_proof h head.hierarchy) b.start head p)) f.1
+          ∙ ap (λ (k : ContextHead). sealed_text (context_proof h k.hierarchy) b k
+          (ciphertext_of (context_proof h k.hierarchy) b.start k (object_fields_text o)))
           (sym f.2);
     }
 

@@ -20,7 +20,7 @@ use Rattle.tpm_types_common.proofs.SelectionLaws.{is_equal}
 use Rattle.tpm_context.proofs.ContextLaws.{Alike, alike, parted, same_bound}
 use Rattle.tpm_context.proofs.HeadLaws.{sequence_head_is}
 use Rattle.tpm_context.proofs.Reading.{content_found, content_opens, content_right, decrypted_again, encrypted_size, none_left}
-use Rattle.tpm_context.specs.Context.{content_in, proof_of, sealed_text}
+use Rattle.tpm_context.specs.Context.{content_in, context_proof, sealed_text}
 use Rattle.tpm_context.specs.Head.{is_sequence_head, sequence_head}
 use Rattle.tpm_context.specs.Meaning.{Collides, IsAsMade, IsBinding, IsEncodable, IsSequenceContext, SequenceOpensAgain, SequenceOpensOnlyAsMade, sequence_covered}
 use Rattle.tpm_context.specs.Protection.{bound_text, ciphertext_of, integrity_of, plaintext_of, protected_text}
@@ -195,10 +195,10 @@ sequence_context_found h b bytes head plain object fits content e =
       counted = t.1;
       sized = f.0;
       text = t.0
-          ∙ ap (λ (p : List ℕ). sealed_text (proof_of h head.hierarchy) b head
-          (ciphertext_of (proof_of h head.hierarchy) b.start head p)) f.1
-          ∙ ap (λ (k : ContextHead). sealed_text (proof_of h k.hierarchy) b k
-          (ciphertext_of (proof_of h k.hierarchy) b.start k (slot_text (Some object))))
+          ∙ ap (λ (p : List ℕ). sealed_text (context_proof h head.hierarchy) b head
+          (ciphertext_of (context_proof h head.hierarchy) b.start head p)) f.1
+          ∙ ap (λ (k : ContextHead). sealed_text (context_proof h k.hierarchy) b k
+          (ciphertext_of (context_proof h k.hierarchy) b.start k (slot_text (Some object))))
           (sym f.2);
     }
 

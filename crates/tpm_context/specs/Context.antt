@@ -9,9 +9,9 @@ use Rattle.tpm_bytes.specs.declared.cursor.SizedFault.TheVariants as sized
 use Rattle.tpm_image_text.specs.Body.{object_fields_in, object_fields_text}
 use Rattle.tpm_image_text.specs.Sizes.{object_fields_size}
 use Rattle.tpm_object.specs.declared.object.Object.{Object}
-use Rattle.tpm_record.specs.Hierarchy.{secrets_of}
 use Rattle.tpm_record.specs.declared.hierarchy.Hierarchies.{Hierarchies}
 use Rattle.tpm_types_common.specs.declared.handle.HierarchyHandle.{HierarchyHandle}
+use Rattle.tpm_types_common.specs.declared.handle.HierarchyHandle.TheVariants as hierarchy
 use Rattle.tpm_context.specs.Head.{head_at, head_of, head_text, is_of}
 use Rattle.tpm_context.specs.Protection.{ciphertext_of, integrity_of, plaintext_of}
 use Rattle.tpm_context.specs.declared.binding.Binding.{Binding}
@@ -26,9 +26,14 @@ blob_size = 34 + object_fields_size
 abbrev pub context_size : ℕ
 context_size = 18 + blob_size
 
--- the proof of a hierarchy
-abbrev pub proof_of : Hierarchies → HierarchyHandle → List ℕ
-proof_of h hierarchy = (secrets_of h hierarchy).proof
+-- the secret with which the contexts of a hierarchy are protected: the proof of the hierarchy. For
+-- the platform hierarchy, the proof of the owner hierarchy follows. TPM2_Clear changes this proof,
+-- but not the platform hierarchy's
+abbrev pub context_proof : Hierarchies → HierarchyHandle → List ℕ
+context_proof h hierarchy.Owner = h.owner.secrets.proof
+context_proof h hierarchy.Endorsement = h.endorsement.secrets.proof
+context_proof h hierarchy.Platform = h.platform.secrets.proof ++ h.owner.secrets.proof
+context_proof h hierarchy.Null = h.null.proof
 
 -- ---- writing a context
 
@@ -45,13 +50,13 @@ sealed_text proof b head cipher =
 -- area, as in an image
 abbrev pub object_cipher : Hierarchies → (start sequence : ℕ) → Object → List ℕ
 object_cipher h start sequence object =
-    ciphertext_of (proof_of h object.hierarchy) start (head_of sequence object)
+    ciphertext_of (context_proof h object.hierarchy) start (head_of sequence object)
     (object_fields_text object)
 
 -- the context of an object, with this sequence number
 unfoldable pub context_text : Hierarchies → Binding → (sequence : ℕ) → Object → List ℕ
 context_text h b sequence object =
-    sealed_text (proof_of h object.hierarchy) b (head_of sequence object)
+    sealed_text (context_proof h object.hierarchy) b (head_of sequence object)
     (object_cipher h b.start sequence object)
 
 -- ---- reading a context
@@ -109,7 +114,7 @@ content_in h b bytes = do
   head ← head_at bytes
   blob ← blob_in head.1
   parts ← parts_in blob
-  plain ← plain_in (proof_of h head.0.hierarchy) b head.0 parts.0 parts.1
+  plain ← plain_in (context_proof h head.0.hierarchy) b head.0 parts.0 parts.1
   Ok (head.0, plain)
 
 -- the object of a context; after the faults of `content_in`, the fault is INTEGRITY if the

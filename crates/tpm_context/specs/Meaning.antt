@@ -1,6 +1,6 @@
 -- Unless the HMAC has a collision, a context opens only with the proof and the binding with which
 -- it was made.
-use Rattle.std.specs.Prelude.{◌≡◌, ◌⊎◌, ◌<◌, ◌^◌, ℕ, List, Some, Ok}
+use Rattle.std.specs.Prelude.{◌≡◌, ◌⊎◌, ◌<◌, ◌^◌, ℕ, List, length, Some, Ok}
 use Rattle.tpm_bytes.specs.Reading.{AreBytes}
 use Rattle.tpm_mac.specs.Hmac.{hmac_of}
 use Rattle.tpm_mac.specs.declared.algorithm.HashAlg.TheVariants.{Sha256}
@@ -9,7 +9,8 @@ use Rattle.tpm_object.specs.declared.object.Object.{Object}
 use Rattle.tpm_record.specs.declared.hierarchy.Hierarchies.{Hierarchies}
 use Rattle.tpm_sequence.specs.declared.object.SequenceObject.{SequenceObject}
 use Rattle.tpm_sequence_text.specs.Slot.{IsSequenceObject, slot_text}
-use Rattle.tpm_context.specs.Context.{context_text, object_cipher, object_in_context, proof_of}
+use Rattle.tpm_types_common.specs.declared.handle.HierarchyHandle.TheVariants as hierarchy
+use Rattle.tpm_context.specs.Context.{context_text, object_cipher, object_in_context, context_proof}
 use Rattle.tpm_context.specs.Head.{head_of, saved_of, sequence_head}
 use Rattle.tpm_context.specs.Protection.{protected_text, restart_bound}
 use Rattle.tpm_context.specs.Sequences.{null_proof, opened_sequence, sequence_cipher, sequence_context_text}
@@ -51,7 +52,7 @@ context_of c = context_text c.hierarchies c.binding c.sequence c.object
 
 -- the HMAC key for the integrity value of a context
 abbrev pub key_of : Making → List ℕ
-key_of c = proof_of c.hierarchies c.object.hierarchy
+key_of c = context_proof c.hierarchies c.object.hierarchy
 
 -- the message that the integrity value of a context covers, for a reader with this binding
 abbrev pub covered_text : Binding → Making → List ℕ
@@ -119,7 +120,7 @@ made_with h b object c =
 abbrev pub CollidesFor : Hierarchies → Binding → Making → Type 0
 CollidesFor h b c =
     Collides (key_of c) (covered_text c.binding c)
-    (proof_of h c.object.hierarchy) (covered_text b c)
+    (context_proof h c.object.hierarchy) (covered_text b c)
 
 -- Unless the HMAC has a collision, a context opens only with the proof, start number and counts
 -- with which it was made, and only as the object from which it was made.
@@ -136,6 +137,17 @@ RefusesAnotherBinding =
     (c : Making) (h : Hierarchies) (b : Binding) (object : Object)
     → IsMaking c → IsBinding b
     → ((c.binding.start ≡ b.start) × (c.binding.reset_count ≡ b.reset_count) → ⊥)
+    → object_in_context h b (context_of c) ≡ Ok object → CollidesFor h b c
+
+-- TPM2_Clear ends the contexts of the platform hierarchy, because it replaces the proof of the owner
+-- hierarchy: the context of an object of the platform hierarchy opens with another owner proof only
+-- if the HMAC has a collision.
+abbrev pub RefusesAnotherOwner : Type 0
+RefusesAnotherOwner =
+    (c : Making) (h : Hierarchies) (b : Binding) (object : Object)
+    → IsMaking c → IsBinding b → c.object.hierarchy ≡ hierarchy.Platform
+    → length c.hierarchies.platform.secrets.proof ≡ length h.platform.secrets.proof
+    → (c.hierarchies.owner.secrets.proof ≡ h.owner.secrets.proof → ⊥)
     → object_in_context h b (context_of c) ≡ Ok object → CollidesFor h b c
 
 -- ---- the laws of sequence objects

@@ -8,7 +8,7 @@ use Rattle.tpm_record.specs.declared.hierarchy.Hierarchies.{Hierarchies}
 use Rattle.tpm_sequence.specs.declared.object.SequenceObject.{SequenceObject}
 use Rattle.tpm_sequence_text.specs.Slot.{slot_in, slot_text}
 use Rattle.tpm_types_common.specs.declared.handle.HierarchyHandle.TheVariants as hierarchy
-use Rattle.tpm_context.specs.Context.{content_in, proof_of, sealed_text}
+use Rattle.tpm_context.specs.Context.{content_in, context_proof, sealed_text}
 use Rattle.tpm_context.specs.Head.{is_sequence_head, sequence_head}
 use Rattle.tpm_context.specs.Protection.{ciphertext_of}
 use Rattle.tpm_context.specs.declared.binding.Binding.{Binding}
@@ -18,7 +18,7 @@ use Rattle.tpm_context.specs.declared.head.ContextHead.{ContextHead}
 
 -- the proof of the null hierarchy, with which the contexts of sequence objects are protected
 abbrev pub null_proof : Hierarchies → List ℕ
-null_proof h = proof_of h hierarchy.Null
+null_proof h = context_proof h hierarchy.Null
 
 -- the encrypted sequence object of a context: a slot with this object, as in a state text
 abbrev pub sequence_cipher : Hierarchies → (start number : ℕ) → SequenceObject → List ℕ

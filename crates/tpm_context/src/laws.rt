@@ -1,6 +1,6 @@
 //! Laws about every context.
 
-ghost use Rattle.tpm_context.specs.Meaning.{IntegrityMeans, OpensAgain, OpensOnlyAsMade, RefusesAnotherBinding, SequenceOpensAgain, SequenceOpensOnlyAsMade};
+ghost use Rattle.tpm_context.specs.Meaning.{IntegrityMeans, OpensAgain, OpensOnlyAsMade, RefusesAnotherBinding, RefusesAnotherOwner, SequenceOpensAgain, SequenceOpensOnlyAsMade};
 
 /// Opening a context returns the object from which it was made. Unless the HMAC has a collision,
 /// two contexts with the same integrity value have the same object and sequence number, and were
@@ -14,12 +14,15 @@ pub fn context_laws()
 
 /// Unless the HMAC has a collision, a context opens only with the proof, start number and counts
 /// with which it was made. Therefore, it opens with another start number or another resetCount only
-/// if the HMAC has a collision. The function does nothing at run time.
+/// if the HMAC has a collision. The same holds for the context of an object of the platform
+/// hierarchy after TPM2_Clear changed the proof of the owner hierarchy. The function does nothing at
+/// run time.
 #[inline(always)]
-#[tactic(auto, using(crate::proofs::ContextLaws::opens_only_as_made, crate::proofs::ContextLaws::refuses_another_binding))]
+#[tactic(auto, using(crate::proofs::ContextLaws::opens_only_as_made, crate::proofs::ContextLaws::refuses_another_binding, crate::proofs::ContextLaws::refuses_another_owner))]
 pub fn binding_laws()
     ensures made { OpensOnlyAsMade }
     ensures bound { RefusesAnotherBinding }
+    ensures owner { RefusesAnotherOwner }
 {}
 
 /// Opening the context of a sequence object returns the sequence object from which it was made.

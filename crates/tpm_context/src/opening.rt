@@ -9,7 +9,7 @@ ghost use Rattle.tpm_context.specs.Sequences.{opened_sequence, sequence_in};
 use crate::binding::Binding;
 use crate::fault::ContextFault;
 use crate::head::ContextHead;
-use crate::protection::{decrypt, integrity};
+use crate::protection::{context_proof, decrypt, integrity};
 use crate::sealing::{BLOB_SIZE, OBJECT_SIZE};
 use tpm_bytes::{Cursor, Sink, SizedFault, is_equal};
 use tpm_image_text::read_object_fields;
@@ -98,7 +98,7 @@ fn sequence_in(head: ContextHead, plain: &[u8]) -> Result<SequenceObject, Contex
 /// correct.
 #[tactic(auto, unfolding(crate::specs::Context::plain_in))]
 fn decrypt_parts(
-    proof: &[u8; 32],
+    proof: &[u8],
     binding: Binding,
     head: ContextHead,
     parts: &BlobParts,
@@ -135,8 +135,8 @@ fn decrypt_content(
     let head = ContextHead::read(&mut text)?;
     let blob = blob_in(&mut text)?;
     let parts = parts_in(blob)?;
-    let proof = &hierarchies.secrets(head.hierarchy).proof;
-    decrypt_parts(proof, binding, head, &parts, plain)?;
+    let proof = context_proof(hierarchies, head.hierarchy);
+    decrypt_parts(proof.as_slice(), binding, head, &parts, plain)?;
     Ok(head)
 }
 

@@ -1,6 +1,7 @@
 //! How a context is encrypted and authenticated (TPM 2.0 Library, Part 1, section 30.3).
 
 ghost use Rattle.std.specs.Prelude.{◌≡◌, ◌++◌, length};
+ghost use Rattle.tpm_context.specs.Context.{context_proof};
 ghost use Rattle.tpm_context.specs.Protection.{bound_text, cipher_bytes, cipher_iv, cipher_key, ciphertext_of, context_label, context_party, integrity_of, plaintext_of, protected_text, restart_bound};
 
 use crate::binding::Binding;
@@ -8,9 +9,36 @@ use crate::head::{ContextHead, SavedHandle};
 use tpm_aes::Aes128;
 use tpm_bytes::Sink;
 use tpm_mac::{Digest, HashAlg, hmac_parts, kdfa};
+use tpm_record::Hierarchies;
+use tpm_types_common::HierarchyHandle;
 
 /// KDFa's label for the key and the IV of a context.
 const CONTEXT_LABEL: &[u8] = b"CONTEXT";
+
+/// The largest size of the secret with which the contexts of a hierarchy are protected.
+pub(crate) const PROOF_SIZE: usize = 64;
+
+/// Returns the secret with which the contexts of a hierarchy are protected. TPM2_Clear changes the
+/// secrets of the owner, endorsement and platform hierarchies; a TPM Reset changes that of the null
+/// hierarchy.
+pub(crate) fn context_proof(
+    hierarchies: &Hierarchies,
+    hierarchy: HierarchyHandle,
+) -> Sink<PROOF_SIZE>
+    ensures { result ≡ context_proof hierarchies.now hierarchy }
+{
+    let mut proof = Sink::new();
+    match hierarchy {
+        HierarchyHandle::Owner => proof.append(&hierarchies.owner.secrets.proof),
+        HierarchyHandle::Endorsement => proof.append(&hierarchies.endorsement.secrets.proof),
+        HierarchyHandle::Platform => {
+            proof.append(&hierarchies.platform.secrets.proof);
+            proof.append(&hierarchies.owner.secrets.proof);
+        }
+        HierarchyHandle::Null => proof.append(&hierarchies.null.proof),
+    }
+    proof
+}
 
 /// The cipher of a context and its IV.
 #[derive(Drop)]
@@ -44,10 +72,10 @@ fn context_party(start: u64, head: ContextHead) -> Sink<12>
     party
 }
 
-/// Returns the cipher of the context with this head, derived from the proof of its hierarchy and
+/// Returns the cipher of the context with this head, derived from the secret of its hierarchy and
 /// from the layer's start number.
 #[tactic(auto, unfolding(crate::specs::Protection::cipher_bytes))]
-fn context_cipher(proof: &[u8; 32], start: u64, head: ContextHead) -> ContextCipher
+fn context_cipher(proof: &[u8], start: u64, head: ContextHead) -> ContextCipher
     ensures key { result.cipher ≡ cipher_key (cipher_bytes proof.now start head) }
     ensures iv { result.iv ≡ cipher_iv (cipher_bytes proof.now start head) }
 {
@@ -64,7 +92,7 @@ fn context_cipher(proof: &[u8; 32], start: u64, head: ContextHead) -> ContextCip
 }
 
 /// Encrypts a plaintext in place.
-pub(crate) fn encrypt(proof: &[u8; 32], start: u64, head: ContextHead, text: &mut [u8])
+pub(crate) fn encrypt(proof: &[u8], start: u64, head: ContextHead, text: &mut [u8])
     ensures { text.new ≡ ciphertext_of proof.now start head text.old }
 {
     let by = context_cipher(proof, start, head);
@@ -72,7 +100,7 @@ pub(crate) fn encrypt(proof: &[u8; 32], start: u64, head: ContextHead, text: &mu
 }
 
 /// Decrypts a ciphertext in place.
-pub(crate) fn decrypt(proof: &[u8; 32], start: u64, head: ContextHead, text: &mut [u8])
+pub(crate) fn decrypt(proof: &[u8], start: u64, head: ContextHead, text: &mut [u8])
     ensures { text.new ≡ plaintext_of proof.now start head text.old }
 {
     let by = context_cipher(proof, start, head);
@@ -105,7 +133,7 @@ fn bound_text(binding: Binding, head: ContextHead) -> Sink<28>
 /// Returns the integrity value of the context with this head and this encrypted object.
 #[tactic(auto, unfolding(crate::specs::Protection::integrity_of))]
 pub(crate) fn integrity(
-    proof: &[u8; 32],
+    proof: &[u8],
     binding: Binding,
     head: ContextHead,
     cipher: &[u8],

@@ -9,7 +9,7 @@ ghost use Rattle.tpm_context.specs.Sequences.{sequence_context_text};
 
 use crate::binding::Binding;
 use crate::head::{ContextHead, HEAD_SIZE};
-use crate::protection::{encrypt, integrity};
+use crate::protection::{context_proof, encrypt, integrity};
 use tpm_bytes::Sink;
 use tpm_containers::Sizes;
 use tpm_object::Object;
@@ -50,7 +50,7 @@ fn write_object(object: &Object, text: &mut Sink<OBJECT_SIZE>)
 
 /// Writes a context with this head; `content` is the content before encryption.
 fn write_sealed(
-    proof: &[u8; 32],
+    proof: &[u8],
     binding: Binding,
     head: ContextHead,
     content: &mut Sink<OBJECT_SIZE>,
@@ -84,10 +84,10 @@ pub fn seal(
     ensures object { IsObject object.now }
 {
     let head = ContextHead::of(sequence, object);
-    let proof = &hierarchies.secrets(head.hierarchy).proof;
+    let proof = context_proof(hierarchies, head.hierarchy);
     let mut content: Sink<OBJECT_SIZE> = Sink::new();
     write_object(object, &mut content);
-    write_sealed(proof, binding, head, &mut content, context);
+    write_sealed(proof.as_slice(), binding, head, &mut content, context);
 }
 
 /// Writes the context of a sequence object. As in [`seal`], each context with the same start number
@@ -104,8 +104,8 @@ pub fn seal_sequence(
         ≡ sequence_context_text hierarchies.now binding number object.now }
 {
     let head = ContextHead::of_sequence(number);
-    let proof = &hierarchies.secrets(HierarchyHandle::Null).proof;
+    let proof = context_proof(hierarchies, HierarchyHandle::Null);
     let mut content: Sink<OBJECT_SIZE> = Sink::new();
     write_slot(Some(object), &mut content);
-    write_sealed(proof, binding, head, &mut content, context);
+    write_sealed(proof.as_slice(), binding, head, &mut content, context);
 }

@@ -4,6 +4,7 @@ use Rattle.std.specs.Prelude.{Bool, Err, List, None, Ok, Option, Result, Some, [
 use Rattle.tpm_completion.specs.Completed.{completed_after, completed_effect, completed_with, device_effect, done_after, loaded_after, sending_after}
 use Rattle.tpm_completion.specs.Completion.{forgotten}
 use Rattle.tpm_completion.specs.Execution.{Seen, asked_after, effect_with_reply, opened_after, reply_after, sent_after, sent_effect, sent_event}
+use Rattle.tpm_completion.specs.Hiding.{heard}
 use Rattle.tpm_completion.specs.Loading.{context_asked, object_opened, placed_reply}
 use Rattle.tpm_completion.specs.Properties.{values_set}
 use Rattle.tpm_completion.specs.Reply.{reply}
@@ -16,7 +17,7 @@ use Rattle.tpm_edge_secrecy.proofs.Contexts.{layer_loads_alike}
 use Rattle.tpm_edge_secrecy.proofs.Layer.{forgotten_same, layer_answers_alike, layer_saves_alike}
 use Rattle.tpm_edge_secrecy.proofs.NoSecretKeys.{hmac_is_not_secret}
 use Rattle.tpm_edge_secrecy.proofs.Sequences.{layer_sends_alike}
-use Rattle.tpm_edge_secrecy.specs.Layer.{CompletedRunTellsNothing, CompletedTellsNothing, Completions, CompletionsAlike, CompletesAlike, NoneReadsWith, RepliesAlike, SetAlike, answers_with, is_reading_with, is_saving, layer_reads, reads_after, saves_secret, sent_reads, starts_secret}
+use Rattle.tpm_edge_secrecy.specs.Layer.{CompletedRunTellsNothing, CompletedTellsNothing, Completions, CompletionsAlike, CompletesAlike, NoneReadsWith, RepliesAlike, SetAlike, answers_with, is_reading_with, is_saving, is_saving_with, layer_reads, reads_after, saves_secret, sent_reads, starts_secret}
 use Rattle.tpm_object.specs.declared.object.Object.{Object}
 use Rattle.tpm_record.specs.Objects.{next_handle, object_handle}
 use Rattle.tpm_record.specs.Record.{Record}
@@ -270,17 +271,31 @@ module _ (indices : ℕ → Bool) (objects : Public → Bool) where
   with_alike c r t differ (Placed object) (Placed also) same free none =
       passed_alike c r t differ (Placed object) (Placed also) same free false
 
+  -- two events that differ only in secrets still do so after saved sessions are hidden
+  heard_alike : (c : Completion) (event also : PlainEvent) → EventsAlike s event also
+      → EventsAlike s (heard c event) (heard c also)
+  heard_alike c (Given buffer locality elapsed random) (Given others from later bytes) same =
+      ap (heard c) same
+  heard_alike c (Given buffer locality elapsed random) Cycled same = absurd cc
+  heard_alike c (Given buffer locality elapsed random) (Placed object) same = absurd cc
+  heard_alike c Cycled (Given buffer locality elapsed random) same = absurd cc
+  heard_alike c Cycled Cycled same = same
+  heard_alike c Cycled (Placed object) same = absurd cc
+  heard_alike c (Placed object) (Given buffer locality elapsed random) same = absurd cc
+  heard_alike c (Placed object) Cycled same = absurd cc
+  heard_alike c (Placed object) (Placed also) same = same
+
   pub completed_alike : (completes : Bool) (c : Completion) (r t : Record) → DifferInSecrets s r t
       → (event also : PlainEvent) → EventsAlike s event also
       → is_reading_with s completes c r event ≡ false
-      → CompletesAlike s (completes && is_saving s c r event) (completed_effect completes c r event)
-      (completed_effect completes c t also)
+      → CompletesAlike s (is_saving_with s completes c r event)
+      (completed_effect completes c r event) (completed_effect completes c t also)
   completed_alike false c r t differ event also same free =
-      passed_alike c r t differ event also same (or_left (is_reading s r event) false free) false
+      passed_alike c r t differ event also same free false
   completed_alike true c r t differ event also same free =
-      with_alike c r t differ event also same
-      (or_left (is_reading s r event) (layer_reads s c r event) free)
-      (or_right (is_reading s r event) (layer_reads s c r event) free)
+      with_alike c r t differ (heard c event) (heard c also) (heard_alike c event also same)
+      (or_left (is_reading s r (heard c event)) (layer_reads s c r (heard c event)) free)
+      (or_right (is_reading s r (heard c event)) (layer_reads s c r (heard c event)) free)
 
   saving_both : (c : Completion) (r t : Record) → DifferInSecrets s r t → (event also : PlainEvent)
       → EventsAlike s event also → is_reading s r event ≡ false
@@ -304,19 +319,25 @@ module _ (indices : ℕ → Bool) (objects : Public → Bool) where
   shown_alike : (completes : Bool) (c : Completion) (one other : Record)
       → DifferInSecrets s one other → (event also : PlainEvent) → EventsAlike s event also
       → is_reading_with s completes c one event ≡ false
-      → unless (completes && is_saving s c one event)
+      → unless (is_saving_with s completes c one event)
       (completed_effect completes c one event).step.response
-      ≡ unless (completes && is_saving s c other also)
+      ≡ unless (is_saving_with s completes c other also)
       (completed_effect completes c other also).step.response
-  shown_alike completes c one other differ event also same free =
-      unless_same (completes && is_saving s c one event)
-      (completed_effect completes c one event).step.response
-      (completed_effect completes c other also).step.response
-      (completed_alike completes c one other differ event also same free).response
-      ∙ ap (λ (saved : Bool). unless (completes && saved)
-      (completed_effect completes c other also).step.response)
-      (saving_both c one other differ event also same
-      (or_left (is_reading s one event) (completes && layer_reads s c one event) free))
+  shown_alike false c one other differ event also same free =
+      unless_same false
+      (completed_effect false c one event).step.response
+      (completed_effect false c other also).step.response
+      (completed_alike false c one other differ event also same free).response
+  shown_alike true c one other differ event also same free =
+      unless_same (is_saving s c one (heard c event))
+      (completed_effect true c one event).step.response
+      (completed_effect true c other also).step.response
+      (completed_alike true c one other differ event also same free).response
+      ∙ ap (λ (saved : Bool). unless saved
+      (completed_effect true c other also).step.response)
+      (saving_both c one other differ (heard c event) (heard c also)
+      (heard_alike c event also same)
+      (or_left (is_reading s one (heard c event)) (layer_reads s c one (heard c event)) free))
 
   run_alike : (one other : Record) (c d : Completion) → c ≡ d → (events others : Completions)
       → DifferInSecrets s one other → CompletionsAlike s events others
@@ -327,9 +348,9 @@ module _ (indices : ℕ → Bool) (objects : Public → Bool) where
   run_alike one other c d same (e ∷ es) (f ∷ fs) differ (flag, events, rest) none =
       let x : Seen = completed_effect e.0 c one e.1 in
       let y : Seen = completed_effect e.0 c other f.1 in
-      let alike : CompletesAlike s (e.0 && is_saving s c one e.1) x y =
+      let alike : CompletesAlike s (is_saving_with s e.0 c one e.1) x y =
       completed_alike e.0 c one other differ e.1 f.1 events none.0 in
-      let shown : List ℕ = unless (e.0 && is_saving s c other f.1) y.step.response in
+      let shown : List ℕ = unless (is_saving_with s e.0 c other f.1) y.step.response in
       ap (λ (response : List ℕ). let z : List (List ℕ × Row) =
       (response, x.step.row) ∷ answers_with s x.layer x.step.after es in z)
       (shown_alike e.0 c one other differ e.1 f.1 events none.0)

@@ -9,7 +9,8 @@ use Rattle.tpm_completion.specs.Answer.{is_refusal}
 use Rattle.tpm_completion.specs.Saving.{binding_of}
 use Rattle.tpm_completion.specs.declared.completion.Completion.{Completion}
 use Rattle.tpm_completion.specs.SequenceLoading.{sequence_opened}
-use Rattle.tpm_context.specs.Context.{blob_in, content_in, context_text, object_cipher, object_in, object_in_context, parts_in, plain_in, proof_of, sealed_text}
+use Rattle.tpm_context.proofs.ContextLaws.{same_proof}
+use Rattle.tpm_context.specs.Context.{blob_in, content_in, context_text, object_cipher, object_in, object_in_context, parts_in, plain_in, context_proof, sealed_text}
 use Rattle.tpm_context.specs.Head.{head_at, head_of, sequence_head}
 use Rattle.tpm_context.specs.Sequences.{null_proof, opened_sequence, sequence_cipher, sequence_context_text, sequence_in}
 use Rattle.tpm_context.specs.declared.fault.ContextFault.{ContextFault}
@@ -23,7 +24,6 @@ use Rattle.tpm_image_text.specs.Body.{object_fields_text}
 use Rattle.tpm_object.specs.declared.object.Object.{Object}
 use Rattle.tpm_record.specs.Hierarchy.{secrets_of}
 use Rattle.tpm_record.specs.Record.{Record}
-use Rattle.tpm_record.specs.declared.hierarchy.Secrets.{Secrets}
 use Rattle.tpm_row_secrecy.specs.Secrecy.{DifferInSecrets, Secrecy, bare_object, has_secret_data, unless}
 use Rattle.tpm_types_common.specs.declared.handle.HierarchyHandle.{HierarchyHandle}
 use Rattle.tpm_types_common.specs.declared.handle.HierarchyHandle.TheVariants as hierarchy
@@ -73,8 +73,9 @@ module _ (s : Secrecy) (one other : Record) (differ : DifferInSecrets s one othe
   secrets_alike hierarchy.Null = ap (λ (r : Record). r.fixed.hierarchies.null) differ
 
   proof_alike : (of : HierarchyHandle)
-      → proof_of one.fixed.hierarchies of ≡ proof_of other.fixed.hierarchies of
-  proof_alike of = ap (λ (x : Secrets). x.proof) (secrets_alike of)
+      → context_proof one.fixed.hierarchies of ≡ context_proof other.fixed.hierarchies of
+  proof_alike of =
+      same_proof one.fixed.hierarchies other.fixed.hierarchies secrets_alike of
 
   binding_alike : (c : Completion) → binding_of one c ≡ binding_of other c
   binding_alike c = ap (λ (r : Record). binding_of r c) differ
@@ -88,7 +89,7 @@ module _ (s : Secrecy) (one other : Record) (differ : DifferInSecrets s one othe
       ap (λ (p : List ℕ). sealed_text p (binding_of one c) (head_of number o)
       (ciphertext_of p c.start (head_of number o) (object_fields_text o)))
       (proof_alike o.hierarchy)
-      ∙ ap (λ (b : Binding). sealed_text (proof_of other.fixed.hierarchies o.hierarchy) b
+      ∙ ap (λ (b : Binding). sealed_text (context_proof other.fixed.hierarchies o.hierarchy) b
       (head_of number o) (object_cipher other.fixed.hierarchies c.start number o))
       (binding_alike c)
 
@@ -115,7 +116,7 @@ module _ (s : Secrecy) (one other : Record) (differ : DifferInSecrets s one othe
       same_bind (parts_in blob) _ _ (λ parts.
       ap (λ (p : List ℕ). plain_in p (binding_of one c) head.0 parts.0 parts.1 >>= with_head head.0)
       (proof_alike head.0.hierarchy)
-      ∙ ap (λ (b : Binding). plain_in (proof_of other.fixed.hierarchies head.0.hierarchy) b head.0
+      ∙ ap (λ (b : Binding). plain_in (context_proof other.fixed.hierarchies head.0.hierarchy) b head.0
       parts.0 parts.1 >>= with_head head.0) (binding_alike c))))
 
   opened_alike : (c : Completion) (context : List ℕ)

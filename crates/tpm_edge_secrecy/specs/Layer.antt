@@ -13,6 +13,7 @@ use Rattle.tpm_completion.specs.Command.{Command, authorized_command, plain_comm
 use Rattle.tpm_completion.specs.Completed.{completed_effect, device_effect}
 use Rattle.tpm_completion.specs.Completion.{forgotten}
 use Rattle.tpm_completion.specs.Execution.{Seen, sent_after, sent_event}
+use Rattle.tpm_completion.specs.Hiding.{heard}
 use Rattle.tpm_completion.specs.Loading.{context_asked, object_opened}
 use Rattle.tpm_completion.specs.Properties.{values_set}
 use Rattle.tpm_completion.specs.Reply.{reply}
@@ -109,10 +110,12 @@ layer_reads s c r (Given buffer locality elapsed random) =
 layer_reads s c r Cycled = false
 layer_reads s c r (Placed object) = false
 
--- whether the device or, if it completes the event, the layer reads secret data
+-- whether the device or, if it completes the event, the layer reads secret data. With the layer, the
+-- device gets the event in which saved sessions are hidden
 abbrev pub is_reading_with : Secrecy → (completes : Bool) → Completion → Record → PlainEvent → Bool
-is_reading_with s completes c r event =
-    is_reading s r event || (completes && layer_reads s c r event)
+is_reading_with s false c r event = is_reading s r event
+is_reading_with s true c r event =
+    is_reading s r (heard c event) || layer_reads s c r (heard c event)
 
 -- ---- HMACs that the layer checks
 
@@ -221,13 +224,19 @@ LayerForgetsAlike =
 
 -- ---- an event
 
--- whether the layer's answer to an event is the context of an object that has a secret
+-- whether the layer's answer to an event that the device gets is the context of an object that has a
+-- secret
 abbrev pub is_saving : Secrecy → Completion → Record → PlainEvent → Bool
 is_saving s c r (Given buffer locality elapsed random) =
     let first : Seen = device_effect c r (Given buffer locality elapsed random) in
     saves_secret s first.step.after first.layer buffer first.step.response
 is_saving s c r Cycled = false
 is_saving s c r (Placed object) = false
+
+-- whether the answer to an event, with or without the layer, is the context of an object that has a
+-- secret
+abbrev pub is_saving_with : Secrecy → (completes : Bool) → Completion → Record → PlainEvent → Bool
+is_saving_with s completes c r event = completes && is_saving s c r (heard c event)
 
 -- Two effects report the same row and leave the layer in the same state, and the two devices differ
 -- only in secrets. The responses are the same, unless they are contexts of an object that has a
@@ -250,7 +259,7 @@ CompletedTellsNothing =
     → let s : Secrecy = of_data indices objects in
     DifferInSecrets s one other → EventsAlike s event also
     → is_reading_with s completes c one event ≡ false
-    → CompletesAlike s (completes && is_saving s c one event)
+    → CompletesAlike s (is_saving_with s completes c one event)
     (completed_effect completes c one event) (completed_effect completes c other also)
 
 -- ---- a list of events
@@ -265,7 +274,7 @@ abbrev pub answers_with : Secrecy → Completion → Record → Completions → 
 answers_with s c r [] = []
 answers_with s c r (e ∷ es) =
     let x : Seen = completed_effect e.0 c r e.1 in
-    (unless (e.0 && is_saving s c r e.1) x.step.response, x.step.row)
+    (unless (is_saving_with s e.0 c r e.1) x.step.response, x.step.row)
     ∷ answers_with s x.layer x.step.after es
 
 -- None of these events reads secret data when it is executed.

@@ -109,7 +109,9 @@ fn add_index<N: Indices>(indices: &mut N, lowest: u64, text: &mut Cursor) -> Res
     }
     match indices.restore(index.public, index.auth_value, index.bytes) {
         Ok(()) => Ok(number + 1),
-        Err(RestoreFault::Space) => Err(FillFault::Malformed),
+        Err(RestoreFault::Public | RestoreFault::DataSize | RestoreFault::Space) => {
+            Err(FillFault::Malformed)
+        }
         Err(RestoreFault::Defined | RestoreFault::NoMemory) => Err(FillFault::NoMemory),
     }
 }

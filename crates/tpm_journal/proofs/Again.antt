@@ -177,7 +177,8 @@ one_head : (text : List ℕ) (kind other : HeadKind) (clock time : ℕ)
     → BeginsWith text other time bytes behind → (kind ≡ other) × (clock ≡ time) × (content ≡ bytes)
 one_head text kind other clock time content bytes rest behind begins others =
     let same = sym begins.is ∙ others.is in
-    let kinds : kind ≡ other = same_kind kind other clock time content bytes rest behind same in
+    let kinds : kind ≡ other = same_kind kind other clock time content bytes rest behind begins.has.named
+    others.has.named same in
     let head = same_head kind clock time content bytes rest behind begins.has
     (subst (λ (k : HeadKind). HasHead k time bytes) (sym kinds) others.has)
     (same ∙ ap (λ (k : HeadKind). head_text k time bytes ++ behind) (sym kinds)) in

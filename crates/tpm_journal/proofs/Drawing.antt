@@ -20,6 +20,7 @@ use Rattle.tpm_machine.specs.Drawn.{drawn_by, drawn_by_command}
 use Rattle.tpm_completion.specs.Answer.{is_refusal, refusal}
 use Rattle.tpm_completion.specs.Command.{authorized_command, plain_command}
 use Rattle.tpm_completion.specs.Execution.{AsksFirst, LoadsOrSends, CompletesIf, Loads, Passes, PlacesIf, Seen, Sends, asked_after, opened_after, sent_after}
+use Rattle.tpm_completion.specs.Hiding.{heard_buffer}
 use Rattle.tpm_completion.specs.Loading.{context_asked, object_context_in}
 use Rattle.tpm_completion.specs.Sending.{sent_for, sent_in}
 use Rattle.tpm_completion.specs.declared.completion.Completion.{Completion}
@@ -100,7 +101,7 @@ pub if_within : (can completes : Bool) (layer : Completion) (old : Record) (buff
 if_within can false layer old buffer locality elapsed random seen passes =
     no_more_drawn can layer old buffer locality elapsed random seen passes
 if_within can true layer old buffer locality elapsed random seen completes =
-    asks_within can layer old buffer locality elapsed random seen completes
+    asks_within can layer old (heard_buffer layer buffer) locality elapsed random seen completes
 
 pub draws_within : (can : Bool) (layer : Completion) (old : Record) (c : Command) (seen : Seen)
     → Executed can layer old c seen → seen.drawn ≤ length c.random

@@ -10,6 +10,7 @@ use Rattle.tpm_machine.proofs.Following.{execution_follows}
 use Rattle.tpm_journal.specs.draw_laws.Bytes.{AgreeOnDrawn, zeros_behind}
 use Rattle.tpm_journal.proofs.draw_laws.Executions.{draws_alike, executes_alike, replays, replay_draws}
 use Rattle.tpm_completion.specs.Execution.{AsksFirst, LoadsOrSends, CompletesIf, Passes, Seen, Sends, asked_after, sent_after}
+use Rattle.tpm_completion.specs.Hiding.{heard_buffer}
 use Rattle.tpm_completion.specs.declared.completion.Completion.{Completion}
 use Rattle.tpm_completion.specs.declared.sending.Sent.{Sent}
 use Rattle.tpm_journal_text.specs.Entry.{PlainEntry}
@@ -153,7 +154,7 @@ executed_again : (completes : Bool) (layer : Completion) (old : Record) (buffer 
 executed_again false layer old buffer locality elapsed random seen passes =
     passes_again layer old buffer locality elapsed random seen passes
 executed_again true layer old buffer locality elapsed random seen completes =
-    asks_again layer old buffer locality elapsed random seen completes
+    asks_again layer old (heard_buffer layer buffer) locality elapsed random seen completes
 
 pub ignores : IgnoresUndrawn
 ignores layer old c seen executed =

@@ -12,7 +12,7 @@ ghost use Rattle.tpm_journal.specs.Command.{Executed, command_at, elapsed_of, en
 ghost use Rattle.tpm_journal.specs.Starting.{start_by};
 ghost use Rattle.tpm_journal.specs.State.{journal_after, journal_begun, journal_of, journal_resumed, layer_in};
 ghost use Rattle.tpm_journal_text.specs.Entry.{IsEntry, entry_text};
-ghost use Rattle.tpm_journal_text.specs.Head.{content_limit, head_sum, head_text};
+ghost use Rattle.tpm_journal_text.specs.Head.{IsKind, content_limit, head_sum, head_text};
 ghost use Rattle.tpm_journal_text.specs.declared.head.HeadKind.TheVariants.{Image, State};
 ghost use Rattle.tpm_machine.specs.State.{state_of};
 ghost use Rattle.tpm_record.specs.Cycle.{after_cycle};
@@ -219,7 +219,8 @@ fn put_head(
     sum: &mut u64,
     buffer: &mut [u8],
 ) -> usize
-    requires { length front.now + length back.now ≤ content_limit kind }
+    requires named { IsKind kind }
+    requires small { length front.now + length back.now ≤ content_limit kind }
     ensures head { PutsFront (head_text kind clock_ms (front.now ++ back.now)) buffer.old result
         buffer.new }
     ensures sum { result ≤ length buffer.old

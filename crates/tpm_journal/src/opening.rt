@@ -89,7 +89,7 @@ fn open_head<K: Keep>(machine: &mut Machine<K>, head: &Head) -> Result<Journal, 
 {
     match head.kind {
         HeadKind::Image => open_image(machine, head),
-        HeadKind::State => open_state(machine, head),
+        HeadKind::State | HeadKind::Versioned(_) => open_state(machine, head),
     }
 }
 

@@ -8,12 +8,13 @@ use Rattle.std.proofs.lemmas.Bool.{lt-ltb}
 use Rattle.std.proofs.lemmas.Bool.Decides.{nat_tests}
 use Rattle.hex.specs.Hex.{encode_lower}
 use Rattle.tpm_journal_text.specs.Entry.{IsEntry, PlainEntry, entry_text, entry_word, executing_lines, mark_line, mark_of, setting_lines, shown, sum_after, ten_digits}
+use Rattle.tpm_journal_text.proofs.HeadStanding.{version_text}
 use Rattle.tpm_journal_text.specs.Head.{head_mark, head_sum, head_text, head_word}
 use Rattle.tpm_journal_text.specs.Journal.{entries_text}
 use Rattle.tpm_journal_text.specs.Marked.{marked_line}
 use Rattle.tpm_journal_text.specs.Sum.{sum_from}
 use Rattle.tpm_journal_text.specs.declared.head.HeadKind.{HeadKind}
-use Rattle.tpm_journal_text.specs.declared.head.HeadKind.TheVariants.{Image, State}
+use Rattle.tpm_journal_text.specs.declared.head.HeadKind.TheVariants.{Image, State, Versioned}
 use Rattle.tpmsim_script.specs.Line.{Executes, SetsLocality, Waits, SetsEntropy, DoesNothing}
 use Rattle.tpmsim_script.specs.Line.{line_meaning, line_reading, lines_of, reading_by, reading_with}
 use Rattle.tpm_journal_laws.specs.Meanings.{EntryMeansIt, HeadMeansNothing, JournalMeansIt, entries_meanings, entry_meanings, meanings_of}
@@ -275,11 +276,21 @@ head_front State bytes sum =
       ),
     )
 
+head_front (Versioned version) bytes sum =
+    mark_unbroken (head_word (Versioned version)) bytes sum
+    (unbroken_joined (codes "# tpmsim v" ++ encode_lower (version_text version)) (32 ∷ [])
+    (unbroken_joined (codes "# tpmsim v") (encode_lower (version_text version))
+    (refl,
+    (refl, (refl, (refl, (refl, (refl, (refl, (refl, (refl, (refl, tt))))))))))
+    (hex_unbroken (version_text version)))
+    (refl, tt))
+
 pub head_front_means : (kind : HeadKind) (bytes : List ℕ) (sum : ℕ)
     → line_meaning (mark_front (head_word kind) bytes sum) ≡ Some DoesNothing
 unfolding mark_front
 head_front_means Image bytes sum = comment_means _
 head_front_means State bytes sum = comment_means _
+head_front_means (Versioned version) bytes sum = comment_means _
 
 head_grouped : (mark word digits feed rest : List ℕ)
     → (mark ++ word ++ digits ++ feed) ++ rest ≡ mark ++ ((word ++ digits) ++ (feed ++ rest))

@@ -14,7 +14,8 @@ use Rattle.tpm_journal_text.specs.Head.{head_mark, head_sum, head_word}
 use Rattle.tpm_journal_text.specs.Journal.{entries_text}
 use Rattle.tpm_journal_text.specs.Sum.{sum_from}
 use Rattle.tpm_journal_text.specs.declared.head.HeadKind.{HeadKind}
-use Rattle.tpm_journal_text.specs.declared.head.HeadKind.TheVariants.{Image, State}
+use Rattle.tpm_journal_text.specs.declared.head.HeadKind.TheVariants.{Image, State, Versioned}
+use Rattle.tpm_journal_text.proofs.HeadStanding.{word_many}
 use Rattle.tpm_journal_text.proofs.Standing.{mark_many}
 use Rattle.tpm_record.specs.Record.{Record}
 use Rattle.tpm_step.specs.step.Step.{step}
@@ -205,6 +206,13 @@ head_short Image clock content =
     omega (arith, front_many (head_word Image) (head_mark clock content) (head_sum clock content))
 head_short State clock content =
     omega (arith, front_many (head_word State) (head_mark clock content) (head_sum clock content))
+head_short (Versioned version) clock content =
+    omega (
+      arith,
+      front_many (head_word (Versioned version)) (head_mark clock content)
+          (head_sum clock content),
+      word_many (Versioned version),
+    )
 
 content_short : (content : List ℕ) → length content ≤ 32767 → length (content_line content) ≤ 65536
 unfolding content_line

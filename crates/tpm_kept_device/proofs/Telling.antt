@@ -6,8 +6,7 @@ use Rattle.tpm_journal.specs.Replay.{Replays}
 use Rattle.tpm_journal.specs.declared.following.FollowFault.{FollowFault}
 use Rattle.tpm_journal.specs.declared.following.Followed.{Followed}
 use Rattle.tpm_journal.specs.declared.journal.Journal.{Journal}
-use Rattle.tpm_journal_text.specs.Head.{content_limit, head_sum, head_text}
-use Rattle.tpm_journal_text.specs.declared.head.HeadKind.TheVariants.{State}
+use Rattle.tpm_journal_text.specs.Head.{content_limit, current_kind, head_sum, head_text}
 use Rattle.tpm_keeping.specs.Journal.{Spot}
 use Rattle.tpm_record.specs.Record.{Record}
 use Rattle.tpm_state_text.specs.State.{state_text}
@@ -44,14 +43,14 @@ module _ (before : Journal) (old : Record) (text : List ℕ) (followed : Followe
 
 module _ (s : DeviceState) (is : IsDeviceState s) (text : List ℕ)
     (same : text ≡ state_text (whole_of s)) where
-  pub text_fits : length text ≤ content_limit State
+  pub text_fits : length text ≤ content_limit current_kind
   text_fits = omega (arith, ap length same, text_small (whole_of s) is.whole)
 
   abbrev known : AreBytes text → AreBytes (state_text (whole_of s))
   known are = subst AreBytes same are
 
-  pub head_written : AreBytes text → head_text State s.time text ≡ head_of (bytes_of s)
-  head_written are = ap (head_text State s.time) same ∙ head_shown s is (known are)
+  pub head_written : AreBytes text → head_text current_kind s.time text ≡ head_of (bytes_of s)
+  head_written are = ap (head_text current_kind s.time) same ∙ head_shown s is (known are)
 
   pub sum_written : AreBytes text → head_sum s.time text ≡ head_sum_of (bytes_of s)
   sum_written are = ap (head_sum s.time) same ∙ sum_shown s is (known are)

@@ -18,8 +18,7 @@ ghost use Rattle.tpm_kept_journal.specs.State.{IsDeviceState, bytes_of, whole_of
 ghost use Rattle.tpm_kept_device.specs.View.{BeginsAs, answer_in, plain_seed, spot_in, state_of};
 ghost use Rattle.tpm_image_text.specs.Image.{image_of};
 ghost use Rattle.tpm_bytes.specs.Reading.{AreBytes};
-ghost use Rattle.tpm_journal_text.specs.Head.{content_limit, head_sum, head_text};
-ghost use Rattle.tpm_journal_text.specs.declared.head.HeadKind.TheVariants.{State};
+ghost use Rattle.tpm_journal_text.specs.Head.{content_limit, current_kind, head_sum, head_text};
 ghost use Rattle.tpm_machine.specs.State.{latest_drawn};
 ghost use Rattle.tpm_record.specs.Record.{manufactured};
 ghost use Rattle.tpm_slots.specs.SlotRecord.{slot_record};
@@ -346,16 +345,16 @@ fn put_head_of(
     text: &[u8],
     out: &mut Vec<u8>,
 ) -> Result<u64, Exhausted>
-    requires { length text.now ≤ content_limit State }
+    requires { length text.now ≤ content_limit current_kind }
     ensures head { OnOk result (out.new.items
-        ≡ out.old.items ++ head_text State clock_ms text.now) }
+        ≡ out.old.items ++ head_text current_kind clock_ms text.now) }
     ensures sum { IfOk result (λ sum. sum ≡ head_sum clock_ms text.now) }
     ensures bytes { AreBytes text.now }
 {
     let Ok(mut head) = vec![in alloc; 0u8; head_size(text.len())] else {
         return Err(Exhausted);
     };
-    let sum = write_head(HeadKind::State, clock_ms, text, &[], &mut head);
+    let sum = write_head(HeadKind::current(), clock_ms, text, &[], &mut head);
     match out.extend_from_slice(&head) {
         Ok(()) => Ok(sum),
         Err(_) => Err(Exhausted),

@@ -4,6 +4,7 @@ use Rattle.std.specs.List.{AllByRecursion}
 use Rattle.std.proofs.lemmas.Bool.{false≢true}
 use Rattle.std.proofs.lemmas.List.{length-take-le, take-append-drop}
 use Rattle.tpm_completion.specs.Execution.{AsksFirst, Completes, CompletesIf, Loads, LoadsOrSends, PlacesIf, Seen, Sends, asked_after, opened_after, sent_after}
+use Rattle.tpm_completion.specs.Hiding.{heard}
 use Rattle.tpm_completion.specs.declared.completion.Completion.{Completion}
 use Rattle.tpm_completion.specs.declared.sending.Sent.{Sent}
 use Rattle.tpm_completion.proofs.Exactly.{exactly}
@@ -89,7 +90,7 @@ pub record_after : (completes : Bool) (c : Completion) (old : Record) (event : P
     (seen : Seen) → CompletesIf false completes c old event seen
     → IsRecord seen.step.after
 record_after false c old event seen passes = passes.executes.is_record
-record_after true c old event seen is = completes_record c old event seen is
+record_after true c old event seen is = completes_record c old (heard c event) seen is
 
 -- A device can have the state after an effect.
 pub state_after : (s : DeviceState) (completes : Bool) (event : PlainEvent) (elapsed : ℕ)

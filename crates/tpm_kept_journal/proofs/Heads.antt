@@ -9,10 +9,10 @@ use Rattle.tpm_bytes.proofs.Fields.{AreBytes-take}
 use Rattle.tpm_image_text.proofs.FieldSpelling.{wide64}
 use Rattle.tpm_journal.specs.Starting.{Start, start_by, start_by_state}
 use Rattle.tpm_journal.specs.declared.opening.OpenFault.{OpenFault}
-use Rattle.tpm_journal_text.specs.Head.{HasHead, content_limit, head_sum, head_text}
+use Rattle.tpm_journal_text.specs.Head.{HasHead, content_limit, current_kind, head_sum, head_text}
 use Rattle.tpm_journal_text.specs.Marked.{marked_line}
 use Rattle.tpm_journal_text.specs.declared.head.HeadKind.{HeadKind}
-use Rattle.tpm_journal_text.specs.declared.head.HeadKind.TheVariants.{Image, State}
+use Rattle.tpm_journal_text.specs.declared.head.HeadKind.TheVariants.{Image, State, Versioned}
 use Rattle.tpm_keeping.specs.Journal.{Spot}
 use Rattle.tpm_snapshot.specs.Layer.{completion_of}
 use Rattle.tpm_state_text.specs.Body.{WholeState}
@@ -36,7 +36,7 @@ use Rattle.tpm_kept_journal.proofs.texts.Parts.{Decides-leb, so_found, so_told}
 pub record IsWritable (text : List ℕ) : Type 0 where
   pub are : AreBytes text
   pub says : IsStateText text
-  pub small : length (content_in text) ≤ content_limit State
+  pub small : length (content_in text) ≤ content_limit current_kind
 
 some_state : (text : List ℕ) (found : Option DeviceState) → state_of_bytes text ≡ found
     → is_some found ≡ true → IsStateText text
@@ -55,7 +55,7 @@ writable text is =
     record {
       are = (are_bytes-Decides text).0 parts.0;
       says = some_state text (state_of_bytes text) refl others.0;
-      small = (Decides-leb (length (content_in text)) (content_limit State)).0 others.1;
+      small = (Decides-leb (length (content_in text)) (content_limit current_kind)).0 others.1;
     }
 
 -- If every element of a list is a byte, every element after the first eight is also a byte.
@@ -63,10 +63,11 @@ content_bytes : (text : List ℕ) → AreBytes text → AreBytes (content_in tex
 content_bytes text are i = rw get_or-drop (are (8 + i))
 
 abbrev head_is : (text : List ℕ) → PlainHead
-head_is text = record { kind = State; clock = time_in text; content = content_in text }
+head_is text = record { kind = current_kind; clock = time_in text; content = content_in text }
 
-has_head : (text : List ℕ) → IsWritable text → HasHead State (time_in text) (content_in text)
+has_head : (text : List ℕ) → IsWritable text → HasHead current_kind (time_in text) (content_in text)
 has_head text is = record {
+  named = omega arith;
   in_time = wide64.below (take 8 text) (AreBytes-take 8 text is.are);
   small = is.small;
   are_bytes = content_bytes text is.are;
@@ -117,6 +118,7 @@ head_first : (kind : HeadKind) (clock : ℕ) (content rest : List ℕ)
 unfolding head_text marked_line
 head_first Image clock content rest = refl
 head_first State clock content rest = refl
+head_first (Versioned version) clock content rest = refl
 
 -- A head that can be written starts the device that it contains.
 pub head_starts : (h : PlainHead) (rest : List ℕ) → HasHead h.kind h.clock h.content
@@ -127,14 +129,14 @@ head_starts h rest has = head_first h.kind h.clock h.content rest
 
 -- The head that contains an encoded state starts the device in that state.
 state_starts : (text : List ℕ) (is : IsWritable text)
-    → spot_by (length (head_text State (time_in text) (content_in text)))
-    (start_by State (time_in text) (content_in text))
+    → spot_by (length (head_text current_kind (time_in text) (content_in text)))
+    (start_by current_kind (time_in text) (content_in text))
     ≡ Some (
       spot_made text (head_sum (time_in text) (content_in text)),
-      length (head_text State (time_in text) (content_in text)),
+      length (head_text current_kind (time_in text) (content_in text)),
     )
 state_starts text is =
-    let size : ℕ = length (head_text State (time_in text) (content_in text)) in
+    let size : ℕ = length (head_text current_kind (time_in text) (content_in text)) in
     ap (λ (r : Result WholeState StateFault). spot_by size
     (start_by_state (time_in text) (content_in text) r)) is.says.says
     ∙ ap (λ (l : List ℕ). Some (spot_made l (head_sum (time_in text) (content_in text)), size))
@@ -147,11 +149,11 @@ whole_is size p = so_told (size == size) p (eq-eqb size size refl)
 
 head_by : (so : Bool) (text : List ℕ) → (so ≡ true → IsWritable text)
     → whole_head
-    (length (cond so (head_text State (time_in text) (content_in text)) (no_head text)))
-    (started_at (cond so (head_text State (time_in text) (content_in text)) (no_head text)))
+    (length (cond so (head_text current_kind (time_in text) (content_in text)) (no_head text)))
+    (started_at (cond so (head_text current_kind (time_in text) (content_in text)) (no_head text)))
     ≡ Some (spot_made text (cond so (head_sum (time_in text) (content_in text)) 0))
 head_by true text is =
-    let head : List ℕ = head_text State (time_in text) (content_in text) in
+    let head : List ℕ = head_text current_kind (time_in text) (content_in text) in
     let starts : started_at head
     ≡ Some (spot_made text (head_sum (time_in text) (content_in text)), length head) =
     ap started_at (sym (append-nil head)) ∙ head_starts (head_is text) [] (has_head text (is refl))

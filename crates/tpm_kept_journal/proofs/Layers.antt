@@ -24,6 +24,7 @@ use Rattle.tpm_completion.specs.Completion.{forgotten, sequences_kept, session_c
 use Rattle.tpm_completion.specs.Context.{token_at}
 use Rattle.tpm_completion.specs.Execution.{Seen, asked_after, opened_after, sent_after, sent_event}
 use Rattle.tpm_completion.specs.Hashing.{hash_row}
+use Rattle.tpm_completion.specs.Hiding.{heard}
 use Rattle.tpm_completion.specs.Loading.{placed_reply}
 use Rattle.tpm_completion.specs.Reply.{capability_asked, capability_reply, command_reply, load_asked, or_reply, plain_reply, probe_reply, reply, reply_by, result_reply, row_served, save_asked, served_reply, stands, stir_reply}
 use Rattle.tpm_completion.specs.Testing.{incremental_row, test_parms_row, test_result_row}
@@ -335,4 +336,4 @@ with_fine c old (Placed object) is = passed_fine c old (Placed object) is
 pub completed_fine : (completes : Bool) (c : Completion) (old : Record) (event : PlainEvent)
     → IsFine c → IsFine (completed_effect completes c old event).layer
 completed_fine false c old event is = passed_fine c old event is
-completed_fine true c old event is = with_fine c old event is
+completed_fine true c old event is = with_fine c old (heard c event) is

@@ -16,7 +16,7 @@ use Rattle.tpm_journal_text.specs.Head.{HasHead, head_sum}
 use Rattle.tpm_journal_text.specs.Journal.{entries_text, sum_after_all}
 use Rattle.tpm_journal_text.specs.Sum.{sum_of}
 use Rattle.tpm_journal_text.specs.declared.head.HeadKind.{HeadKind}
-use Rattle.tpm_journal_text.specs.declared.head.HeadKind.TheVariants.{Image, State}
+use Rattle.tpm_journal_text.specs.declared.head.HeadKind.TheVariants.{Image, State, Versioned}
 use Rattle.tpm_journal_text.proofs.Tails.{torn_nothing}
 use Rattle.tpm_keeping.specs.Journal.{Spot}
 use Rattle.tpm_state_text.specs.Body.{WholeState}
@@ -166,6 +166,7 @@ module _ (clock : ℕ) (content : List ℕ) (start : Start) where
       → start.journal.sum ≡ head_sum clock content
   start_sum Image is = sum_by_image (image_of content) is
   start_sum State is = sum_by_state (current_state_of_text content) is
+  start_sum (Versioned version) is = sum_by_state (current_state_of_text content) is
 
 module _ (h : PlainHead) (rest : List ℕ) (p : Spot) (n : ℕ) (has : HasHead h.kind h.clock h.content)
     (leads : opened_text (text_of_head h ++ rest) ≡ Some (p, n)) where

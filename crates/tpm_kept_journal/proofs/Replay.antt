@@ -6,9 +6,10 @@ use Rattle.std.proofs.lemmas.List.{length-append, length-replicate, length-take-
 use Rattle.std.proofs.lemmas.Slice.Eq.{bytes_eq-Decides}
 use Rattle.tpm_completion.specs.Answer.{is_refusal, refusal}
 use Rattle.tpm_completion.specs.Command.{authorized_command, plain_command}
-use Rattle.tpm_completion.specs.Completed.{completed_after, completed_effect, device_effect, done_after, loaded_after, sending_after}
+use Rattle.tpm_completion.specs.Completed.{completed_after, completed_effect, completed_with, device_effect, done_after, loaded_after, sending_after}
 use Rattle.tpm_completion.specs.Completion.{forgotten}
 use Rattle.tpm_completion.specs.Execution.{Seen, asked_after, opened_after, sent_after, sent_effect}
+use Rattle.tpm_completion.specs.Hiding.{heard_buffer}
 use Rattle.tpm_completion.specs.Loading.{context_asked, object_context_in}
 use Rattle.tpm_completion.specs.Sending.{sent_for, sent_in}
 use Rattle.tpm_completion.specs.declared.completion.Completion.{Completion}
@@ -262,13 +263,12 @@ module _ (c : Completion) (old : Record) (buffer : List ℕ) (locality elapsed :
   done_again None = sent_again (sent_after first buffer)
   done_again (Some context) = refl
 
-  pub completed_again : (completes : Bool) (n : ℕ)
-      → n ≡ (completed_effect completes c old (Given buffer locality elapsed random)).drawn
-      → completed_effect completes c old (Given buffer locality elapsed (zeros_behind n random))
-      ≡ completed_effect completes c old (Given buffer locality elapsed random)
-  completed_again false n is = passed_again c old buffer locality elapsed random n is all
-  completed_again true n is =
-      ap (λ (m : ℕ). completed_effect true c old
+  -- The effect of the command with the layer, for the buffer that the device gets.
+  with_again : (n : ℕ) → n ≡ (completed_with c old (Given buffer locality elapsed random)).drawn
+      → completed_with c old (Given buffer locality elapsed (zeros_behind n random))
+      ≡ completed_with c old (Given buffer locality elapsed random)
+  with_again n is =
+      ap (λ (m : ℕ). completed_with c old
       (Given buffer locality elapsed (zeros_behind m random))) is
       ∙ ap (λ (f : Seen). completed_after f buffer locality
       (zeros_behind (done_after first buffer locality random (asked_after first buffer)).drawn
@@ -276,11 +276,24 @@ module _ (c : Completion) (old : Record) (buffer : List ℕ) (locality elapsed :
       (first_again (asked_after first buffer) refl)
       ∙ done_again (asked_after first buffer)
 
+  with_few : (completed_with c old (Given buffer locality elapsed random)).drawn ≤ length random
+  with_few = few_behind (asked_after first buffer)
+
+module _ (c : Completion) (old : Record) (buffer : List ℕ) (locality elapsed : ℕ) (random : List ℕ)
+    (all : length random ≡ 256) where
+  pub completed_again : (completes : Bool) (n : ℕ)
+      → n ≡ (completed_effect completes c old (Given buffer locality elapsed random)).drawn
+      → completed_effect completes c old (Given buffer locality elapsed (zeros_behind n random))
+      ≡ completed_effect completes c old (Given buffer locality elapsed random)
+  completed_again false n is = passed_again c old buffer locality elapsed random n is all
+  completed_again true n is =
+      with_again c old (heard_buffer c buffer) locality elapsed random all n is
+
   pub completed_few : (completes : Bool)
       → (completed_effect completes c old (Given buffer locality elapsed random)).drawn
       ≤ length random
   completed_few false = few_drawn c old buffer locality elapsed random
-  completed_few true = few_behind (asked_after first buffer)
+  completed_few true = with_few c old (heard_buffer c buffer) locality elapsed random all
 
 -- ---- entries
 

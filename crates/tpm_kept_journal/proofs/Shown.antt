@@ -5,8 +5,7 @@ use Rattle.std.specs.Prelude.{is_some}
 use Rattle.std.specs.Int.{w64, to_be_bytes}
 use Rattle.tpm_bytes.specs.Reading.{AreBytes}
 use Rattle.tpm_journal_text.proofs.Bytes.{all_small}
-use Rattle.tpm_journal_text.specs.Head.{content_limit, head_sum, head_text}
-use Rattle.tpm_journal_text.specs.declared.head.HeadKind.TheVariants.{State}
+use Rattle.tpm_journal_text.specs.Head.{content_limit, current_kind, head_sum, head_text}
 use Rattle.tpm_state_text.specs.State.{state_text}
 use Rattle.tpm_state_text.proofs.StateLaws.{text_small}
 use Rattle.tpm_kept_journal.specs.Opening.{head_of, head_sum_of, is_state_text, no_head}
@@ -46,7 +45,7 @@ module _ (s : DeviceState) (is : IsDeviceState s) (are : AreBytes (state_text (w
   all_bytes = bytes_joined (to_be_bytes w64 s.time) (state_text (whole_of s)) (number_bytes s.time)
       are
 
-  small : length (content_in text) ≤ content_limit State
+  small : length (content_in text) ≤ content_limit current_kind
   small = omega (arith, ap length (content_of s), text_small (whole_of s) is.whole)
 
   writable : is_state_text text ≡ true
@@ -55,14 +54,14 @@ module _ (s : DeviceState) (is : IsDeviceState s) (are : AreBytes (state_text (w
       both (are_bytes text) _ ((are_bytes-Decides text).1 all_bytes)
       (both (is_some (state_of_bytes text)) _ (ap is_some (state_told s is)) (le-leb _ _ small))
 
-  pub head_shown : head_text State s.time (state_text (whole_of s)) ≡ head_of text
+  pub head_shown : head_text current_kind s.time (state_text (whole_of s)) ≡ head_of text
   unfolding head_of
   head_shown =
       sym (
-      ap (λ (b : Bool). cond b (head_text State (time_in text) (content_in text)) (no_head text))
+      ap (λ (b : Bool). cond b (head_text current_kind (time_in text) (content_in text)) (no_head text))
       writable
-      ∙ ap (λ (n : ℕ). head_text State n (content_in text)) (time_of s is.time)
-      ∙ ap (head_text State s.time) (content_of s)
+      ∙ ap (λ (n : ℕ). head_text current_kind n (content_in text)) (time_of s is.time)
+      ∙ ap (head_text current_kind s.time) (content_of s)
       )
 
   pub sum_shown : head_sum s.time (state_text (whole_of s)) ≡ head_sum_of text

@@ -20,7 +20,7 @@ use Rattle.tpm_journal.specs.declared.opening.Opened.{Opened}
 use Rattle.tpm_journal_text.specs.Head.{head_mark, head_sum, head_text}
 use Rattle.tpm_journal_text.specs.Sum.{offset_basis}
 use Rattle.tpm_journal_text.specs.declared.head.HeadKind.{HeadKind}
-use Rattle.tpm_journal_text.specs.declared.head.HeadKind.TheVariants.{Image, State}
+use Rattle.tpm_journal_text.specs.declared.head.HeadKind.TheVariants.{Image, State, Versioned}
 use Rattle.tpm_keeping.specs.Journal.{Spot}
 use Rattle.tpm_record.specs.IsRecord.{IsRecord}
 use Rattle.tpm_record.specs.Record.{Record}
@@ -108,6 +108,7 @@ module _ (clock : ℕ) (content : List ℕ) (small : clock < 2 ^ 64) (are : AreB
       → IsDeviceState (state_in start.journal start.device)
   starts_whole Image is = by_image (image_of content) refl is
   starts_whole State is = by_state (current_state_of_text content) refl is
+  starts_whole (Versioned version) is = by_state (current_state_of_text content) refl is
 
 -- ---- bytes that begin with a head
 

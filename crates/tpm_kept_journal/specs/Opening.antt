@@ -6,8 +6,7 @@ use Rattle.tpm_journal.specs.Command.{event_of}
 use Rattle.tpm_journal.specs.Starting.{Start, start_by}
 use Rattle.tpm_journal.specs.declared.opening.OpenFault.{OpenFault}
 use Rattle.tpm_journal_text.specs.Entry.{PlainEntry, entry_text, sum_after}
-use Rattle.tpm_journal_text.specs.Head.{content_limit, head_sum, head_text}
-use Rattle.tpm_journal_text.specs.declared.head.HeadKind.TheVariants.{State}
+use Rattle.tpm_journal_text.specs.Head.{content_limit, current_kind, head_sum, head_text}
 use Rattle.tpm_journal_text.specs.Sum.{sum_of}
 use Rattle.tpm_keeping.specs.Journal.{Spot}
 use Rattle.tpm_kept_journal.specs.Effect.{left_by}
@@ -72,17 +71,17 @@ spot_after_walk p taken text = walk (suc (length text)) p taken text
 unfoldable pub is_state_text : List ℕ → Bool
 is_state_text text =
     are_bytes text
-    && (is_some (state_of_bytes text) && nat_le (length (content_in text)) (content_limit State))
+    && (is_some (state_of_bytes text) && nat_le (length (content_in text)) (content_limit current_kind))
 
 -- the head for bytes that do not encode a state. It contains a number that is not a byte, so no
 -- file begins with it. Because of this head, laws about heads hold for all lists of numbers.
 abbrev pub no_head : List ℕ → List ℕ
 no_head text = 256 ∷ length text ∷ text
 
--- the head for an encoded state
+-- the head for an encoded state, with the version of this library
 unfoldable pub head_of : List ℕ → List ℕ
 head_of text =
-    cond (is_state_text text) (head_text State (time_in text) (content_in text)) (no_head text)
+    cond (is_state_text text) (head_text current_kind (time_in text) (content_in text)) (no_head text)
 
 -- the checksum after the head for an encoded state
 unfoldable pub head_sum_of : List ℕ → ℕ

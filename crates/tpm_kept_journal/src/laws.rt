@@ -3,8 +3,7 @@
 
 ghost use Rattle.std.specs.Prelude.{◌≡◌, ◌≤◌, ℕ, List, Some, take};
 ghost use Rattle.tpm_bytes.specs.Reading.{AreBytes};
-ghost use Rattle.tpm_journal_text.specs.Head.{head_text};
-ghost use Rattle.tpm_journal_text.specs.declared.head.HeadKind.TheVariants.{State};
+ghost use Rattle.tpm_journal_text.specs.Head.{current_kind, head_text};
 ghost use Rattle.tpm_keeping.specs.Journal.{IsJournal, Spot};
 ghost use Rattle.tpm_kept_journal.specs.DeviceJournal.{device_journal};
 ghost use Rattle.tpm_kept_journal.specs.Opening.{head_of, opened_text};
@@ -31,7 +30,7 @@ pub fn device_journal_laws()
 pub fn device_state_laws()
     ensures told { (s : DeviceState) → IsDeviceState s → state_of_bytes (bytes_of s) ≡ Some s }
     ensures head { (s : DeviceState) → IsDeviceState s → AreBytes (state_text (whole_of s))
-        → head_text State s.time (state_text (whole_of s)) ≡ head_of (bytes_of s) }
+        → head_text current_kind s.time (state_text (whole_of s)) ≡ head_of (bytes_of s) }
 {}
 
 /// A new device's completing layer gets its start number from the seed, even if the device is

@@ -10,7 +10,7 @@ use Rattle.tpm_types_command.proofs.CommandLaws.{command_size-is, command_takes,
 use Rattle.tpm_auth.specs.Entries.{decrypts}
 use Rattle.tpm_step.specs.step.Parameters.{plain_parameters}
 use Rattle.tpm_types_command.specs.AuthEntry.{Entry}
-use Rattle.tpm_types_command.specs.declared.command.Command.{Command}
+use Rattle.tpm_types_command.specs.declared.command_ref.CommandRef.{CommandRef}
 use Rattle.tpm_types_command.specs.Command.{Whole, command_body_text, command_at, command_size, sessions_text, whole_of}
 use Rattle.tpm_record.specs.Record.{Record}
 use Rattle.tpm_auth.specs.declared.session_grant.Grant.{Grant}
@@ -26,7 +26,7 @@ spells : (r : Record) (buffer : List ℕ) (c : Whole) → general r buffer ≡ O
 spells r buffer c is = ok_at (λ x. command_at buffer ≡ Ok (x, [])) (general r buffer) c
     (general_reads r buffer) is
 
-pub decodes_reads : (r : Record) (buffer : List ℕ) (result : Result Command RefusedCommand)
+pub decodes_reads : (r : Record) (buffer : List ℕ) (result : Result CommandRef RefusedCommand)
     → Gives whole_of (general r buffer) result
     → IfOk result (λ command. command_at buffer ≡ Ok (whole_of command, []))
 decodes_reads r buffer (Ok command) decoded = spells r buffer (whole_of command) decoded
@@ -41,7 +41,7 @@ short_of c small =
     omega (arith, size, body)
 
 -- the parameters of a decoded command are no longer than the largest buffer
-pub decodes_short : (r : Record) (buffer : List ℕ) (result : Result Command RefusedCommand)
+pub decodes_short : (r : Record) (buffer : List ℕ) (result : Result CommandRef RefusedCommand)
     → AreBytes buffer → Gives whole_of (general r buffer) result
     → IfOk result (λ command. length command.parameters.now ≤ buffer_limit)
 decodes_short r buffer (Ok command) fits decoded =

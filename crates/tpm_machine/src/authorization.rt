@@ -13,14 +13,14 @@ use arrayvec::ArrayVec;
 use tpm_auth::{Cache, Grants, Sent, authorize_sent};
 use tpm_record::Keep;
 use tpm_step::RefusedCommand;
-use tpm_types_command::{AuthEntry, Command};
+use tpm_types_command::{AuthEntry, CommandRef};
 use tpm_types_common::Locality;
 
 /// A command that passed the general checks, and what its entries authorize. It is made once, and
 /// passed to the command's row and to the response.
 #[derive(Drop)]
 pub struct Authorization<'a, 'b> {
-    pub command: Command<'a, 'b>,
+    pub command: CommandRef<'a, 'b>,
     pub grants: Grants,
 }
 

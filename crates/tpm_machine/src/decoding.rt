@@ -16,7 +16,7 @@ use tpm_bytes::{Cursor, ReadableBy};
 use tpm_commands::{CommandCode, HandleRule};
 use tpm_record::{Keep, Resolved, absence_rc, resolve};
 use tpm_step::RefusedCommand;
-use tpm_types_command::{AuthEntry, Command, Header, HeaderFault, Tag, read_sessions};
+use tpm_types_command::{AuthEntry, CommandRef, Header, HeaderFault, Tag, read_sessions};
 use tpm_types_common::{Check, Handle, Rc, Refused, ResponseCode};
 
 fn header_check(fault: HeaderFault) -> Check
@@ -127,7 +127,7 @@ fn decode_body<'a, 'b, 'k, K: Keep>(
     mut text: Cursor<'b>,
     entries: &'a mut ArrayVec<AuthEntry<'b>, 3>,
     entities: &mut ArrayVec<Resolved<'k>, 3>,
-) -> Result<Command<'a, 'b>, RefusedCommand>
+) -> Result<CommandRef<'a, 'b>, RefusedCommand>
     requires entries { entries.old.items ≡ [] }
     requires entities { entities.old.items ≡ [] }
     ensures decoded { Gives whole_of (in_command header.code
@@ -149,7 +149,7 @@ fn decode_body<'a, 'b, 'k, K: Keep>(
         return Err(RefusedCommand::of(code, refused));
     }
     match read_sessions(&mut text, header.tag, entries) {
-        Ok(()) => Ok(Command {
+        Ok(()) => Ok(CommandRef {
             code,
             handles,
             entries: entries.as_slice(),
@@ -166,7 +166,7 @@ fn decode_whole<'a, 'b, 'k, K: Keep>(
     buffer: &'b [u8],
     entries: &'a mut ArrayVec<AuthEntry<'b>, 3>,
     entities: &mut ArrayVec<Resolved<'k>, 3>,
-) -> Result<Command<'a, 'b>, RefusedCommand>
+) -> Result<CommandRef<'a, 'b>, RefusedCommand>
     requires entries { entries.old.items ≡ [] }
     requires entities { entities.old.items ≡ [] }
     ensures decoded { Gives whole_of (general (K.record_of keep.now) buffer.now) result }
@@ -190,7 +190,7 @@ pub fn decode<'a, 'b, 'k, K: Keep>(
     buffer: &'b [u8],
     entries: &'a mut ArrayVec<AuthEntry<'b>, 3>,
     entities: &mut ArrayVec<Resolved<'k>, 3>,
-) -> Result<Command<'a, 'b>, RefusedCommand>
+) -> Result<CommandRef<'a, 'b>, RefusedCommand>
     requires entries { entries.old.items ≡ [] }
     requires entities { entities.old.items ≡ [] }
     ensures decoded { Gives whole_of (general (K.record_of keep.now) buffer.now) result }

@@ -1,8 +1,9 @@
 //! Session processing after a successful command: draws new nonces, answers each entry, and ends
 //! the sessions that do not continue.
 
-ghost use Rattle.std.specs.Prelude.{◌≡◌, ◌+◌, ◌*◌, ◌≤◌, ◌++◌, length, map};
+ghost use Rattle.std.specs.Prelude.{◌≡◌, ◌+◌, ◌*◌, ◌≤◌, ◌++◌, IfSome, length, map};
 ghost use Rattle.std.specs.List.{zip};
+ghost use Rattle.tpm_session.specs.Sessions.{session_at, sessions_after_roll};
 ghost use Rattle.tpm_types_command.specs.AuthEntry.{entry_of};
 ghost use Rattle.tpm_auth.specs.SessionGrant.{demands_password};
 ghost use Rattle.tpm_step.specs.step.Entries.{answer_mac, draw_of, entries_answer, entries_ended, entries_rolled, entry_answer, entry_ended, entry_restarted, entry_rolled};
@@ -13,9 +14,9 @@ use tpm_bytes::Sink;
 use tpm_mac::Digest;
 use tpm_policy::{Demand, PolicyState};
 use tpm_record::Keep;
-use tpm_session::{ParameterHashes, Session};
+use tpm_session::{Nonce, ParameterHashes, Session};
 use tpm_types_command::AuthEntry;
-use tpm_types_common::SessionType;
+use tpm_types_common::{Handle, SessionType};
 
 /// The answer to a password entry: an empty nonce, continueSession, and an empty HMAC
 /// (TPMS_AUTH_RESPONSE, TPM 2.0 Library, Part 2, section 10.13.3).
@@ -36,6 +37,17 @@ fn draw_of<K: Keep>(keep: &K, entry: &AuthEntry) -> usize
     }
 }
 
+/// Replaces the nonceTPM of a session by one of the same size.
+fn roll_session<K: Keep>(keep: &mut K, handle: Handle, nonce: Nonce)
+    requires { IfSome (session_at (K.record_of keep.old).sessions handle)
+        (λ session. length nonce ≡ length session.nonce_tpm) }
+    ensures { K.record_of keep.new ≡ record (K.record_of keep.old) {
+      sessions = sessions_after_roll (K.record_of keep.old).sessions handle nonce;
+    } }
+{
+    keep.sessions_mut().roll(handle, nonce);
+}
+
 #[tactic(auto, unfolding(tpm_step::specs::step::Entries::entry_rolled))]
 fn roll_entry<K: Keep>(keep: &mut K, entry: &AuthEntry, draws: &mut Draws)
     requires { 32 ≤ length draws.old }
@@ -45,7 +57,7 @@ fn roll_entry<K: Keep>(keep: &mut K, entry: &AuthEntry, draws: &mut Draws)
     ensures left { length draws.new ≤ length draws.old }
 {
     let nonce = draws.nonce(draw_of(keep, entry));
-    keep.sessions_mut().roll(entry.session, nonce);
+    roll_session(keep, entry.session, nonce);
 }
 
 /// Draws new nonces for the sessions of the entries, in order.

@@ -12,8 +12,8 @@
 //!
 //! The definitions of tpm_step specify this behavior: General, Table, Answer, the step of an event
 //! (Step) and runs of events (Run). [`machine::Machine::execute`] and [`machine::Machine::run`] are
-//! proved to follow these definitions, for every type that stores the state. A [`Saver`] saves a
-//! device while it is in use, and a [`Witness`] is called with each executed event.
+//! proved to follow these definitions, for every type that stores the state. The crate
+//! tpm_machine_saver has the traits that save a device while it is in use.
 
 pub mod authorization;
 pub mod decoding;
@@ -22,9 +22,7 @@ mod entries;
 pub mod machine;
 mod parameters;
 pub mod response;
-mod saver;
 pub mod table;
 
 pub use machine::Machine;
-pub use saver::{Saver, SavesNothing, Unsaved, Witness};
 pub use tpm_step::{Event, Outcome, Row};

@@ -91,8 +91,8 @@ impl<K: Keep> Machine<K> {
 
     /// Gives mutable access to the device's state, so that it can be filled in place.
     pub fn keep_mut(&mut self) -> &mut K
-        ensures* writes_back { sem 𝓛 (Lends (machine_row K.row K.SessionSlots.row
-            K.ObjectSlots.row K.PersistentMap.row K.NvIndices.row) K.row self.entry result
+        ensures* writes_back { sem 𝓛 (Lends (machine_row K.row K.Se.row
+            K.ObjectSlots.row K.PersistentMap.row K.Nv.row) K.row self.entry result
             (with_keep self.entry.now)) }
         ensures value { K.record_of result.now ≡ state_of K.record_of self.old }
     {
@@ -191,7 +191,9 @@ impl<K: Keep> Machine<K> {
 
         // If the device followed a history, it now follows that history, extended by the accepted
         // events of the run. No NV counter that stayed defined went down, the number of failed
-        // tries is bounded, and every replay repeats a nonce or an HMAC.
+        // tries is bounded. If a buffer with an HMAC of one HMAC session is accepted twice while the
+        // session lives, the session had one nonceTPM twice, or two different texts have the same
+        // HMAC.
         ensures history { (history : History) → Follows (state_of K.record_of self.old) history
             → RunFollows F.FnMut K.can_refuse (state_of K.record_of self.old) tell.old
             (map plain_event events.now) (state_of K.record_of self.new) tell.new history }
@@ -291,7 +293,6 @@ impl<K: Keep> Machine<K> {
             (in_command authorization.now.command.code (acceptance (state_of K.record_of self.old)
             (command_in authorization.now) (locality_number locality) random.now)) result.check }
     {
-        self.answer.clear();
         let (keep, answer) = (&mut self.keep, &mut self.answer);
         let cache = &mut self.cache;
         let code = authorization.command.code;

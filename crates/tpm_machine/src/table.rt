@@ -9,7 +9,6 @@ ghost use Rattle.tpm_machine.specs.Authorization.{command_in, grants_in};
 ghost use Rattle.tpm_commands.specs.CommandCode.{shape_of};
 ghost use Rattle.tpm_types_common.specs.Locality.{locality_number};
 ghost use Rattle.tpm_auth.specs.Grant.{authorize};
-ghost use Rattle.tpm_record.specs.rows.Answer.{IsEmpty};
 ghost use Rattle.tpm_record.specs.rows.Request.{request_of};
 ghost use Rattle.tpm_record.specs.rows.Rows.{ActsIfRoom};
 ghost use Rattle.tpm_step.specs.step.Step.{Accepts, acceptance};
@@ -85,7 +84,6 @@ fn act<K: Keep>(
     call: &Call,
     answer: &mut Answer,
 ) -> Result<(), Refused>
-    requires { IsEmpty answer.old }
     ensures { ActsIfRoom ((shape_of code).grows && K.can_refuse)
         (row_of (K.record_of keep.old) code (request_of call.now))
         (K.record_of keep.old) result answer.new (K.record_of keep.new) }
@@ -175,7 +173,6 @@ fn act_decrypted<K: Keep>(
     answer: &mut Answer,
 ) -> Result<(), Refused>
     requires size { length call.now.parameters.now ≤ buffer_limit }
-    requires empty { IsEmpty answer.old }
     ensures { ActsIfRoom ((shape_of code).grows && K.can_refuse)
         (row_of (K.record_of keep.old) code (record (request_of call.now) {
           parameters = plain_parameters (K.record_of keep.old)
@@ -203,7 +200,6 @@ pub fn accept<K: Keep>(
     answer: &mut Answer,
 ) -> Result<(), Refused>
     requires size { length authorization.now.command.parameters.now ≤ buffer_limit }
-    requires empty { IsEmpty answer.old }
     requires granted { authorize (K.record_of keep.old) (command_in authorization.now)
         (locality_number locality) ≡ Ok (grants_in authorization.now) }
     ensures { Accepts K.can_refuse (acceptance (K.record_of keep.old) (command_in authorization.now)

@@ -17,12 +17,18 @@ pub fn mux<K: Keep>(alloc: Global) -> Result<Mux<K>, Fail> {
 }
 
 /// The host's values for a command from locality 0, one millisecond after the previous command.
-pub fn host() -> Host {
+/// This random byte is repeated.
+fn host_with(random: u8) -> Host {
     Host {
         locality: Locality::new(0).unwrap(),
         elapsed_ms: 1,
-        random: [7; 256],
+        random: [random; 256],
     }
+}
+
+/// The host's values for a command whose random bytes the test does not choose.
+pub fn host() -> Host {
+    host_with(7)
 }
 
 /// Feeds bytes to a connection.
@@ -39,10 +45,19 @@ pub fn turn<K: Keep>(mux: &mut Mux<K>, connection: ConnectionNumber) -> Result<T
     mux.turn(connection, host())
 }
 
-/// The outcome of a connection's next buffer, which must be complete.
-pub fn answer<K: Keep>(mux: &mut Mux<K>, connection: ConnectionNumber) -> Result<Outcome, Fail> {
-    match turn(mux, connection)? {
+/// The outcome of a connection's next buffer, which must be complete. This random byte is repeated.
+pub fn answer_with<K: Keep>(
+    mux: &mut Mux<K>,
+    connection: ConnectionNumber,
+    random: u8,
+) -> Result<Outcome, Fail> {
+    match mux.turn(connection, host_with(random))? {
         Turn::Answer(outcome) => Ok(outcome),
         _ => Err(Fail::new("no answer")),
     }
+}
+
+/// The outcome of a connection's next buffer, which must be complete.
+pub fn answer<K: Keep>(mux: &mut Mux<K>, connection: ConnectionNumber) -> Result<Outcome, Fail> {
+    answer_with(mux, connection, 7)
 }

@@ -11,6 +11,8 @@
 //! proof has to wait for them, so it is proved at the same time as the program.
 
 #[cfg(test)]
+mod commands;
+#[cfg(test)]
 mod comparison;
 #[cfg(test)]
 mod connections;
@@ -18,6 +20,8 @@ mod connections;
 mod counters;
 #[cfg(test)]
 mod device;
+#[cfg(test)]
+mod digests;
 #[cfg(test)]
 mod failing;
 #[cfg(test)]
@@ -27,7 +31,15 @@ mod images;
 #[cfg(test)]
 mod keeps;
 #[cfg(test)]
+mod kept_objects;
+#[cfg(test)]
+mod measurements;
+#[cfg(test)]
 mod nv_indices;
+#[cfg(test)]
+mod pcr_values;
+#[cfg(test)]
+mod rows;
 #[cfg(test)]
 mod runs;
 #[cfg(test)]

@@ -5,13 +5,14 @@ use super::comparison::check;
 use std::alloc::Global;
 use std::process::Abort;
 use tpm_bytes::{Cursor, Sink};
+use tpm_mac::HashAlg;
 use tpm_nv::{
-    DefineFault, DefinitionFault, Indices, ListIndices, LockFault, ReadFault, WriteFault, auth,
-    check_definition, public,
+    DefineFault, DefinitionFault, Indices, ListIndices, LockFault, ReadFault, RestoreFault,
+    WriteFault, check_definition,
 };
 use tpm_slots::IndexPlaces;
-use tpm_types_common::{AuthValue, Handle};
-use tpm_types_nv::NvPublic;
+use tpm_types_common::{AuthValue, Handle, Octets};
+use tpm_types_nv::{NvAttributes, NvPublic};
 
 const FIRST: Handle = Handle {
     number: 0x0100_0001,
@@ -36,6 +37,29 @@ const EXTENDED: &[u8] = b"\x01\0\0\x01\0\x04\0\x04\0\x44\0\0\0\x14";
 
 /// An ordinary index whose public area has the attribute WRITTEN set.
 const WRITTEN: &[u8] = b"\x01\0\0\x01\0\x0b\x20\x04\0\x04\0\0\0\x08";
+
+/// The public area of a handle that is not that of an index.
+fn of_another_handle() -> NvPublic {
+    NvPublic {
+        nv_index: Handle::OWNER,
+        name_alg: HashAlg::Sha256,
+        attributes: NvAttributes { bits: 0x0004_0004 },
+        auth_policy: Octets::empty(),
+        data_size: 8,
+    }
+}
+
+/// Defines and restores what is not an index.
+fn other_handles<N: Indices>(rt: &impl Abort, indices: &mut N) {
+    let defined = indices.define(of_another_handle(), AuthValue::empty());
+    check(rt, defined, Err(DefineFault::Public));
+    let restored = indices.restore(of_another_handle(), AuthValue::empty(), b"");
+    check(rt, restored, Err(RestoreFault::Public));
+    let mut index = of_another_handle();
+    index.nv_index = FIRST;
+    let restored = indices.restore(index, AuthValue::empty(), b"unwritten");
+    check(rt, restored, Err(RestoreFault::DataSize));
+}
 
 /// A counter of four bytes.
 const SHORT_COUNTER: &[u8] = b"\x01\0\0\x02\0\x0b\0\x04\0\x14\0\0\0\x04";
@@ -85,7 +109,7 @@ fn read_fault<N: Indices>(indices: &N, handle: Handle) -> Option<ReadFault> {
 }
 
 fn has_auth<N: Indices>(indices: &N, handle: Handle, bytes: &[u8]) -> bool {
-    match auth(indices, handle) {
+    match indices.auth(handle) {
         Some(value) => value.is_same(bytes),
         None => false,
     }
@@ -94,7 +118,7 @@ fn has_auth<N: Indices>(indices: &N, handle: Handle, bytes: &[u8]) -> bool {
 /// Whether an index has the public area that these bytes encode.
 fn has_public<N: Indices>(indices: &N, handle: Handle, text: &[u8]) -> bool {
     let mut sink: Sink<46> = Sink::new();
-    match public(indices, handle) {
+    match indices.public(handle) {
         Some(area) => area.write(&mut sink).is_ok() && sink.as_slice() == text,
         None => false,
     }
@@ -112,6 +136,7 @@ fn definitions<N: Indices>(rt: &impl Abort, indices: &mut N) {
         defined_unchecked(indices, SHORT_COUNTER),
         Some(Err(DefineFault::DataSize)),
     );
+    other_handles(rt, indices);
     check(rt, indices.next(Handle::default()), None);
     check(rt, defined(indices, ORDINARY), Outcome::Answered(Ok(())));
     check(

@@ -9,11 +9,11 @@ use std::alloc::Global;
 use std::process::Abort;
 use tpm_bytes::Sink;
 use tpm_containers::{ListSlots, Slots};
-use tpm_mac::{HashAlg, KeyedMac};
+use tpm_mac::HashAlg;
 use tpm_policy::PolicyState;
 use tpm_session::{
-    Binding, CommandText, Nonce, Protection, Session, SessionKey, Sessions, Start, StartFault,
-    SymmetricFault, command_hash, is_nonce_size, response_hash,
+    Binding, CommandText, Nonce, ParameterFault, Protection, Session, SessionKey, Sessions, Start,
+    StartFault, command_hash, is_nonce_size, response_hash,
 };
 use tpm_slots::SessionPlaces;
 use tpm_types_common::{
@@ -71,9 +71,7 @@ fn owner() -> Binding {
     }
 }
 
-fn start(kind: SessionType, binding: Option<Binding>) -> Start<'static>
-    ensures { length result.nonce_tpm ≡ length result.nonce_caller.now }
-{
+fn start(kind: SessionType, binding: Option<Binding>) -> Start<'static> {
     Start {
         kind,
         hash: HashAlg::Sha256,
@@ -114,6 +112,7 @@ fn find_sessions<S: Slots<Session, SESSION_LIMIT>, R: Abort>(rt: &R, alloc: Glob
     start_three(rt, &mut sessions);
     look_up(rt, &sessions);
     roll_policy(rt, &mut sessions);
+    set_policy(rt, &mut sessions);
     flush_policy(rt, &mut sessions);
 }
 
@@ -146,28 +145,47 @@ const POLICY: Handle = Handle {
     number: 0x0300_0001,
 };
 
-/// Replaces the nonceTPM of the policy session, unless the sizes differ.
-fn roll<S: Slots<Session, SESSION_LIMIT>>(sessions: &mut Sessions<S>, nonce: &[u8]) -> bool
-    requires { length nonce.now ≤ 32 }
-{
-    match sessions.get(POLICY) {
-        Some(session) if session.nonce_tpm().len() != nonce.len() => false,
-        _ => sessions.roll(POLICY, Nonce::of(nonce)),
+/// A nonce of 20 bytes, of which the first 16 are those of `NONCE_CALLER`.
+const LONG_NONCE: &[u8] = b"\xaa\xaa\xaa\xaa\xaa\xaa\xaa\xaa\xaa\xaa\xaa\xaa\xaa\xaa\xaa\xaalong";
+
+/// A nonce of two bytes, and the same with the zeros that a session adds to it.
+const SHORT_NONCE: &[u8] = b"ab";
+
+const FILLED_NONCE: &[u8] = b"ab\0\0\0\0\0\0\0\0\0\0\0\0\0\0";
+
+/// Replaces the nonceTPM of the policy session. A nonce of another size gets the session's size.
+fn roll_policy<S: Slots<Session, SESSION_LIMIT>, R: Abort>(rt: &R, sessions: &mut Sessions<S>) {
+    for (nonce, stored) in [
+        (SHORT_NONCE, FILLED_NONCE),
+        (LONG_NONCE, NONCE_CALLER),
+        (NONCE_TPM, NONCE_TPM),
+        (NONCE_CALLER, NONCE_CALLER),
+    ] {
+        check(rt, sessions.roll(POLICY, Nonce::of(short(nonce))), true);
+        check(rt, nonce_of(sessions, 0x0300_0001), Some(stored));
     }
+    check(rt, nonce_of(sessions, 0x0300_0002), Some(NONCE_TPM));
 }
 
-fn roll_policy<S: Slots<Session, SESSION_LIMIT>, R: Abort>(rt: &R, sessions: &mut Sessions<S>) {
-    check(rt, roll(sessions, short(NONCE_CALLER)), true);
-    let rolled = nonce_of(sessions, 0x0300_0001);
-    check(rt, rolled, Some(NONCE_CALLER));
-    check(rt, nonce_of(sessions, 0x0300_0002), Some(NONCE_TPM));
+/// The size of the policy digest of a session.
+fn digest_size_of<S: Slots<Session, SESSION_LIMIT>>(sessions: &Sessions<S>) -> Option<usize> {
+    Some(sessions.get(POLICY)?.policy().digest().len())
+}
+
+/// Replaces the policy of the policy session by that of a session with another hash algorithm.
+fn set_policy<S: Slots<Session, SESSION_LIMIT>, R: Abort>(rt: &R, sessions: &mut Sessions<S>) {
+    let set = sessions.set_policy(POLICY, PolicyState::new(HashAlg::Sha1));
+    check(rt, set, true);
+    check(rt, digest_size_of(sessions), Some(32));
+    let none = sessions.set_policy(Handle::OWNER, PolicyState::new(HashAlg::Sha256));
+    check(rt, none, false);
 }
 
 /// Flushes the policy session. Then starts a session, which gets the number of the flushed session.
 fn flush_policy<S: Slots<Session, SESSION_LIMIT>, R: Abort>(rt: &R, sessions: &mut Sessions<S>) {
     check(rt, sessions.flush(POLICY), true);
     check(rt, sessions.flush(POLICY), false);
-    check(rt, roll(sessions, b""), false);
+    check(rt, sessions.roll(POLICY, Nonce::of(b"")), false);
     let next = started(sessions, SessionType::Hmac);
     check(rt, next, Ok(0x0200_0001));
 }
@@ -189,6 +207,9 @@ fn fill_sessions<S: Slots<Session, SESSION_LIMIT>, R: Abort>(rt: &R, alloc: Glob
     short.nonce_caller = b"fifteen bytes..";
     short.nonce_tpm = Nonce::of(short.nonce_caller);
     check(rt, sessions.start(short).err(), Some(StartFault::Size));
+    let mut other = start(SessionType::Policy, None);
+    other.nonce_tpm = Nonce::of(b"fifteen bytes..");
+    check(rt, sessions.start(other).err(), Some(StartFault::Size));
     for (size, fits) in [(15, false), (16, true), (20, true), (21, false)] {
         check(rt, (size, is_nonce_size(HashAlg::Sha1, size)), (size, fits));
     }
@@ -238,6 +259,24 @@ fn bound_session<R: Abort>(rt: &R, symmetric: SymmetricDefinition) -> Session {
     .expect(rt, "the sizes are those of SHA-256")
 }
 
+/// The handle of the session in [`with_bound`].
+const BOUND: Handle = Handle {
+    number: 0x0200_0000,
+};
+
+/// The sessions with one session, which is bound to the owner.
+fn with_bound<R: Abort>(rt: &R, alloc: Global, symmetric: SymmetricDefinition) -> Sessions<InList> {
+    let mut sessions = Sessions::new(alloc);
+    let put = sessions.put(0, bound_session(rt, symmetric));
+    check(rt, put.is_ok(), true);
+    sessions
+}
+
+/// The authorization value of the entity that an entry authorizes.
+fn entity() -> AuthValue {
+    AuthValue::of(short(b"entity"))
+}
+
 /// An unbound session with SHA-256, or None if the size of the nonce or the key is not allowed.
 fn unbound_session(nonce: usize, key: SessionKey) -> Option<Session>
     requires { nonce ≤ 32 }
@@ -282,57 +321,76 @@ fn command_text() -> CommandText<'static> {
 
 #[test]
 fn an_entry_has_an_hmac(rt: HostRuntime) {
-    let session = bound_session(&rt, SymmetricDefinition::Null);
-    let command = session.command_mac(b"entity", &command_text(), &mut KeyedMac::new());
-    check(&rt, command.as_slice(), COMMAND_MAC);
-    let response = session.response_mac(
-        b"entity",
-        RESPONSE_HASH,
-        NONCE_CALLER,
-        ATTRIBUTES,
-        &mut KeyedMac::new(),
+    let sessions = with_bound(&rt, rt.alloc(), SymmetricDefinition::Null);
+    let command = sessions.command_mac(BOUND, &entity(), &command_text());
+    check(
+        &rt,
+        command.is_some_and(|mac| mac.as_slice() == COMMAND_MAC),
+        true,
     );
-    check(&rt, response.as_slice(), RESPONSE_MAC);
+    let response = sessions.response_mac(BOUND, &entity(), RESPONSE_HASH, NONCE_CALLER, ATTRIBUTES);
+    check(
+        &rt,
+        response.is_some_and(|mac| mac.as_slice() == RESPONSE_MAC),
+        true,
+    );
+    let none = sessions.command_mac(POLICY, &entity(), &command_text());
+    check(&rt, none.is_none(), true);
 }
 
 #[test]
 fn an_entry_s_text_is_written(rt: HostRuntime) {
-    let session = bound_session(&rt, SymmetricDefinition::Null);
+    let sessions = with_bound(&rt, rt.alloc(), SymmetricDefinition::Null);
     let mut bytes: Sink<161> = Sink::new();
-    let written = session.command_text(&command_text()).write(&mut bytes);
-    check(&rt, written.is_ok(), true);
+    let text = command_text();
+    let Some(text) = sessions.entry_text(BOUND, &text) else {
+        return check(&rt, "a session", "no session");
+    };
+    check(&rt, text.write(&mut bytes).is_ok(), true);
     check(&rt, bytes.len(), 70);
     check(&rt, bytes.as_slice().ends_with(b"\xbbdecen\x21"), true);
     let mut short: Sink<64> = Sink::new();
-    let text = session.response_text(RESPONSE_HASH, NONCE_CALLER, ATTRIBUTES);
     check(&rt, text.write(&mut short).is_err(), true);
+    let text = sessions.response_text(BOUND, RESPONSE_HASH, NONCE_CALLER, ATTRIBUTES);
+    let fits = text.is_some_and(|text| text.write(&mut short).is_ok());
+    check(&rt, fits, false);
     check(&rt, short.len(), 0);
 }
 
 /// Encrypts the plaintext parameter, compares the result with the expected ciphertext, and decrypts
 /// it again.
-fn close_and_open<R: Abort>(rt: &R, symmetric: SymmetricDefinition, encrypted: &[u8]) {
-    let session = bound_session(rt, symmetric);
+fn close_and_open<R: Abort>(
+    rt: &R,
+    alloc: Global,
+    symmetric: SymmetricDefinition,
+    encrypted: &[u8],
+) {
+    let sessions = with_bound(rt, alloc, symmetric);
+    let (value, newer, older) = (entity(), NONCE_CALLER, NONCE_TPM);
     let mut parameter = [0; 25];
     parameter.copy_from_slice(PLAIN);
-    let closed = session.close_parameter(b"entity", NONCE_CALLER, NONCE_TPM, &mut parameter);
-    check(rt, closed, Ok(()));
+    let closed = sessions.close_parameter(BOUND, &value, newer, older, &mut parameter);
+    check(rt, closed, Some(Ok(())));
     check(rt, parameter.as_slice(), encrypted);
-    let opened = session.open_parameter(b"entity", NONCE_CALLER, NONCE_TPM, &mut parameter);
-    check(rt, opened, Ok(()));
+    let opened = sessions.open_parameter(BOUND, &value, newer, older, &mut parameter);
+    check(rt, opened, Some(Ok(())));
     check(rt, parameter.as_slice(), PLAIN);
 }
 
 #[test]
 fn a_parameter_is_encrypted(rt: HostRuntime) {
-    close_and_open(&rt, SymmetricDefinition::Aes128Cfb, ENCRYPTED);
-    close_and_open(&rt, SymmetricDefinition::Xor(HashAlg::Sha256), MASKED);
+    let xor = SymmetricDefinition::Xor(HashAlg::Sha256);
+    close_and_open(&rt, rt.alloc(), SymmetricDefinition::Aes128Cfb, ENCRYPTED);
+    close_and_open(&rt, rt.alloc(), xor, MASKED);
     let mut parameter = [0; 25];
     parameter.copy_from_slice(PLAIN);
-    let bare = bound_session(&rt, SymmetricDefinition::Null);
-    let refused = bare.close_parameter(b"", b"", b"", &mut parameter);
-    check(&rt, refused, Err(SymmetricFault));
-    let refused = bare.open_parameter(b"", b"", b"", &mut parameter);
-    check(&rt, refused, Err(SymmetricFault));
+    let bare = with_bound(&rt, rt.alloc(), SymmetricDefinition::Null);
+    let refused = bare.close_parameter(BOUND, &entity(), b"", b"", &mut parameter);
+    check(&rt, refused, Some(Err(ParameterFault::Symmetric)));
+    let none = bare.open_parameter(POLICY, &entity(), b"", b"", &mut parameter);
+    check(&rt, none, None);
     check(&rt, parameter.as_slice(), PLAIN);
+    let mut long = [0; 4097];
+    let refused = bare.open_parameter(BOUND, &entity(), b"", b"", &mut long);
+    check(&rt, refused, Some(Err(ParameterFault::Size)));
 }

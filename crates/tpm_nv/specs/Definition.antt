@@ -4,7 +4,7 @@
 -- unsupported attributes are refused.
 use Rattle.tpm_types_common.specs.Algorithm.{is_policy_size}
 use Rattle.tpm_types_common.specs.Limits.{nv_data_limit}
-use Rattle.std.specs.Prelude.{◌≡◌, ℕ, ◌==◌, ◌&&◌, nat_lt, nat_le, not, Bool, true, false}
+use Rattle.std.specs.Prelude.{◌≡◌, ℕ, ◌==◌, ◌&&◌, if◌then◌else◌, nat_lt, nat_le, not, Bool, true, false}
 use Rattle.std.specs.Prelude.{List, [], ◌∷◌, length, Option, Some, None, Result, Ok, Err, is_some}
 use Rattle.std.specs.Bool.{beq}
 use Rattle.std.specs.List.{list_any}
@@ -14,6 +14,7 @@ use Rattle.tpm_types_nv.specs.NvAttributes.{has, index_type, is_of}
 use Rattle.tpm_types_nv.specs.declared.nv_attributes.NvAttribute.{NvAttribute}
 use Rattle.tpm_types_nv.specs.declared.nv_attributes.NvAttribute.TheVariants as attribute
 use Rattle.tpm_types_nv.specs.declared.nv_attributes.NvAttributes.{NvAttributes}
+use Rattle.tpm_types_nv.specs.NvPublic.{is_nv_public}
 use Rattle.tpm_types_nv.specs.declared.nv_public.NvPublic.{NvPublic}
 use Rattle.tpm_types_nv.specs.declared.nv_type.NvType.{NvType}
 use Rattle.tpm_types_nv.specs.declared.nv_type.NvType.TheVariants as type
@@ -21,7 +22,7 @@ use Rattle.tpm_nv.specs.Index.{NvContents, NvIndex, has_room, index_at, with_ind
 use Rattle.tpm_nv.specs.declared.fault.DefineFault.{DefineFault}
 use Rattle.tpm_nv.specs.declared.fault.DefineFault.TheVariants as define
 use Rattle.tpm_nv.specs.declared.fault.RestoreFault.{RestoreFault}
-use Rattle.tpm_nv.specs.declared.fault.RestoreFault.TheVariants.{Defined, Space, NoMemory}
+use Rattle.tpm_nv.specs.declared.fault.RestoreFault.TheVariants.{Public, DataSize, Defined, Space, NoMemory}
 use Rattle.tpm_nv.specs.declared.definition.DefinitionFault.{DefinitionFault}
 use Rattle.tpm_nv.specs.declared.definition.DefinitionFault.TheVariants as fault
 
@@ -102,47 +103,88 @@ HasRoomFor contents public (Err Defined) = is_some (index_at contents public.nv_
 HasRoomFor contents public (Err Space) =
     (index_at contents public.nv_index ≡ None) × (has_room contents public.data_size ≡ false)
 HasRoomFor contents public (Err NoMemory) = ⊥
+HasRoomFor contents public (Err Public) = ⊥
+HasRoomFor contents public (Err DataSize) = ⊥
 
 -- On success, the index was added with its handle. On failure, nothing changed, and the fault is
 -- the first that applies: the handle already has an index, there is no room for the index, or an
 -- allocation failed.
-abbrev pub Restores : Bool → NvContents → NvIndex → Result (Unit {0}) RestoreFault → NvContents
+abbrev pub Inserts : Bool → NvContents → NvIndex → Result (Unit {0}) RestoreFault → NvContents
     → Type 0
-Restores can old index (Ok done) new =
+Inserts can old index (Ok done) new =
     (index_at old index.public.nv_index ≡ None)
     × (has_room old index.public.data_size ≡ true)
     × (new ≡ with_index old index.public.nv_index index)
-Restores can old index (Err Defined) new =
+Inserts can old index (Err Defined) new =
     (is_some (index_at old index.public.nv_index) ≡ true) × (new ≡ old)
-Restores can old index (Err Space) new =
+Inserts can old index (Err Space) new =
     (index_at old index.public.nv_index ≡ None)
     × (has_room old index.public.data_size ≡ false)
     × (new ≡ old)
-Restores can old index (Err NoMemory) new =
+Inserts can old index (Err NoMemory) new =
     (index_at old index.public.nv_index ≡ None)
     × (has_room old index.public.data_size ≡ true)
     × (can ≡ true)
     × (new ≡ old)
+Inserts can old index (Err Public) new = ⊥
+Inserts can old index (Err DataSize) new = ⊥
 
--- An index can be defined with this public area: WRITTEN is clear, and the type allows the size.
+-- whether the index has a size that its type allows, and as many bytes of data. An index that is not
+-- written has no data
+abbrev pub has_data_size : NvIndex → Bool
+has_data_size index =
+    has_type_size index.public
+    && length index.bytes
+    == (if has index.public.attributes attribute.Written then index.public.data_size else 0)
+
+-- An index can be restored if its public area can be encoded, and its data has the right size.
+abbrev pub IsRestorable : NvIndex → Type 0
+IsRestorable index = (is_nv_public index.public ≡ true) × (has_data_size index ≡ true)
+
+-- On success, the index was restored. On failure, nothing changed, and the fault is the first that
+-- applies: the public area cannot be encoded; the data has a wrong size; the handle already has an
+-- index; there is no room for the index; or an allocation failed.
+abbrev pub Restores : Bool → NvContents → NvIndex → Result (Unit {0}) RestoreFault → NvContents
+    → Type 0
+Restores can old index (Ok done) new = IsRestorable index × Inserts can old index (Ok done) new
+Restores can old index (Err Public) new = (is_nv_public index.public ≡ false) × (new ≡ old)
+Restores can old index (Err DataSize) new =
+    (is_nv_public index.public ≡ true) × (has_data_size index ≡ false) × (new ≡ old)
+Restores can old index (Err Defined) new =
+    IsRestorable index × Inserts can old index (Err Defined) new
+Restores can old index (Err Space) new = IsRestorable index × Inserts can old index (Err Space) new
+Restores can old index (Err NoMemory) new =
+    IsRestorable index × Inserts can old index (Err NoMemory) new
+
+-- An index can be defined with this public area: WRITTEN is clear, the type allows the size, and the
+-- area can be encoded.
 abbrev pub IsDefinable : NvPublic → Type 0
-IsDefinable public = (has public.attributes attribute.Written ≡ false) × (has_type_size public ≡ true)
+IsDefinable public =
+    (has public.attributes attribute.Written ≡ false)
+    × (has_type_size public ≡ true)
+    × (is_nv_public public ≡ true)
 
 -- On success, the index was defined. On failure, nothing changed, and the fault is the first that
--- applies: WRITTEN is set in the public area; the type does not allow the size; the handle already
--- has an index; there is no room for the index; or an allocation failed.
+-- applies: WRITTEN is set in the public area; the type does not allow the size; the public area
+-- cannot be encoded; the handle already has an index; there is no room for the index; or an
+-- allocation failed.
 abbrev pub Defines : Bool → NvContents → NvIndex → Result (Unit {0}) DefineFault → NvContents
     → Type 0
-Defines can old index (Ok done) new = IsDefinable index.public × Restores can old index (Ok done) new
+Defines can old index (Ok done) new = IsDefinable index.public × Inserts can old index (Ok done) new
 Defines can old index (Err define.Written) new =
     (has index.public.attributes attribute.Written ≡ true) × (new ≡ old)
 Defines can old index (Err define.DataSize) new =
     (has index.public.attributes attribute.Written ≡ false)
     × (has_type_size index.public ≡ false)
     × (new ≡ old)
+Defines can old index (Err define.Public) new =
+    (has index.public.attributes attribute.Written ≡ false)
+    × (has_type_size index.public ≡ true)
+    × (is_nv_public index.public ≡ false)
+    × (new ≡ old)
 Defines can old index (Err define.Defined) new =
-    IsDefinable index.public × Restores can old index (Err Defined) new
+    IsDefinable index.public × Inserts can old index (Err Defined) new
 Defines can old index (Err define.Space) new =
-    IsDefinable index.public × Restores can old index (Err Space) new
+    IsDefinable index.public × Inserts can old index (Err Space) new
 Defines can old index (Err define.NoMemory) new =
-    IsDefinable index.public × Restores can old index (Err NoMemory) new
+    IsDefinable index.public × Inserts can old index (Err NoMemory) new

@@ -1,7 +1,7 @@
 //! Checks the public area and authorization value of a new NV index (TPM 2.0 Library, Part 3,
 //! section 31.3).
 
-ghost use Rattle.std.specs.Prelude.{◌≡◌, OnOk, false, true};
+ghost use Rattle.std.specs.Prelude.{◌≡◌, ◌==◌, ◌&&◌, if◌then◌else◌, OnOk, false, true};
 ghost use Rattle.std.specs.List.{list_any};
 ghost use Rattle.tpm_nv.specs.Definition.{index_attribute_conflicts, definition_passes, has_one, has_type_size, read_attributes, undefinable_attributes, write_attributes};
 ghost use Rattle.tpm_types_nv.specs.NvAttributes.{has};
@@ -79,6 +79,21 @@ pub fn has_type_size(public: &NvPublic) -> bool
         Some(NvType::Extend) => size == public.name_alg.size(),
         None => false,
     }
+}
+
+/// Whether the type of the index allows its size, and the data has this size, or none if the index
+/// is not written.
+pub(crate) fn has_data_size(public: &NvPublic, size: usize) -> bool
+    ensures { result ≡ (has_type_size public.now
+        && size == (if has public.now.attributes attribute.Written
+        then public.now.data_size else 0)) }
+{
+    let whole = if public.attributes.has(NvAttribute::Written) {
+        usize::from(public.data_size)
+    } else {
+        0
+    };
+    has_type_size(public) && size == whole
 }
 
 /// Checks whether the platform (if `by_platform`) or the owner may define an index with this public

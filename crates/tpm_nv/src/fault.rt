@@ -50,6 +50,8 @@ pub enum DefineFault {
     Written,
     /// The size is not allowed for an index of this type.
     DataSize,
+    /// The handle is not that of an index, or a reserved attribute is set in the public area.
+    Public,
     /// An index with this handle already exists.
     Defined,
     /// The number of indices is at its limit, or too little NV space is left.
@@ -61,6 +63,11 @@ pub enum DefineFault {
 /// The reason why an index was not restored.
 #[derive(Clone, Copy, PartialEq, Eq)]
 pub enum RestoreFault {
+    /// The handle is not that of an index, or a reserved attribute is set in the public area.
+    Public,
+    /// The size is not allowed for an index of this type, or the data has another size. An index
+    /// that is not written has no data.
+    DataSize,
     /// An index with this handle already exists.
     Defined,
     /// The number of indices is at its limit, or too little NV space is left.

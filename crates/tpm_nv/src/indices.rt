@@ -2,18 +2,15 @@
 //! specified by one equation (TPM 2.0 Library, Part 3, section 31).
 
 ghost use Rattle.tpm_bytes.specs.Reading.{Gives};
-ghost use Rattle.std.specs.Prelude.{◌≡◌, ◌<◌, ◌≤◌, ◌^◌, ℕ, [], Bool, false, true, is_some, if◌then◌else◌};
+ghost use Rattle.std.specs.Prelude.{◌≡◌, Bool, is_some};
 ghost use Rattle.std.specs.Prelude.{length, option_copied, option_map, OnOk};
 ghost use Rattle.tpm_nv.specs.Access.{ChangesContents, bits_set, contents_after_extend, contents_after_increment, contents_after_write, read_at, read_locked, with_auth_value, write_locked};
 ghost use Rattle.tpm_nv.specs.Clear.{contents_after_clear};
-ghost use Rattle.tpm_nv.specs.Definition.{Defines, Restores, defined_index, has_type_size};
+ghost use Rattle.tpm_nv.specs.Definition.{Defines, Restores, defined_index};
 ghost use Rattle.tpm_nv.specs.Head.{head_of, heads_of, indices_of};
 ghost use Rattle.tpm_nv.specs.Index.{NvContents, data_bytes, index_at, next_index, no_indices, without_index};
 ghost use Rattle.tpm_nv.specs.IsContents.{IsContents};
 ghost use Rattle.tpm_nv.specs.Startup.{contents_after_startup};
-ghost use Rattle.tpm_types_nv.specs.NvAttributes.{has};
-ghost use Rattle.tpm_types_nv.specs.NvPublic.{IsNvPublic};
-ghost use Rattle.tpm_types_nv.specs.declared.nv_attributes.NvAttribute.TheVariants as attribute;
 
 use crate::fault::{DefineFault, LockFault, ReadFault, RestoreFault, Undefined, WriteFault};
 use crate::head::Head;
@@ -39,6 +36,22 @@ pub trait Indices: Drop + Sized {
     fn get(&self, handle: Handle) -> Option<&Head>
         ensures { option_copied result ≡ option_map head_of (index_at (contents self.now) handle) };
 
+    /// The public area of the index with this handle.
+    fn public(&self, handle: Handle) -> Option<&NvPublic>
+        ensures { option_copied result ≡ option_map (λ index. index.public)
+            (index_at (contents self.now) handle) }
+    {
+        Some(&self.get(handle)?.public)
+    }
+
+    /// The authorization value of the index with this handle.
+    fn auth(&self, handle: Handle) -> Option<&AuthValue>
+        ensures { option_copied result ≡ option_map (λ index. index.auth_value)
+            (index_at (contents self.now) handle) }
+    {
+        Some(&self.get(handle)?.auth_value)
+    }
+
     /// The public areas and authorization values of all indices, in ascending order of handle.
     fn heads(&self) -> &[(u32, Head)]
         ensures { result.now ≡ heads_of (contents self.now) };
@@ -54,24 +67,21 @@ pub trait Indices: Drop + Sized {
     fn next(&self, handle: Handle) -> Option<u32>
         ensures { result ≡ next_index (contents self.now) handle.number };
 
-    /// Defines an index, initially without data (TPM 2.0 Library, Part 3, section 31.3). The other
-    /// checks of a definition are in [`crate::definition::check_definition`].
+    /// Defines an index, initially without data (TPM 2.0 Library, Part 3, section 31.3). Makes only
+    /// the checks whose faults [`DefineFault`] lists; [`crate::definition::check_definition`] makes
+    /// the others.
     fn define(&mut self, public: NvPublic, auth_value: AuthValue) -> Result<(), DefineFault>
-        requires { IsNvPublic public }
         ensures { Defines can_refuse (contents self.old) (defined_index public auth_value) result
             (contents self.new) };
 
-    /// Restores an index, including its data if it is written.
+    /// Restores an index, including its data if it is written. Fails if the public area cannot be
+    /// encoded, or if the data has a wrong size ([`RestoreFault`]).
     fn restore(
         &mut self,
         public: NvPublic,
         auth_value: AuthValue,
         bytes: &[u8],
     ) -> Result<(), RestoreFault>
-        requires named { IsNvPublic public }
-        requires sized { has_type_size public ≡ true }
-        requires data_size { length bytes.now
-            ≡ (if has public.attributes attribute.Written then public.data_size else 0) }
         ensures { Restores can_refuse (contents self.old)
             (record { public = public; auth_value = auth_value; bytes = bytes.now }) result
             (contents self.new) };

@@ -12,8 +12,7 @@
 //! [`stored_indices::StoredIndices`] stores the indices in growable lists or in fixed-size storage.
 //! It has a map sorted by handle for the heads, which are the indices without their data, and one
 //! area for the bytes of all indices. Only a definition may allocate memory; a call that fails
-//! changes nothing. [`check_definition`] checks whether an index may be defined. Other crates check
-//! who may read or write an index.
+//! changes nothing. Other crates check who may read or write an index.
 
 pub mod area;
 mod clear;
@@ -24,7 +23,6 @@ mod heads;
 pub mod indices;
 pub mod item_area;
 pub mod laws;
-pub mod lookup;
 mod pieces;
 mod place;
 mod startup;
@@ -38,5 +36,4 @@ pub use head::Head;
 pub use indices::Indices;
 pub use item_area::{ByteItems, ItemArea, ListArea, SlotArea};
 pub use laws::index_laws;
-pub use lookup::{auth, public};
 pub use stored_indices::{ListIndices, SlotIndices, StoredIndices};

@@ -17,7 +17,7 @@ ghost use Rattle.tpm_types_nv.specs.declared.nv_attributes.NvAttribute.TheVarian
 
 use crate::area::Area;
 use crate::clear::{PlatformIndices, keep_bytes};
-use crate::definition::has_type_size;
+use crate::definition::{has_data_size, has_type_size};
 use crate::fault::{DefineFault, LockFault, ReadFault, RestoreFault, Undefined, WriteFault};
 use crate::head::Head;
 use crate::heads::{auth_value_fits, found_at, put_head, set_attributes, set_auth_value, start_of};
@@ -48,9 +48,8 @@ pub struct StoredIndices<H: SortedMap<Head, NV_INDEX_LIMIT>, R: Area> {
 /// NV indices in growable lists. A definition can run out of memory.
 pub type ListIndices = StoredIndices<ListMap<Head, NV_INDEX_LIMIT>, ListArea>;
 
-/// NV indices in fixed-size storage. Nothing is ever allocated, so no allocation can fail. A value
-/// takes about 23,600 bytes, including the data of all indices. Therefore it is created once and
-/// passed by reference.
+/// NV indices in fixed-size storage, so no allocation can fail. A value takes about 23,600 bytes,
+/// including the data of all indices. Therefore it is created once and passed by reference.
 pub type SlotIndices = StoredIndices<SlotMap<Head, NV_INDEX_LIMIT>, SlotArea>;
 
 impl<H: SortedMap<Head, NV_INDEX_LIMIT>, R: Area> Model for StoredIndices<H, R> {
@@ -287,6 +286,8 @@ impl<H: SortedMap<Head, NV_INDEX_LIMIT>, R: Area> Indices for StoredIndices<H, R
         }
         match self.restore(public, auth_value, &[]) {
             Ok(()) => Ok(()),
+            Err(RestoreFault::Public) => Err(DefineFault::Public),
+            Err(RestoreFault::DataSize) => Err(DefineFault::DataSize),
             Err(RestoreFault::Defined) => Err(DefineFault::Defined),
             Err(RestoreFault::Space) => Err(DefineFault::Space),
             Err(RestoreFault::NoMemory) => Err(DefineFault::NoMemory),
@@ -299,6 +300,12 @@ impl<H: SortedMap<Head, NV_INDEX_LIMIT>, R: Area> Indices for StoredIndices<H, R
         auth_value: AuthValue,
         bytes: &[u8],
     ) -> Result<(), RestoreFault> {
+        if !public.is_valid() {
+            return Err(RestoreFault::Public);
+        }
+        if !has_data_size(&public, bytes.len()) {
+            return Err(RestoreFault::DataSize);
+        }
         self.check_room(&public)?;
         self.add(public, auth_value, bytes)
             .map_err(|_| RestoreFault::NoMemory)

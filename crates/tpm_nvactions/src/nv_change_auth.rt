@@ -2,7 +2,6 @@
 //! `specs/NvChangeAuth`).
 
 ghost use Rattle.std.specs.Prelude.{◌≡◌};
-ghost use Rattle.tpm_record.specs.rows.Answer.{IsEmpty};
 ghost use Rattle.tpm_record.specs.rows.Request.{request_of};
 ghost use Rattle.tpm_record.specs.rows.Rows.{Acts};
 ghost use Rattle.tpm_nvactions.specs.NvChangeAuth.{nv_change_auth_row};
@@ -21,12 +20,12 @@ use tpm_types_common::{ActionCheck, AuthValue, Refused, ResponseCode};
 pub fn nv_change_auth<K: Keep>(
     keep: &mut K,
     call: &Call,
-    _answer: &mut Answer,
+    answer: &mut Answer,
 ) -> Result<(), Refused>
-    requires { IsEmpty _answer.old }
     ensures { Acts (nv_change_auth_row (K.record_of keep.old) (request_of call.now))
-        (K.record_of keep.old) result _answer.new (K.record_of keep.new) }
+        (K.record_of keep.old) result answer.new (K.record_of keep.new) }
 {
+    answer.clear();
     let handle = call.first_handle()?;
     let Some(head) = keep.nv().get(handle) else {
         return Err(handle_refusal());

@@ -5,7 +5,6 @@ ghost use Rattle.tpm_bytes.specs.Reading.{Gives};
 ghost use Rattle.std.specs.Prelude.{◌≡◌, ◌==◌, IfOk, length};
 ghost use Rattle.tpm_types_common.specs.Handle.{platform_handle};
 ghost use Rattle.tpm_types_nv.specs.NvPublic.{IsNvPublic};
-ghost use Rattle.tpm_record.specs.rows.Answer.{IsEmpty};
 ghost use Rattle.tpm_record.specs.rows.Request.{request_of};
 ghost use Rattle.tpm_record.specs.rows.Rows.{ActsIfRoom};
 ghost use Rattle.tpm_nvactions.specs.NvDefineSpace.{definition_refusal, nv_define_space_row, parameters_in, parameters_of};
@@ -63,17 +62,17 @@ fn definition_refusal(fault: DefinitionFault) -> Refused
 }
 
 /// TPM2_NV_DefineSpace: defines an index, which contains no data yet.
-#[tactic(auto, unfolding(crate::specs::NvDefineSpace::nv_define_space_row))]
+#[tactic(auto, unfolding(crate::specs::NvDefineSpace::nv_define_space_row), using(tpm_types_nv::proofs::NvPublicLaws::public_valid))]
 pub fn nv_define_space<K: Keep>(
     keep: &mut K,
     call: &Call,
-    _answer: &mut Answer,
+    answer: &mut Answer,
 ) -> Result<(), Refused>
-    requires { IsEmpty _answer.old }
     ensures { ActsIfRoom K.can_refuse
         (nv_define_space_row (K.record_of keep.old) (request_of call.now))
-        (K.record_of keep.old) result _answer.new (K.record_of keep.new) }
+        (K.record_of keep.old) result answer.new (K.record_of keep.new) }
 {
+    answer.clear();
     let by_platform = call.first_handle()? == Handle::PLATFORM;
     let asked = read_parameters(call.parameters)?;
     let size = asked.auth_value.as_slice().len();
@@ -82,7 +81,9 @@ pub fn nv_define_space<K: Keep>(
     }
     match keep.nv_mut().define(asked.public, asked.auth_value) {
         Ok(()) => Ok(()),
-        Err(DefineFault::Written) => Err(definition_refusal(DefinitionFault::Attributes)),
+        Err(DefineFault::Public | DefineFault::Written) => {
+            Err(definition_refusal(DefinitionFault::Attributes))
+        }
         Err(DefineFault::DataSize) => Err(definition_refusal(DefinitionFault::DataSize)),
         Err(DefineFault::Defined) => Err(action_refusal(
             ActionCheck::Fifth,

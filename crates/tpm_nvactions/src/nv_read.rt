@@ -1,7 +1,6 @@
 //! TPM2_NV_Read: returns data from an index (specified in `specs/NvRead`).
 
 ghost use Rattle.std.specs.Prelude.{◌≡◌};
-ghost use Rattle.tpm_record.specs.rows.Answer.{IsEmpty};
 ghost use Rattle.tpm_record.specs.rows.Request.{request_of};
 ghost use Rattle.tpm_record.specs.rows.Rows.{Acts};
 ghost use Rattle.tpm_nvactions.specs.NvRead.{nv_read_row, parameters_in};
@@ -37,10 +36,10 @@ fn read_parameters(parameters: &[u8]) -> Result<ReadParameters, Refused>
 /// TPM2_NV_Read: returns data from an index.
 #[tactic(auto, using(crate::proofs::Reading::read_few), unfolding(crate::specs::NvRead::nv_read_row))]
 pub fn nv_read<K: Keep>(keep: &mut K, call: &Call, answer: &mut Answer) -> Result<(), Refused>
-    requires { IsEmpty answer.old }
     ensures { Acts (nv_read_row (K.record_of keep.old) (request_of call.now))
         (K.record_of keep.old) result answer.new (K.record_of keep.new) }
 {
+    answer.clear();
     let target = target_of(keep, call)?;
     let asked = read_parameters(call.parameters)?;
     target.check_reading().map_err(fault_refusal)?;

@@ -1,7 +1,6 @@
 //! TPM2_NV_ReadLock: locks an index against reading (specified in `specs/NvReadLock`).
 
 ghost use Rattle.std.specs.Prelude.{◌≡◌};
-ghost use Rattle.tpm_record.specs.rows.Answer.{IsEmpty};
 ghost use Rattle.tpm_record.specs.rows.Request.{request_of};
 ghost use Rattle.tpm_record.specs.rows.Rows.{Acts};
 ghost use Rattle.tpm_nvactions.specs.NvReadLock.{nv_read_lock_row};
@@ -18,11 +17,11 @@ use tpm_types_common::Refused;
 
 /// TPM2_NV_ReadLock: locks an index against reading.
 #[tactic(auto, unfolding(crate::specs::NvReadLock::nv_read_lock_row))]
-pub fn nv_read_lock<K: Keep>(keep: &mut K, call: &Call, _answer: &mut Answer) -> Result<(), Refused>
-    requires { IsEmpty _answer.old }
+pub fn nv_read_lock<K: Keep>(keep: &mut K, call: &Call, answer: &mut Answer) -> Result<(), Refused>
     ensures { Acts (nv_read_lock_row (K.record_of keep.old) (request_of call.now))
-        (K.record_of keep.old) result _answer.new (K.record_of keep.new) }
+        (K.record_of keep.old) result answer.new (K.record_of keep.new) }
 {
+    answer.clear();
     let target = target_of(keep, call)?;
     end(&Cursor::new(call.parameters))?;
     check_reader(&target)?;

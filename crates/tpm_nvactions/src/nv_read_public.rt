@@ -2,7 +2,6 @@
 //! `specs/NvReadPublic`).
 
 ghost use Rattle.std.specs.Prelude.{◌≡◌};
-ghost use Rattle.tpm_record.specs.rows.Answer.{IsEmpty};
 ghost use Rattle.tpm_record.specs.rows.Request.{request_of};
 ghost use Rattle.tpm_record.specs.rows.Rows.{Acts};
 ghost use Rattle.tpm_nvactions.specs.NvReadPublic.{nv_read_public_row};
@@ -23,10 +22,10 @@ pub fn nv_read_public<K: Keep>(
     call: &Call,
     answer: &mut Answer,
 ) -> Result<(), Refused>
-    requires { IsEmpty answer.old }
     ensures { Acts (nv_read_public_row (K.record_of keep.old) (request_of call.now))
         (K.record_of keep.old) result answer.new (K.record_of keep.new) }
 {
+    answer.clear();
     let handle = call.first_handle()?;
     let Some(head) = keep.nv().get(handle) else {
         return Err(handle_refusal());

@@ -1,7 +1,6 @@
 //! TPM2_NV_UndefineSpace: removes an index (specified in `specs/NvUndefineSpace`).
 
 ghost use Rattle.std.specs.Prelude.{◌≡◌};
-ghost use Rattle.tpm_record.specs.rows.Answer.{IsEmpty};
 ghost use Rattle.tpm_record.specs.rows.Request.{request_of};
 ghost use Rattle.tpm_record.specs.rows.Rows.{Acts};
 ghost use Rattle.tpm_nvactions.specs.NvUndefineSpace.{is_kept_from, nv_undefine_space_row};
@@ -28,12 +27,12 @@ fn is_kept_from(target: &Target) -> bool
 pub fn nv_undefine_space<K: Keep>(
     keep: &mut K,
     call: &Call,
-    _answer: &mut Answer,
+    answer: &mut Answer,
 ) -> Result<(), Refused>
-    requires { IsEmpty _answer.old }
     ensures { Acts (nv_undefine_space_row (K.record_of keep.old) (request_of call.now))
-        (K.record_of keep.old) result _answer.new (K.record_of keep.new) }
+        (K.record_of keep.old) result answer.new (K.record_of keep.new) }
 {
+    answer.clear();
     let target = target_of(keep, call)?;
     end(&Cursor::new(call.parameters))?;
     if is_kept_from(&target) {

@@ -2,7 +2,6 @@
 
 ghost use Rattle.tpm_bytes.specs.Reading.{Gives};
 ghost use Rattle.std.specs.Prelude.{◌≡◌};
-ghost use Rattle.tpm_record.specs.rows.Answer.{IsEmpty};
 ghost use Rattle.tpm_record.specs.rows.Request.{request_of};
 ghost use Rattle.tpm_record.specs.rows.Rows.{Acts};
 ghost use Rattle.tpm_nvactions.specs.NvWrite.{nv_write_row, parameters_in, parameters_of};
@@ -37,11 +36,11 @@ fn read_parameters(parameters: &[u8]) -> Result<WriteParameters, Refused>
 
 /// TPM2_NV_Write: writes data to an ordinary index.
 #[tactic(auto, unfolding(crate::specs::NvWrite::nv_write_row))]
-pub fn nv_write<K: Keep>(keep: &mut K, call: &Call, _answer: &mut Answer) -> Result<(), Refused>
-    requires { IsEmpty _answer.old }
+pub fn nv_write<K: Keep>(keep: &mut K, call: &Call, answer: &mut Answer) -> Result<(), Refused>
     ensures { Acts (nv_write_row (K.record_of keep.old) (request_of call.now))
-        (K.record_of keep.old) result _answer.new (K.record_of keep.new) }
+        (K.record_of keep.old) result answer.new (K.record_of keep.new) }
 {
+    answer.clear();
     let target = target_of(keep, call)?;
     let asked = read_parameters(call.parameters)?;
     check_writer(&target)?;

@@ -1,7 +1,6 @@
 //! TPM2_NV_WriteLock: locks an index against writing (specified in `specs/NvWriteLock`).
 
 ghost use Rattle.std.specs.Prelude.{◌≡◌};
-ghost use Rattle.tpm_record.specs.rows.Answer.{IsEmpty};
 ghost use Rattle.tpm_record.specs.rows.Request.{request_of};
 ghost use Rattle.tpm_record.specs.rows.Rows.{Acts};
 ghost use Rattle.tpm_nvactions.specs.NvWriteLock.{nv_write_lock_row};
@@ -18,15 +17,11 @@ use tpm_types_common::Refused;
 
 /// TPM2_NV_WriteLock: locks an index against writing.
 #[tactic(auto, unfolding(crate::specs::NvWriteLock::nv_write_lock_row))]
-pub fn nv_write_lock<K: Keep>(
-    keep: &mut K,
-    call: &Call,
-    _answer: &mut Answer,
-) -> Result<(), Refused>
-    requires { IsEmpty _answer.old }
+pub fn nv_write_lock<K: Keep>(keep: &mut K, call: &Call, answer: &mut Answer) -> Result<(), Refused>
     ensures { Acts (nv_write_lock_row (K.record_of keep.old) (request_of call.now))
-        (K.record_of keep.old) result _answer.new (K.record_of keep.new) }
+        (K.record_of keep.old) result answer.new (K.record_of keep.new) }
 {
+    answer.clear();
     let target = target_of(keep, call)?;
     end(&Cursor::new(call.parameters))?;
     check_writer(&target)?;

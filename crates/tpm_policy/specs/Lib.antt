@@ -1,3 +1,4 @@
+pub mod Size
 pub mod State
 pub mod Comparison
 pub mod Assertion

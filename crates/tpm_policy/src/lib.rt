@@ -16,10 +16,12 @@ pub mod nv;
 pub mod pcr;
 pub mod policy_use;
 pub mod secret;
+pub mod size;
 pub mod state;
 
 pub use nv::NvAssertion;
 pub use pcr::PcrAssertion;
 pub use policy_use::{EntityPolicy, Use};
 pub use secret::SecretAssertion;
+pub use size::resized;
 pub use state::{Demand, PolicyState};

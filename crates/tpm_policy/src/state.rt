@@ -3,7 +3,9 @@
 
 ghost use Rattle.std.specs.Prelude.{◌≡◌, ◌<◌, ◌≤◌, ◌^◌, IfSome, length, option_map, replicate};
 ghost use Rattle.tpm_mac.specs.Digest.{digest_size};
+ghost use Rattle.tpm_policy.specs.Size.{resized};
 
+use crate::size::resized;
 use arrayvec::ArrayVec;
 use std::marker::Model;
 use tpm_bytes::{append, copied};
@@ -84,6 +86,27 @@ impl PolicyState {
             nv_written: None,
             localities: ALL_LOCALITIES,
             demand: Demand::None,
+        }
+    }
+
+    /// The same state, whose policy digest has the size of a digest of this hash algorithm: its
+    /// first bytes, or all of them followed by zeros.
+    #[inline(always)]
+    pub fn resized(self, hash: HashAlg) -> PolicyState
+        ensures value { result
+            ≡ record self { digest = resized (digest_size hash) self.digest } }
+        ensures size { length result.digest ≡ digest_size hash }
+        // A state whose digest has this size does not change.
+        ensures same { length self.digest ≡ digest_size hash → result ≡ self }
+    {
+        PolicyState {
+            digest: resized(self.digest, hash.size()),
+            update_count: self.update_count,
+            command: self.command,
+            cp_hash: self.cp_hash,
+            nv_written: self.nv_written,
+            localities: self.localities,
+            demand: self.demand,
         }
     }
 

@@ -31,8 +31,9 @@ pub fn use_premise()
     ensures { HasUse }
 {}
 
-/// The same buffer is executed as two commands of a history. The authorization entry in the buffer
-/// has an HMAC, and names an HMAC session that survives in between.
+/// A history meets the premise of the laws about replays: the same buffer encodes two of its commands.
+/// The authorization entry in the buffer has an HMAC, and names an HMAC session that survives in
+/// between.
 #[inline(always)]
 #[tactic(auto, using(crate::proofs::Replays::has_replay))]
 pub fn replay_premise()

@@ -22,4 +22,5 @@ pub use Rattle.tpm_session.specs.Name
 pub use Rattle.tpm_object.specs.Object
 pub use Rattle.tpm_containers.specs.Numbered
 pub use Rattle.tpm_containers.specs.SortedMap
+pub mod AddFault
 pub mod AnyObject

@@ -1,34 +1,40 @@
 //! The trait `Keep`. Every type that stores the device's state implements this trait. It provides
 //! read and write access to each part of the state.
 
-ghost use Rattle.std.specs.Prelude.{◌≡◌, Bool, IfOk, OnErr, replicate, true};
+ghost use Rattle.std.specs.Prelude.{◌≡◌, Bool, IfOk, OnErr, is_some, option_copied, replicate, true};
 ghost use Rattle.std.specs.Borrow.{Lends, sem};
+ghost use Rattle.tpm_record.specs.AddFault.{AddsTransient, AddsWithNumber};
+ghost use Rattle.tpm_record.specs.AnyObject.{next_object, without_object_of};
+ghost use Rattle.tpm_record.specs.Entity.{object_of};
 ghost use Rattle.tpm_record.specs.Objects.{objects_of};
+ghost use Rattle.tpm_record.specs.Persistent.{can_persist};
 ghost use Rattle.tpm_record.specs.Record.{Record, manufactured};
 ghost use Rattle.tpm_record.specs.contracts.fixed.Fixed.{the_row as fixed_row};
 ghost use Rattle.tpm_record.specs.contracts.objects.Objects.{the_row as objects_row};
 ghost use Rattle.tpm_record.specs.declared.fixed.Fixed.{Fixed as FixedParts};
 ghost use Rattle.tpm_record.specs.declared.objects.Objects.{Objects as ObjectsParts};
+ghost use Rattle.tpm_types_common.specs.Handle.{is_persistent};
 ghost use Rattle.tpm_session.specs.Sessions.{places_of};
 ghost use Rattle.tpm_session.specs.contracts.sessions.Sessions.{the_row as sessions_row};
 ghost use Rattle.tpm_session.specs.declared.sessions.Sessions.{Sessions as SessionsParts};
 
+use crate::add_fault::AddFault;
 use crate::fixed::Fixed;
 use crate::objects::Objects;
 use crate::persistent::PersistentObjects;
 use std::alloc::Global;
 use tpm_bytes::NoMemory;
-use tpm_containers::Slots;
+use tpm_containers::{KeyFault, SlotFault, Slots};
 use tpm_nv::Indices;
 use tpm_object::Object;
 use tpm_session::{Session, Sessions};
-use tpm_types_common::{OBJECT_LIMIT, SESSION_LIMIT};
+use tpm_types_common::{Handle, OBJECT_LIMIT, SESSION_LIMIT};
 
 /// A type that contains the device's state. In contracts, a value of this type is the record that
 /// it represents.
 pub trait Keep: Drop + Sized {
     /// The type of the slots for sessions.
-    type SessionSlots: Slots<Session, SESSION_LIMIT>;
+    type Se: Slots<Session, SESSION_LIMIT>;
 
     /// The type of the slots for transient objects.
     type ObjectSlots: Slots<Object, OBJECT_LIMIT>;
@@ -37,7 +43,7 @@ pub trait Keep: Drop + Sized {
     type PersistentMap: PersistentObjects;
 
     /// The type of the NV indices.
-    type NvIndices: Indices;
+    type Nv: Indices;
 
     /// The record that a value represents.
     ghost record_of: { Self → Record };
@@ -46,7 +52,7 @@ pub trait Keep: Drop + Sized {
     ghost with_fixed: { Self → FixedParts → Self };
 
     /// The same state with these sessions.
-    ghost with_sessions: { Self → SessionsParts Self.SessionSlots → Self };
+    ghost with_sessions: { Self → SessionsParts Self.Se → Self };
 
     /// The same state with these transient objects.
     ghost with_objects: { Self → ObjectsParts Self.ObjectSlots → Self };
@@ -55,7 +61,7 @@ pub trait Keep: Drop + Sized {
     ghost with_persistent: { Self → Self.PersistentMap → Self };
 
     /// The same state with these NV indices.
-    ghost with_nv: { Self → Self.NvIndices → Self };
+    ghost with_nv: { Self → Self.Nv → Self };
 
     /// Whether adding a session, an object or an NV index can fail for lack of memory.
     ghost can_refuse: { Bool };
@@ -80,14 +86,14 @@ pub trait Keep: Drop + Sized {
         ensures value { result.now ≡ (record_of self.old).fixed };
 
     /// Read access to the sessions.
-    fn sessions(&self) -> &Sessions<Self::SessionSlots>
-        ensures { places_of Self.SessionSlots.places result.now ≡ (record_of self.now).sessions };
+    fn sessions(&self) -> &Sessions<Self::Se>
+        ensures { places_of Self.Se.places result.now ≡ (record_of self.now).sessions };
 
     /// Write access to the sessions.
-    fn sessions_mut(&mut self) -> &mut Sessions<Self::SessionSlots>
-        ensures* writes_back { sem 𝓛 (Lends Self.row (sessions_row Self.SessionSlots.row)
+    fn sessions_mut(&mut self) -> &mut Sessions<Self::Se>
+        ensures* writes_back { sem 𝓛 (Lends Self.row (sessions_row Self.Se.row)
             self.entry result (with_sessions self.entry.now)) }
-        ensures value { places_of Self.SessionSlots.places result.now
+        ensures value { places_of Self.Se.places result.now
             ≡ (record_of self.old).sessions };
 
     /// Read access to the transient objects.
@@ -112,23 +118,94 @@ pub trait Keep: Drop + Sized {
         ensures value { Self.PersistentMap.entries result.now ≡ (record_of self.old).persistent };
 
     /// Read access to the NV indices.
-    fn nv(&self) -> &Self::NvIndices
-        ensures { Self.NvIndices.contents result.now ≡ (record_of self.now).nv };
+    fn nv(&self) -> &Self::Nv
+        ensures { Self.Nv.contents result.now ≡ (record_of self.now).nv };
 
     /// Write access to the NV indices.
-    fn nv_mut(&mut self) -> &mut Self::NvIndices
-        ensures* writes_back { sem 𝓛 (Lends Self.row Self.NvIndices.row self.entry result
+    fn nv_mut(&mut self) -> &mut Self::Nv
+        ensures* writes_back { sem 𝓛 (Lends Self.row Self.Nv.row self.entry result
             (with_nv self.entry.now)) }
-        ensures value { Self.NvIndices.contents result.now ≡ (record_of self.old).nv };
+        ensures value { Self.Nv.contents result.now ≡ (record_of self.old).nv };
+
+    /// The transient or persistent object with this handle.
+    #[tactic(auto, unfolding(crate::specs::Entity::object_of))]
+    fn object(&self, number: u32) -> Option<&Object>
+        ensures { option_copied result
+            ≡ object_of (record_of self.now) (record { number = number }) }
+    {
+        let handle = Handle { number };
+        if handle.is_persistent() {
+            self.persistent().get(handle)
+        } else {
+            self.objects().get(handle)
+        }
+    }
+
+    /// Adds a transient object with the lowest free handle, and returns the handle. Fails if all
+    /// slots are taken, or if an allocation fails.
+    fn add_object(&mut self, object: Object) -> Result<u32, AddFault>
+        ensures { AddsTransient can_refuse (record_of self.old) object result (record_of self.new) }
+    {
+        match self.objects_mut().add(object) {
+            Ok(handle) => Ok(handle.number),
+            Err(SlotFault::Full) => Err(AddFault::Full),
+            Err(SlotFault::NoMemory) => Err(AddFault::NoMemory),
+        }
+    }
+
+    /// Adds a persistent object with this handle. Returns an error if the handle is taken, if the
+    /// number of objects is at its limit, or if an allocation fails.
+    fn add_persistent(&mut self, number: u32, object: Object) -> Result<(), AddFault>
+        requires named { is_persistent (record { number = number }) ≡ true }
+        requires owned { can_persist object.hierarchy ≡ true }
+        ensures { AddsWithNumber can_refuse (record_of self.old) number object result
+            (record_of self.new) }
+    {
+        match self.persistent_mut().add(Handle { number }, object) {
+            Ok(()) => Ok(()),
+            Err(KeyFault::Taken) => Err(AddFault::Taken),
+            Err(KeyFault::Full) => Err(AddFault::Full),
+            Err(KeyFault::NoMemory) => Err(AddFault::NoMemory),
+        }
+    }
+
+    /// Removes the transient or persistent object with this handle. Returns whether the object
+    /// existed.
+    #[tactic(auto, unfolding(crate::specs::Entity::object_of))]
+    fn remove_object(&mut self, number: u32) -> bool
+        ensures there { result
+            ≡ is_some (object_of (record_of self.old) (record { number = number })) }
+        ensures after { record_of self.new
+            ≡ without_object_of (record_of self.old) (record { number = number }) }
+    {
+        let handle = Handle { number };
+        if handle.is_persistent() {
+            self.persistent_mut().remove(handle)
+        } else {
+            self.objects_mut().remove(handle)
+        }
+    }
+
+    /// The lowest handle, at or above this handle, that belongs to a transient or persistent
+    /// object.
+    fn next_object(&self, from: u32) -> Option<u32>
+        ensures { result ≡ next_object (record_of self.now) from }
+    {
+        let from = Handle { number: from };
+        match self.objects().next(from) {
+            Some(number) => Some(number),
+            None => self.persistent().next(from),
+        }
+    }
 
     /// A change through `fixed_mut` changes the record's fixed part, and nothing else.
     ghost fixed_written: { (keep : Self) (fixed : FixedParts)
         → record_of (with_fixed keep fixed) ≡ record (record_of keep) { fixed = fixed } };
 
     /// A change through `sessions_mut` changes the record's sessions, and nothing else.
-    ghost sessions_written: { (keep : Self) (sessions : SessionsParts Self.SessionSlots)
+    ghost sessions_written: { (keep : Self) (sessions : SessionsParts Self.Se)
         → record_of (with_sessions keep sessions)
-        ≡ record (record_of keep) { sessions = places_of Self.SessionSlots.places sessions } };
+        ≡ record (record_of keep) { sessions = places_of Self.Se.places sessions } };
 
     /// A change through `objects_mut` changes the record's transient objects, and nothing else.
     ghost objects_written: { (keep : Self) (objects : ObjectsParts Self.ObjectSlots)
@@ -141,17 +218,17 @@ pub trait Keep: Drop + Sized {
         ≡ record (record_of keep) { persistent = Self.PersistentMap.entries persistent } };
 
     /// A change through `nv_mut` changes the record's NV indices, and nothing else.
-    ghost nv_written: { (keep : Self) (nv : Self.NvIndices)
+    ghost nv_written: { (keep : Self) (nv : Self.Nv)
         → record_of (with_nv keep nv)
-        ≡ record (record_of keep) { nv = Self.NvIndices.contents nv } };
+        ≡ record (record_of keep) { nv = Self.Nv.contents nv } };
 
     /// If allocations can fail for the sessions, the transient or persistent objects, or the NV
     /// indices, they can fail for the whole state.
-    ghost sessions_can_refuse: { Self.SessionSlots.can_refuse ≡ true → can_refuse ≡ true };
+    ghost sessions_can_refuse: { Self.Se.can_refuse ≡ true → can_refuse ≡ true };
 
     ghost objects_can_refuse: { Self.ObjectSlots.can_refuse ≡ true → can_refuse ≡ true };
 
     ghost persistent_can_refuse: { Self.PersistentMap.can_refuse ≡ true → can_refuse ≡ true };
 
-    ghost nv_can_refuse: { Self.NvIndices.can_refuse ≡ true → can_refuse ≡ true };
+    ghost nv_can_refuse: { Self.Nv.can_refuse ≡ true → can_refuse ≡ true };
 }

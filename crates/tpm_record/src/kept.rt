@@ -50,13 +50,13 @@ impl<
     ghost use Rattle.std.proofs.lemmas.Bool.{or_right};
     ghost use Rattle.tpm_record.specs.Kept.{kept_record};
 
-    type SessionSlots = S;
+    type Se = S;
 
     type ObjectSlots = O;
 
     type PersistentMap = P;
 
-    type NvIndices = N;
+    type Nv = N;
 
     ghost record_of = { kept_record S.places O.places P.entries N.contents };
 

@@ -15,7 +15,7 @@
 //! trait, each call changes the record as the call's definition in `specs/` says. [`rows`] contains
 //! what the rows of all commands have in common.
 
-pub mod any_object;
+pub mod add_fault;
 mod clear;
 pub mod cycle;
 pub mod entity;
@@ -31,7 +31,7 @@ pub mod rows;
 pub mod saved;
 pub mod tick;
 
-pub use any_object::{add_object, add_persistent, next_object, remove_object};
+pub use add_fault::AddFault;
 pub use cycle::power_cycle;
 pub use entity::{Entity, Means, Resolved, absence_rc, object_of, resolve};
 pub use fixed::Fixed;

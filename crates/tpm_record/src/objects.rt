@@ -5,6 +5,7 @@ ghost use Rattle.std.specs.Prelude.{◌≡◌, ◌<◌, is_some, length, option_
 ghost use Rattle.tpm_object.specs.Object.{IsObject, transient_byte};
 ghost use Rattle.tpm_containers.specs.Numbered.{MapLaws};
 ghost use Rattle.tpm_containers.specs.Slots.{AreAll, Puts, at_place};
+ghost use Rattle.tpm_record.specs.AnyObject.{next_transient};
 ghost use Rattle.tpm_record.specs.Clear.{ClearingLaws, cleared_objects};
 ghost use Rattle.tpm_record.specs.Objects.{Adds, next_handle, object_at, object_handle, objects_of, without_object};
 ghost use Rattle.tpm_record.specs.Record.{no_objects};
@@ -83,6 +84,23 @@ impl<O: Slots<Object, OBJECT_LIMIT>> Objects<O> {
         ensures { option_copied result ≡ at_place (objects_of O.places self.now) place }
     {
         self.places.get(place)
+    }
+
+    /// The lowest handle, at or above this handle, that belongs to an object.
+    #[tactic(auto, using(crate::proofs::Searching::none_more, crate::proofs::Searching::found_least))]
+    pub fn next(&self, from: Handle) -> Option<u32>
+        ensures { result ≡ next_transient (objects_of O.places self.now) from.number }
+    {
+        for place in 0..OBJECT_LIMIT {
+            let handle = Handle {
+                number: numbered::number_of(TRANSIENT_BYTE, place),
+            };
+            let is_there = self.get(handle).is_some();
+            if from.number <= handle.number && is_there {
+                return Some(handle.number);
+            }
+        }
+        None
     }
 
     /// Puts an object into this slot, replacing any object already there.

@@ -11,6 +11,7 @@
 //! started, nothing changes. Only starting a session, or storing a session in a slot, may allocate
 //! memory; with fixed slots, no call allocates memory.
 
+pub mod by_handle;
 pub mod encryption;
 pub mod entry;
 pub mod first_buffer;
@@ -21,6 +22,7 @@ pub mod parameter_hashes;
 pub mod session;
 pub mod sessions;
 
+pub use by_handle::ParameterFault;
 pub use encryption::SymmetricFault;
 pub use entry::{CommandText, entry_text};
 pub use first_buffer::first_size;
@@ -30,4 +32,5 @@ pub use parameter_hash::{HashedParameters, command_hash, response_hash};
 pub use parameter_hashes::ParameterHashes;
 pub use session::{Binding, Protection, Session};
 pub use sessions::{Sessions, Start, StartFault, handle_of};
+pub use tpm_containers::{FixedSlots, ListSlots, Slots};
 pub use tpm_policy::EntityPolicy;

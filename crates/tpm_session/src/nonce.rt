@@ -1,10 +1,12 @@
 //! Nonces of at most 32 bytes (TPM2B_NONCE; TPM 2.0 Library, Part 2, section 10.4.4).
 
 ghost use Rattle.std.specs.Prelude.{◌≡◌, ◌≤◌, length};
+ghost use Rattle.tpm_policy.specs.Size.{resized};
 
 use arrayvec::ArrayVec;
 use std::marker::Model;
 use tpm_bytes::copied;
+use tpm_policy::resized;
 
 /// A nonce: at most 32 bytes (TPM2B_NONCE of TPM 2.0 Library, Part 2, section 10.4.4). Contracts
 /// treat it as a list of bytes.
@@ -38,6 +40,19 @@ impl Nonce {
         ensures fits { length result.now ≤ 32 }
     {
         self.bytes.as_slice()
+    }
+
+    /// The nonce with this size: its first bytes, or all of them followed by zeros.
+    #[inline(always)]
+    pub fn resized(self, size: usize) -> Nonce
+        requires { size ≤ 32 }
+        ensures value { result ≡ resized size self }
+        ensures length { length result ≡ size }
+        ensures same { length self ≡ size → result ≡ self }
+    {
+        Nonce {
+            bytes: resized(self.bytes, size),
+        }
     }
 
     /// The size of the nonce.

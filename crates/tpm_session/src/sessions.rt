@@ -7,7 +7,7 @@ ghost use Rattle.tpm_containers.specs.Slots.{AreAll, Puts, at_place, free};
 ghost use Rattle.tpm_mac.specs.Digest.{digest_size};
 ghost use Rattle.tpm_session.specs.Key.{is_nonce_size};
 ghost use Rattle.tpm_session.specs.Session.{IsSession};
-ghost use Rattle.tpm_session.specs.Sessions.{Starts, handle_of, places_of, session_at, sessions_after_roll, slots_without_session, started_session, with_session_policy};
+ghost use Rattle.tpm_session.specs.Sessions.{Starts, handle_of, has_nonce_sizes, places_of, session_at, sessions_after_resizing_roll, sessions_after_roll, slots_without_session, started_session, with_resized_session_policy, with_session_policy};
 
 use crate::key::{SessionKey, is_nonce_size};
 use crate::nonce::Nonce;
@@ -32,7 +32,8 @@ pub struct Start<'a> {
 /// The reason why a session did not start.
 #[derive(Clone, Copy, PartialEq, Eq)]
 pub enum StartFault {
-    /// The caller's nonce is shorter than 16 bytes, or longer than a digest.
+    /// The caller's nonce is shorter than 16 bytes or longer than a digest, or the device's nonce
+    /// has another size.
     Size,
     /// No slot is free.
     SessionMemory,
@@ -55,6 +56,14 @@ pub fn handle_of(kind: SessionType, place: usize) -> Handle
     Handle {
         number: numbered::number_of(kind.handle_byte(), place),
     }
+}
+
+/// Whether the caller's nonce has an allowed size, which is also the size of the device's nonce.
+fn has_nonce_sizes(start: &Start) -> bool
+    ensures { result ≡ has_nonce_sizes start.now }
+{
+    let size = start.nonce_caller.len();
+    is_nonce_size(start.hash, size) && start.nonce_tpm.len() == size
 }
 
 /// Creates the session and derives its key.
@@ -89,14 +98,12 @@ impl<S: Slots<Session, SESSION_LIMIT>> Sessions<S> {
         }
     }
 
-    /// Starts a session in the lowest free slot and returns its handle. The device's nonce must be
-    /// as long as the caller's nonce.
+    /// Starts a session in the lowest free slot and returns its handle.
     pub fn start(&mut self, start: Start) -> Result<Handle, StartFault>
-        requires { length start.nonce_tpm ≡ length start.nonce_caller.now }
         ensures { Starts S.can_refuse (places_of S.places self.old) start.entry result
             (places_of S.places self.new) }
     {
-        if !is_nonce_size(start.hash, start.nonce_caller.len()) {
+        if !has_nonce_sizes(&start) {
             return Err(StartFault::Size);
         }
         let kind = start.kind;
@@ -150,19 +157,23 @@ impl<S: Slots<Session, SESSION_LIMIT>> Sessions<S> {
         self.slots.clear();
     }
 
-    /// Replaces the nonceTPM of the session with this handle by a nonce of the same size; returns
-    /// whether the session existed.
-    #[tactic(auto, unfolding(crate::specs::Sessions::sessions_after_roll, crate::specs::Sessions::session_at))]
+    /// Replaces the nonceTPM of the session with this handle; returns whether the session existed.
+    /// A nonce of another size than the session's is cut to this size, or filled with zeros.
+    #[tactic(auto, unfolding(crate::specs::Sessions::sessions_after_roll, crate::specs::Sessions::sessions_after_resizing_roll, crate::specs::Sessions::session_at))]
     pub fn roll(&mut self, handle: Handle, nonce: Nonce) -> bool
-        requires { IfSome (session_at (places_of S.places self.old) handle)
-            (λ session. length nonce ≡ length session.nonce_tpm) }
         ensures there { result ≡ is_some (session_at (places_of S.places self.old) handle) }
         ensures after { places_of S.places self.new
+            ≡ sessions_after_resizing_roll (places_of S.places self.old) handle nonce }
+        // A nonce of the session's size is stored as it is.
+        ensures same_size { IfSome (session_at (places_of S.places self.old) handle)
+            (λ session. length nonce ≡ length session.nonce_tpm)
+            → places_of S.places self.new
             ≡ sessions_after_roll (places_of S.places self.old) handle nonce }
     {
         match numbered::get_mut(&mut self.slots, handle.number) {
             Some(session) => {
-                session.nonce_tpm = nonce;
+                let size = session.nonce_tpm.len();
+                session.nonce_tpm = nonce.resized(size);
                 true
             }
             None => false,
@@ -170,18 +181,23 @@ impl<S: Slots<Session, SESSION_LIMIT>> Sessions<S> {
     }
 
     /// Replaces the policy state of the session with this handle; returns whether the session
-    /// existed. The new policy digest must be as long as a digest of the session's hash algorithm.
-    #[tactic(auto, unfolding(crate::specs::Sessions::with_session_policy, crate::specs::Sessions::session_at))]
+    /// existed. A policy digest of another size than a digest of the session's hash algorithm is
+    /// cut to this size, or filled with zeros.
+    #[tactic(auto, unfolding(crate::specs::Sessions::with_session_policy, crate::specs::Sessions::with_resized_session_policy, crate::specs::Sessions::session_at))]
     pub fn set_policy(&mut self, handle: Handle, policy: PolicyState) -> bool
-        requires { IfSome (session_at (places_of S.places self.old) handle)
-            (λ session. length policy.digest ≡ digest_size session.hash) }
         ensures there { result ≡ is_some (session_at (places_of S.places self.old) handle) }
         ensures after { places_of S.places self.new
+            ≡ with_resized_session_policy (places_of S.places self.old) handle policy }
+        // A policy whose digest has this size is stored as it is.
+        ensures same_size { IfSome (session_at (places_of S.places self.old) handle)
+            (λ session. length policy.digest ≡ digest_size session.hash)
+            → places_of S.places self.new
             ≡ with_session_policy (places_of S.places self.old) handle policy }
     {
         match numbered::get_mut(&mut self.slots, handle.number) {
             Some(session) => {
-                session.policy = policy;
+                let hash = session.hash;
+                session.policy = policy.resized(hash);
                 true
             }
             None => false,

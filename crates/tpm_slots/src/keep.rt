@@ -27,13 +27,13 @@ impl Keep for SlotKeep {
     ghost use Rattle.std.specs.Prelude.{false, refl};
     ghost use Rattle.tpm_slots.specs.SlotRecord.{slot_record};
 
-    type SessionSlots = SessionPlaces;
+    type Se = SessionPlaces;
 
     type ObjectSlots = ObjectPlaces;
 
     type PersistentMap = PersistentPlaces;
 
-    type NvIndices = IndexPlaces;
+    type Nv = IndexPlaces;
 
     ghost record_of = { slot_record };
 

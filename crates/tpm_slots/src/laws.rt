@@ -17,8 +17,8 @@ use tpm_types_common::{OBJECT_LIMIT, SESSION_LIMIT};
 pub fn fixed_laws()
     ensures never_refused { ⟦<SlotKeep as Keep>⟧.can_refuse ≡ false }
     ensures made { ⟦<SlotKeep as Keep>⟧.empty_can_refuse ≡ false }
-    ensures sessions { ⟦<<SlotKeep as Keep>::SessionSlots as Slots<Session, SESSION_LIMIT>>⟧.can_refuse ≡ false }
+    ensures sessions { ⟦<<SlotKeep as Keep>::Se as Slots<Session, SESSION_LIMIT>>⟧.can_refuse ≡ false }
     ensures objects { ⟦<<SlotKeep as Keep>::ObjectSlots as Slots<Object, OBJECT_LIMIT>>⟧.can_refuse ≡ false }
     ensures persistent { ⟦<<SlotKeep as Keep>::PersistentMap as PersistentObjects>⟧.can_refuse ≡ false }
-    ensures nv { ⟦<<SlotKeep as Keep>::NvIndices as Indices>⟧.can_refuse ≡ false }
+    ensures nv { ⟦<<SlotKeep as Keep>::Nv as Indices>⟧.can_refuse ≡ false }
 {}

@@ -29,3 +29,4 @@ pub mod SessionStarts
 pub mod FailedRun
 pub mod Following
 pub mod LivingOn
+pub mod Placings

@@ -17,3 +17,4 @@ pub mod Potential
 pub mod Tries
 pub mod Follows
 pub mod FailedRun
+pub mod Placings

@@ -48,6 +48,7 @@ ghost use Rattle.tpm_step.specs.uses.PolicyReviews.{IsWrittenOnce, NeedsCount, N
 ghost use Rattle.tpm_step.specs.uses.PolicyReviews.{NeedsPcrs, NeedsPcrsAndPin, NeedsPinOrSecret};
 ghost use Rattle.tpm_step.specs.uses.PolicyReviews.{OfEachAccepted};
 ghost use Rattle.tpm_step.specs.uses.PolicyUses.{AllMeetPolicies};
+ghost use Rattle.tpm_step.specs.history.Placings.{PlacesNothing};
 ghost use Rattle.tpm_step.specs.history.Potential.{IsForgiving};
 ghost use Rattle.tpm_step.specs.uses.RunReplays.{IsRecorded, RunReplaysRepeat};
 ghost use Rattle.tpm_step.specs.history.Sessions.{IsNewSession, LiveSession, started_session};
@@ -270,6 +271,14 @@ pub fn few_tries_laws()
         → IsForgiving old.fixed.lockout → FailsFew can old executions new }
     ensures one_more { (old : Record) (executions : List Execution)
         → tries_at_most old executions ≡ tries_within old executions + 1 }
+{}
+
+/// No event that `Machine::execute` or `Machine::run` can be passed places an object in the
+/// history.
+#[inline(always)]
+#[tactic(auto, using(crate::proofs::history::Placings::places_nothing))]
+pub fn placing_laws()
+    ensures { PlacesNothing }
 {}
 
 /// Suppose that two devices follow the same history, show the same views of each handle, and have

@@ -136,7 +136,7 @@ fn a_hierarchy_has_its_handle_as_its_name(rt: HostRuntime) {
 
 /// The response code for the error in a command buffer, or 0 if there is no error.
 fn fault_of(buffer: &[u8]) -> u32 {
-    match Command::read(&mut Cursor::new(buffer), &mut ArrayVec::new()) {
+    match Command::read(&mut Cursor::new(buffer)) {
         Ok(_) => 0,
         Err(fault) => fault.number(),
     }
@@ -165,7 +165,7 @@ fn a_command_has_a_first_fault(rt: HostRuntime) {
 
 /// The tag and the code of a command.
 fn header_of(buffer: &[u8]) -> Option<(u16, u32)> {
-    match Command::read(&mut Cursor::new(buffer), &mut ArrayVec::new()) {
+    match Command::read(&mut Cursor::new(buffer)) {
         Ok(command) => Some((command.tag().number(), command.code.number())),
         Err(_) => None,
     }
@@ -173,7 +173,7 @@ fn header_of(buffer: &[u8]) -> Option<(u16, u32)> {
 
 /// The number of a command's handles, the number of its entries, and its size.
 fn counts_of(buffer: &[u8]) -> Option<(usize, usize, Option<usize>)> {
-    match Command::read(&mut Cursor::new(buffer), &mut ArrayVec::new()) {
+    match Command::read(&mut Cursor::new(buffer)) {
         Ok(command) => {
             let (handles, entries) = (command.handles.len(), command.entries.len());
             Some((handles, entries, command.text_len()))
@@ -190,8 +190,7 @@ fn a_command_has_parts(rt: HostRuntime) {
 
 /// The command decoded from a buffer, and encoded again.
 fn rewritten_command(buffer: &[u8]) -> Option<ArrayVec<u8, 32>> {
-    let mut area = ArrayVec::new();
-    let Ok(command) = Command::read(&mut Cursor::new(buffer), &mut area) else {
+    let Ok(command) = Command::read(&mut Cursor::new(buffer)) else {
         return None;
     };
     let mut sink = Sink::new();

@@ -12,7 +12,7 @@ use Rattle.tpm_types_command.specs.declared.tag.Tag.TheVariants.{NoSessions, Ses
 use Rattle.tpm_types_command.specs.declared.command.Command.{Command}
 use Rattle.tpm_types_command.specs.AuthArea.{area_text, entries_text}
 use Rattle.tpm_types_command.specs.AuthEntry.{Entry, IsEntry}
-use Rattle.tpm_types_command.specs.Command.{IsCommand, Whole, command_body_text, command_at, command_size, command_text, handle_text, handles_at, handles_text, header_or_rc, sessions_at, sessions_text, tag_for, whole_of}
+use Rattle.tpm_types_command.specs.Command.{IsCommand, Whole, command_body_text, command_at, command_size, command_text, handle_text, handles_at, handles_text, header_or_rc, sessions_at, sessions_text, tag_for, whole_command}
 use Rattle.tpm_types_command.specs.Header.{header_at, header_text}
 use Rattle.tpm_commands.specs.CommandCode.{handle_count}
 use Rattle.tpm_types_command.proofs.EntryLaws.{area_again, area_takes}
@@ -200,10 +200,12 @@ command_again c is =
 -- ---- the contracts of reading a command
 
 pub command_found : (old : List ℕ) (result : Result Command Rc) (new : List ℕ) → AreBytes old
-    → Reads whole_of (command_at old) old result new
-    → IfOk result (λ command. IsCommand (whole_of command) × (old ≡ command_text (whole_of command))
+    → Reads whole_command (command_at old) old result new
+    → IfOk result (λ command. IsCommand (whole_command command)
+    × (old ≡ command_text (whole_command command))
     × (new ≡ []))
-command_found old (Ok command) new fits reads = command_takes old (whole_of command, new) fits reads
+command_found old (Ok command) new fits reads =
+    command_takes old (whole_command command, new) fits reads
 command_found old (Err fault) new fits reads = tt
 
 -- ---- writing a command

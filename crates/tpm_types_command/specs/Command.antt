@@ -16,6 +16,7 @@ use Rattle.tpm_types_common.specs.declared.rc.Place.TheVariants as place
 use Rattle.tpm_types_command.specs.declared.tag.Tag.{Tag}
 use Rattle.tpm_types_command.specs.declared.tag.Tag.TheVariants.{NoSessions, Sessions}
 use Rattle.tpm_types_command.specs.declared.command.Command.{Command}
+use Rattle.tpm_types_command.specs.declared.command_ref.CommandRef.{CommandRef}
 use Rattle.tpm_types_command.specs.AuthArea.{area_at, area_text}
 use Rattle.tpm_types_command.specs.AuthEntry.{Entry, HasSizes, IsEntry, entry_of}
 use Rattle.tpm_types_command.specs.Header.{header_at, header_fault_rc, header_text}
@@ -29,7 +30,17 @@ pub record Whole : Type 0 where
   pub entries : List Entry
   pub parameters : List ℕ
 
-abbrev pub whole_of : Command → Whole
+-- a command with its own entries
+abbrev pub whole_command : Command → Whole
+whole_command c = record {
+  code = c.code;
+  handles = c.handles.items;
+  entries = map entry_of c.entries.items;
+  parameters = c.parameters.now;
+}
+
+-- a command that borrows its entries
+abbrev pub whole_of : CommandRef → Whole
 whole_of c = record {
   code = c.code;
   handles = c.handles.items;

@@ -1,6 +1,7 @@
 -- A read returns the public area of an NV index exactly when the input starts with its encoding.
 use Rattle.std.proofs.Common.{◌≡◌, ℕ, ◌^◌, ◌<◌, Bool, true, false, List, [], ◌++◌, length, Ok, refl, subst, append_assoc, append-nil, arith, length-append}
-use Rattle.std.specs.Prelude.{not}
+use Rattle.std.specs.Prelude.{◌==◌, ◌≤◌, not, bit_and}
+use Rattle.std.proofs.lemmas.Bool.{and_parts, eqb-true}
 use Rattle.std.specs.Int.{w16, w32, to_be_bytes}
 use Rattle.tpm_bytes.specs.Reading.{◌>>=◌, number_at, or_fault, refused_if}
 use Rattle.tpm_bytes.specs.Writing.{sized_text}
@@ -20,7 +21,7 @@ use Rattle.tpm_types_common.proofs.Spelled.{Spelled, all_read, first, respelled,
 use Rattle.tpm_types_nv.specs.declared.nv_attributes.NvAttributes.{NvAttributes}
 use Rattle.tpm_types_nv.specs.declared.nv_public.NvPublic.{NvPublic}
 use Rattle.tpm_types_nv.specs.NvAttributes.{IsNvAttributes, nv_attributes_at, nv_attributes_text, reserved_bits}
-use Rattle.tpm_types_nv.specs.NvPublic.{IsNvIndex, IsNvPublic, nv_index_at, nv_index_text, nv_public_at, nv_public_text}
+use Rattle.tpm_types_nv.specs.NvPublic.{IsNvIndex, IsNvPublic, is_nv_public, nv_index_at, nv_index_text, nv_public_at, nv_public_text}
 use Rattle.tpm_types_common.specs.Filled.{filled_by}
 use Rattle.tpm_types_common.proofs.FilledLaws.{filled_spelled}
 
@@ -139,3 +140,25 @@ nv_public_small p is =
 pub sized_nv_public_spelled : Spelled (λ p. sized_text (nv_public_text p)) IsNvPublic
     (filled_by nv_public_at)
 sized_nv_public_spelled = filled_spelled nv_public_spelled nv_public_small
+
+-- ---- whether a public area can be encoded
+
+-- a public area whose handle and attributes pass the test can be encoded
+pub valid_public : (p : NvPublic) → p.nv_index.number < 2 ^ 32 → p.attributes.bits < 2 ^ 32
+    → length p.auth_policy ≤ 32 → p.data_size < 2 ^ 16 → is_nv_public p ≡ true → IsNvPublic p
+valid_public p handle bits policy size is =
+    let reserved = bit_and p.attributes.bits reserved_bits == 0 in
+    let parts = and_parts (is_nv_index p.nv_index) reserved is in
+    record {
+      nv_index = record { fits = handle; named = parts.0 };
+      attributes = record {
+        fits = bits;
+        named = eqb-true (bit_and p.attributes.bits reserved_bits) 0 parts.1;
+      };
+      auth_policy = policy;
+      data_size = size;
+    }
+
+-- a public area that can be encoded passes the test
+pub public_valid : (p : NvPublic) → IsNvPublic p → is_nv_public p ≡ true
+public_valid p is = rw (is.nv_index.named, is.attributes.named) refl

@@ -1,12 +1,12 @@
 -- The public areas of NV indices. TPM 2.0 Library, Part 2, sections 13.5 (TPMS_NV_PUBLIC) and 13.6
 -- (TPM2B_NV_PUBLIC), and section 7.2 (TPM_HT_NV_INDEX: a handle whose most significant byte is 01).
-use Rattle.std.specs.Prelude.{◌≡◌, ℕ, ◌==◌, ◌<◌, ◌≤◌, ◌^◌, not, Bool, true, List, ◌++◌, length}
+use Rattle.std.specs.Prelude.{◌≡◌, ℕ, ◌==◌, ◌&&◌, bit_and, ◌<◌, ◌≤◌, ◌^◌, not, Bool, true, List, ◌++◌, length}
 use Rattle.std.specs.Prelude.{Result, Ok}
 use Rattle.std.specs.Int.{w16, w32, to_be_bytes}
 use Rattle.tpm_bytes.specs.Reading.{◌>>=◌, number_at, or_fault, refused_if}
 use Rattle.tpm_bytes.specs.Writing.{sized_text}
 use Rattle.tpm_types_nv.specs.declared.nv_public.NvPublic.{NvPublic}
-use Rattle.tpm_types_nv.specs.NvAttributes.{IsNvAttributes, nv_attributes_at, nv_attributes_text}
+use Rattle.tpm_types_nv.specs.NvAttributes.{IsNvAttributes, nv_attributes_at, nv_attributes_text, reserved_bits}
 use Rattle.tpm_types_common.specs.declared.handle.Handle.{Handle}
 use Rattle.tpm_types_common.specs.declared.rc.Rc.{Rc}
 use Rattle.tpm_types_common.specs.declared.rc.ResponseCode.TheVariants as code
@@ -43,6 +43,11 @@ pub record IsNvPublic (p : NvPublic) : Type 0 where
   pub attributes : IsNvAttributes p.attributes
   pub auth_policy : length p.auth_policy ≤ 32
   pub data_size : p.data_size < 2 ^ 16
+
+-- whether the handle is that of an index, and no reserved bit of the attributes is set. The types of
+-- the other fields bound them, so that the public area can then be encoded
+abbrev pub is_nv_public : NvPublic → Bool
+is_nv_public p = is_nv_index p.nv_index && bit_and p.attributes.bits reserved_bits == 0
 
 -- the public area at the start of the bytes, and the remaining bytes
 unfoldable pub nv_public_at : List ℕ → Result (NvPublic × List ℕ) Rc

@@ -1,7 +1,7 @@
 //! The attributes of NV indices, one bit each, and the four bits of the type (TPMA_NV; TPM 2.0
 //! Library, Part 2, section 13.4).
 
-ghost use Rattle.std.specs.Prelude.{◌≡◌, ◌<◌};
+ghost use Rattle.std.specs.Prelude.{◌≡◌, ◌<◌, ◌==◌, bit_and};
 ghost use Rattle.tpm_bytes.specs.Reading.{Reads};
 
 use crate::nv_type::NvType;
@@ -56,7 +56,14 @@ pub struct NvAttributes {
 }
 
 impl NvAttributes {
-    ghost use Rattle.tpm_types_nv.specs.NvAttributes.{has, index_type, is_of, nv_attributes_at, with_attribute, without_attribute};
+    ghost use Rattle.tpm_types_nv.specs.NvAttributes.{has, index_type, is_of, nv_attributes_at, reserved_bits, with_attribute, without_attribute};
+
+    /// Whether no reserved bit is set.
+    pub fn has_no_reserved_bits(self) -> bool
+        ensures { result ≡ bit_and self.bits reserved_bits == 0 }
+    {
+        self.bits & RESERVED_BITS == 0
+    }
 
     /// Whether the index has this attribute.
     #[tactic(auto, using(std::proofs::lemmas::Nat::Bits::shr_and_one))]

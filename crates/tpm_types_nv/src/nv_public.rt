@@ -1,6 +1,6 @@
 //! The public area of an NV index (TPMS_NV_PUBLIC; TPM 2.0 Library, Part 2, section 13.5).
 
-ghost use Rattle.std.specs.Prelude.{◌≡◌, ℕ, ◌≤◌, List, ◌++◌, length, Ok, IfOk};
+ghost use Rattle.std.specs.Prelude.{◌≡◌, ℕ, ◌≤◌, List, ◌++◌, length, true, Ok, IfOk};
 ghost use Rattle.tpm_bytes.specs.Reading.{AreBytes, Reads};
 ghost use Rattle.tpm_bytes.specs.Writing.{Puts, sized_text};
 
@@ -23,7 +23,7 @@ pub struct NvPublic {
 }
 
 impl NvPublic {
-    ghost use Rattle.tpm_types_nv.specs.NvPublic.{IsNvPublic, nv_index_at, nv_public_at, nv_public_text};
+    ghost use Rattle.tpm_types_nv.specs.NvPublic.{IsNvPublic, is_nv_public, nv_index_at, nv_public_at, nv_public_text};
     ghost use Rattle.tpm_types_nv.specs.declared.nv_public.NvPublic.{NvPublic};
     ghost use Rattle.tpm_types_common.specs.Filled.{filled_by};
 
@@ -55,6 +55,19 @@ impl NvPublic {
             → Reads (λ public. public) (Ok (public, rest)) text.old result text.new }
     {
         read_filled(text)
+    }
+
+    /// Whether the public area can be encoded: its handle is that of an index, and no reserved
+    /// attribute is set.
+    #[tactic(auto, using(crate::proofs::NvPublicLaws::valid_public))]
+    pub fn is_valid(&self) -> bool
+        ensures value { result ≡ is_nv_public self.now }
+        ensures valid { result ≡ true → IsNvPublic self.now }
+    {
+        // The types of these fields bound them.
+        let (_handle, _bits) = (self.nv_index.number, self.attributes.bits);
+        let (_policy, _size) = (self.auth_policy.as_slice(), self.data_size);
+        self.nv_index.is_nv_index() && self.attributes.has_no_reserved_bits()
     }
 
     /// Reads the handle of an index. Fails with INSUFFICIENT if it is truncated, or with VALUE if

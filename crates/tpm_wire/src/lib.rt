@@ -28,6 +28,6 @@ pub mod turn;
 pub use fault::{Full, HostFault, NoConnection, ServeFault};
 pub use host::Host;
 pub use mux::Mux;
-pub use number::ConnectionNumber;
+pub use number::{Conn, ConnectionNumber};
 pub use serving::{serve, serve_saving};
 pub use turn::Turn;

@@ -20,7 +20,8 @@ use crate::front::Front;
 use crate::host::Host;
 use crate::number::ConnectionNumber;
 use crate::turn::Turn;
-use tpm_machine::{Machine, SavesNothing, Unsaved, Witness};
+use tpm_machine::Machine;
+use tpm_machine_saver::{SavesNothing, Unsaved, Witness};
 use tpm_record::Keep;
 use tpm_step::{Event, Outcome};
 

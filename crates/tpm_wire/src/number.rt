@@ -10,6 +10,9 @@ pub struct ConnectionNumber {
     ghost in_range: { number < 8 },
 }
 
+/// A connection, identified by its number.
+pub type Conn = ConnectionNumber;
+
 impl ConnectionNumber {
     ghost use Rattle.tpm_wire.specs.Number.{number_of};
 

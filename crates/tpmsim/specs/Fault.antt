@@ -28,8 +28,10 @@ use Rattle.tpmsim_image.specs.declared.fault.Subject.{Subject}
 use Rattle.tpmsim_image.specs.declared.fault.Subject.TheVariants as subject
 use Rattle.tpmsim.specs.declared.kept.stop.PlayFault.{PlayFault}
 use Rattle.tpmsim.specs.declared.kept.stop.PlayFault.TheVariants as play
-use Rattle.tpmsim_script.specs.declared.fault.ScriptFault.{ScriptFault}
-use Rattle.tpmsim_script.specs.declared.fault.ScriptFault.TheVariants.{Line, Read, TooManyLines, Write, Save, NoMemory}
+use Rattle.tpmsim_script.specs.declared.fault.RunFault.{RunFault}
+use Rattle.tpmsim_script.specs.declared.fault.RunFault.TheVariants.{Line, Read, TooManyLines, Write, Save, NoMemory}
+use Rattle.tpmsim_script.specs.declared.script_fault.ScriptFault.{ScriptFault}
+use Rattle.tpmsim_script.specs.declared.script_fault.ScriptFault.TheVariants as script
 
 -- the cause with this subject and without a system error
 abbrev pub alone : Subject → Cause
@@ -62,7 +64,15 @@ abbrev pub fault_of_arguments : ArgumentFault → Fault
 fault_of_arguments words.Usage = Usage
 fault_of_arguments words.NoMemory = Memory
 
-abbrev pub fault_of : ScriptFault → Fault
+-- the fault of a script on a new device
+abbrev pub fault_of_script : ScriptFault → Fault
+fault_of_script (script.Line number) = ScriptLine number
+fault_of_script script.Read = File (alone subject.Script)
+fault_of_script script.Write = File (alone subject.Output)
+fault_of_script script.NoMemory = Memory
+
+-- the fault of a script on a device that is kept
+abbrev pub fault_of : RunFault → Fault
 fault_of (Line number) = ScriptLine number
 fault_of Read = File (alone subject.Script)
 fault_of TooManyLines = File (alone subject.Script)

@@ -2,12 +2,9 @@
 //! the system's reason. The line that reports the fault itself does not change.
 
 use crate::fault::Fault;
-use std::{env, io};
+use std::io;
 use tpmsim_arguments::{Arguments, Place};
-use tpmsim_image::{Cause, Subject};
-
-/// The environment variable that requests an explanation of each fault, if its value is 1.
-const VARIABLE: &str = "TPMSIM_VERBOSE";
+use tpmsim_image::{Cause, Subject, is_verbose};
 
 /// A path in two parts, which are printed one after the other.
 #[derive(Clone, Copy)]
@@ -18,7 +15,7 @@ struct Path<'a> {
 
 /// Prints the path that a fault concerns, and the system's reason, if the environment requests it.
 pub(crate) fn explain(rt: &HostRuntime, arguments: &Arguments<'_>, fault: Fault) {
-    if !is_asked(rt) {
+    if !is_verbose(rt) {
         return;
     }
     if let Fault::Kept(fault) = fault {
@@ -32,14 +29,6 @@ pub(crate) fn explain(rt: &HostRuntime, arguments: &Arguments<'_>, fault: Fault)
         if let Some(path) = path_of(arguments, cause.subject) {
             print(rt, path, cause.error);
         }
-    }
-}
-
-/// Whether the environment requests an explanation of each fault.
-fn is_asked(rt: &HostRuntime) -> bool {
-    match env::var(rt, VARIABLE) {
-        Ok(value) => value.as_str() == "1",
-        Err(_) => false,
     }
 }
 

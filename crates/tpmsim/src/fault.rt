@@ -15,7 +15,7 @@ use tpm_text::AsmFault;
 use tpmsim_arguments::ArgumentFault;
 use tpmsim_folder::KeptFault;
 use tpmsim_image::{Cause, DeviceFault, Subject};
-use tpmsim_script::ScriptFault;
+use tpmsim_script::{RunFault, ScriptFault};
 
 /// Why the program failed. `Display` writes the line for standard error. That line does not contain
 /// a cause, which [`crate::explaining`] prints on request.
@@ -257,17 +257,32 @@ impl From<DeviceFault> for Fault {
 }
 
 impl From<ScriptFault> for Fault {
-    ghost use Rattle.tpmsim.specs.Fault.{fault_of};
+    ghost use Rattle.tpmsim.specs.Fault.{fault_of_script};
 
-    ghost from_gives = { λ script_fault fault. fault ≡ fault_of script_fault };
+    ghost from_gives = { λ script_fault fault. fault ≡ fault_of_script script_fault };
 
     fn from(fault: ScriptFault) -> Fault {
         match fault {
             ScriptFault::Line(number) => Fault::ScriptLine(number),
-            ScriptFault::Read | ScriptFault::TooManyLines => Fault::file(Subject::Script),
+            ScriptFault::Read => Fault::file(Subject::Script),
             ScriptFault::Write => Fault::file(Subject::Output),
-            ScriptFault::Save => Fault::file(Subject::Image),
             ScriptFault::NoMemory => Fault::Memory,
+        }
+    }
+}
+
+impl From<RunFault> for Fault {
+    ghost use Rattle.tpmsim.specs.Fault.{fault_of};
+
+    ghost from_gives = { λ run_fault fault. fault ≡ fault_of run_fault };
+
+    fn from(fault: RunFault) -> Fault {
+        match fault {
+            RunFault::Line(number) => Fault::ScriptLine(number),
+            RunFault::Read | RunFault::TooManyLines => Fault::file(Subject::Script),
+            RunFault::Write => Fault::file(Subject::Output),
+            RunFault::Save => Fault::file(Subject::Image),
+            RunFault::NoMemory => Fault::Memory,
         }
     }
 }

@@ -8,8 +8,8 @@ use Rattle.clap.specs.Words.{Text}
 use Rattle.clap.proofs.OnLiterals.{clap_on_literals}
 use Rattle.tpm_number.specs.Number.{decimal_of, locality_of}
 use Rattle.tpmsim_arguments.specs.Answers.{AreTaken}
-use Rattle.tpmsim_arguments.specs.Invocation.{Invocation, Kept, asked_by, assemble, check, completes_by, cycle_power, forms, in_image, in_state, log_by, name_code, past_by, replay, restore, retell, run, serve, snapshot, spell}
-use Rattle.tpmsim_arguments.specs.Lines.{AskFor, AskForDevice, AskForFolder, AskForNothing, AskForSavedDevice, AskForService, IsScript, asm_line, begins_with_hyphen, check_line, code_line, complete_line, cut_line, form_line, forms_line, incomplete_line, joined_line, keeping_line, line_line, logging_line, played_line, power_line, replay_line, restore_line, saving_line, script_line, short_line, snapshot_line, state_line}
+use Rattle.tpmsim_arguments.specs.Invocation.{Invocation, Kept, asked_by, assemble, check, completes_by, connections_by, cycle_power, entropy_by, forms, in_image, in_state, locality_by, log_by, name_code, needed_by, past_by, replay, restore, retell, run, serve, snapshot, spell}
+use Rattle.tpmsim_arguments.specs.Lines.{AskFor, AskForDevice, AskForFolder, AskForNothing, AskForSavedDevice, AskForService, IsScript, asm_line, begins_with_hyphen, check_line, code_line, complete_line, cut_line, form_line, forms_line, incomplete_line, joined_line, keeping_line, line_line, line_without_connections, line_without_entropy, line_without_locality, logging_line, played_line, power_line, replay_line, restore_line, saving_line, script_line, short_line, snapshot_line, state_line}
 
 -- a word that does not begin with a hyphen is not the name of an argument
 no_hyphen : (word : Text) → begins_with_hyphen word ≡ false → strip_byte 45 word ≡ None
@@ -255,7 +255,11 @@ abbrev completed : (socket state : Text) → Option ℕ → Option Invocation
 completed socket state past =
     option_map serve
     (option_and_then (λ place. option_and_then (λ log. option_and_then (λ completes.
-    Some (record { socket = socket; place = place; log = log; entropy = codes "/dev/urandom"; locality = 0; connections = None; saves_each = false; completes = completes }))
+    option_and_then (λ entropy. option_and_then (λ l. option_and_then (λ c.
+    option_and_then (λ locality. option_and_then (λ connections.
+    Some (record { socket = socket; place = place; log = log; entropy = entropy_by entropy; locality = locality; connections = connections; saves_each = false; completes = completes }))
+    (connections_by c)) (locality_by l))
+    (needed_by place None)) (needed_by place None)) (needed_by place None))
     (completes_by place true)) (log_by place None))
     (option_map (λ count. in_state state count) past))
 
@@ -272,7 +276,22 @@ folder_is_completed name socket state keep past is small =
     let read = complete_is_read name socket state keep in
     (read.0, read.1 ∙ ap (completed socket state) (past_is keep past is small))
 
-pub image_is_not_completed : (name socket image : Text)
-    → AskForNothing (incomplete_line name socket image)
+pub image_is_not_completed : (name socket image entropy locality connections : Text)
+    → AskForNothing (incomplete_line name socket image entropy locality connections)
 unfolding clap_on_literals
-image_is_not_completed name socket image = (refl, refl)
+image_is_not_completed name socket image entropy locality connections = (refl, refl)
+
+pub entropy_is_needed : (name socket image locality connections : Text)
+    → AskForNothing (line_without_entropy name socket image locality connections)
+unfolding clap_on_literals
+entropy_is_needed name socket image locality connections = (refl, refl)
+
+pub locality_is_needed : (name socket image entropy connections : Text)
+    → AskForNothing (line_without_locality name socket image entropy connections)
+unfolding clap_on_literals
+locality_is_needed name socket image entropy connections = (refl, refl)
+
+pub connections_are_needed : (name socket image entropy locality : Text)
+    → AskForNothing (line_without_connections name socket image entropy locality)
+unfolding clap_on_literals
+connections_are_needed name socket image entropy locality = (refl, refl)

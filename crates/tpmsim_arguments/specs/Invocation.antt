@@ -109,6 +109,13 @@ abbrev pub completes_by : Kept → Bool → Option Bool
 completes_by (in_image image) completes = if completes then None else Some false
 completes_by (in_state state past) completes = Some completes
 
+-- an option of `serve` that a device in an image needs: only a device in a folder can be served
+-- without this option
+abbrev pub needed_by : Kept → (option : Option Text) → Option (Option Text)
+needed_by (in_image image) None = None
+needed_by (in_image image) (Some text) = Some (Some text)
+needed_by (in_state state past) option = Some option
+
 -- the file of random bytes: the system's file, unless another file is given
 abbrev pub entropy_by : Option Text → Text
 entropy_by None = codes "/dev/urandom"
@@ -131,13 +138,16 @@ service_in rows = do
   place ← place_in rows
   log ← log_by place (first_of (codes "log") rows)
   completes ← completes_by place (is_set (codes "complete") rows)
-  locality ← locality_by (first_of (codes "locality") rows)
-  connections ← connections_by (first_of (codes "connections") rows)
+  entropy ← needed_by place (first_of (codes "entropy") rows)
+  given_locality ← needed_by place (first_of (codes "locality") rows)
+  given_connections ← needed_by place (first_of (codes "connections") rows)
+  locality ← locality_by given_locality
+  connections ← connections_by given_connections
   Some (record {
     socket = socket;
     place = place;
     log = log;
-    entropy = entropy_by (first_of (codes "entropy") rows);
+    entropy = entropy_by entropy;
     locality = locality;
     connections = connections;
     saves_each = is_set (codes "save-each") rows;

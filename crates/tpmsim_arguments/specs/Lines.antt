@@ -131,10 +131,30 @@ abbrev pub complete_line : (name socket state keep : Text) → List Text
 complete_line name socket state keep = name ∷ codes "serve" ∷ (codes "--socket=" ++ socket)
     ∷ (codes "--state=" ++ state) ∷ (codes "--keep=" ++ keep) ∷ codes "--complete" ∷ []
 
--- the command line `NAME serve --socket=SOCKET --image=IMAGE --complete`
-abbrev pub incomplete_line : (name socket image : Text) → List Text
-incomplete_line name socket image = name ∷ codes "serve" ∷ (codes "--socket=" ++ socket)
-    ∷ (codes "--image=" ++ image) ∷ codes "--complete" ∷ []
+-- the `serve` command line with `--complete` after the image
+abbrev pub incomplete_line : (name socket image entropy locality connections : Text) → List Text
+incomplete_line name socket image entropy locality connections = name ∷ codes "serve"
+    ∷ (codes "--socket=" ++ socket) ∷ (codes "--image=" ++ image) ∷ codes "--complete"
+    ∷ (codes "--entropy=" ++ entropy) ∷ (codes "--locality=" ++ locality)
+    ∷ (codes "--connections=" ++ connections) ∷ []
+
+-- the `serve` command line without `--entropy`
+abbrev pub line_without_entropy : (name socket image locality connections : Text) → List Text
+line_without_entropy name socket image locality connections = name ∷ codes "serve"
+    ∷ (codes "--socket=" ++ socket) ∷ (codes "--image=" ++ image)
+    ∷ (codes "--locality=" ++ locality) ∷ (codes "--connections=" ++ connections) ∷ []
+
+-- the `serve` command line without `--locality`
+abbrev pub line_without_locality : (name socket image entropy connections : Text) → List Text
+line_without_locality name socket image entropy connections = name ∷ codes "serve"
+    ∷ (codes "--socket=" ++ socket) ∷ (codes "--image=" ++ image)
+    ∷ (codes "--entropy=" ++ entropy) ∷ (codes "--connections=" ++ connections) ∷ []
+
+-- the `serve` command line without `--connections`
+abbrev pub line_without_connections : (name socket image entropy locality : Text) → List Text
+line_without_connections name socket image entropy locality = name ∷ codes "serve"
+    ∷ (codes "--socket=" ++ socket) ∷ (codes "--image=" ++ image)
+    ∷ (codes "--entropy=" ++ entropy) ∷ (codes "--locality=" ++ locality) ∷ []
 
 -- the `serve` command line with `--state=STATE` instead of the image
 abbrev pub state_line : (name socket state entropy locality connections : Text) → List Text

@@ -5,12 +5,13 @@ ghost use Rattle.clap.specs.Words.{first_of, found_of, rows_of, subcommand_rows_
 ghost use Rattle.tpm_bytes.specs.Reading.{Gives};
 ghost use Rattle.tpmsim_arguments.specs.Answers.{Answers};
 ghost use Rattle.tpm_types_common.specs.Locality.{locality_number};
-ghost use Rattle.tpmsim_arguments.specs.Invocation.{asked_in, asked_of, completes_by, invocation_of};
-ghost use Rattle.tpmsim_arguments.specs.Invocation.{connections_by, entropy_by, is_set, kept_of};
-ghost use Rattle.tpmsim_arguments.specs.Invocation.{locality_by, log_by, past_by, past_in, past_of};
-ghost use Rattle.tpmsim_arguments.specs.Invocation.{place_by, place_in, power_in, restore_in};
-ghost use Rattle.tpmsim_arguments.specs.Invocation.{run_in, script_in, served_of, service_in};
-ghost use Rattle.tpmsim_arguments.specs.Invocation.{storage_in, stored_of};
+ghost use Rattle.tpmsim_arguments.specs.Invocation.{asked_in, asked_of, completes_by};
+ghost use Rattle.tpmsim_arguments.specs.Invocation.{connections_by, entropy_by, invocation_of};
+ghost use Rattle.tpmsim_arguments.specs.Invocation.{is_set, kept_of, locality_by, log_by};
+ghost use Rattle.tpmsim_arguments.specs.Invocation.{needed_by, past_by, past_in, past_of, place_by};
+ghost use Rattle.tpmsim_arguments.specs.Invocation.{place_in, power_in, restore_in, run_in};
+ghost use Rattle.tpmsim_arguments.specs.Invocation.{script_in, served_of, service_in, storage_in};
+ghost use Rattle.tpmsim_arguments.specs.Invocation.{stored_of};
 ghost use Rattle.tpmsim_arguments.specs.declared.fault.ArgumentFault.TheVariants.{Usage};
 
 use crate::command_line::command;
@@ -321,6 +322,19 @@ fn completes_by(place: Place<'_>, completes: bool) -> Option<bool>
     }
 }
 
+/// Returns an option of `serve` that a device in an image needs. Only a device in a folder can be
+/// served without this option.
+fn needed_by<'a>(place: Place<'_>, option: Option<&'a str>) -> Option<Option<&'a str>>
+    ensures { option_map (option_map (λ text. text.now)) result
+        ≡ needed_by (kept_of place.entry) (option_map (λ text. text.now) option.entry) }
+{
+    match (place, option) {
+        (Place::Image(_), None) => None,
+        (Place::Image(_), Some(text)) => Some(Some(text)),
+        (Place::State { .. }, option) => Some(option),
+    }
+}
+
 /// Returns the path of the file of random bytes: the system's file, unless another file is given.
 fn entropy_by<'a>(path: Option<&'a str>) -> &'a str
     ensures { result.now ≡ entropy_by (option_map (λ text. text.now) path.entry) }
@@ -359,14 +373,19 @@ fn service_of<'a>(options: &ArgMatches<'a>) -> Option<Service<'a>>
 {
     let socket = value(options, "socket")?;
     let place = place_of(options)?;
+    let log = log_by(place, value(options, "log"))?;
+    let completes = completes_by(place, is_set(options, "complete"))?;
+    let entropy = needed_by(place, value(options, "entropy"))?;
+    let locality = needed_by(place, value(options, "locality"))?;
+    let connections = needed_by(place, value(options, "connections"))?;
     Some(Service {
         socket,
         place,
-        log: log_by(place, value(options, "log"))?,
-        completes: completes_by(place, is_set(options, "complete"))?,
-        entropy: entropy_by(value(options, "entropy")),
-        locality: locality_by(value(options, "locality"))?,
-        connections: connections_by(value(options, "connections"))?,
+        log,
+        completes,
+        entropy: entropy_by(entropy),
+        locality: locality_by(locality)?,
+        connections: connections_by(connections)?,
         saves_each: is_set(options, "save-each"),
     })
 }

@@ -267,12 +267,14 @@ const KEEP: &str =
 const COMPLETE: &str =
     "With --state, the completing layer answers what clients ask for and the device lacks";
 
-const ENTROPY: &str = "The random bytes, 256 for each command; /dev/urandom without this";
+const ENTROPY: &str =
+    "The random bytes, 256 for each command; with --state, /dev/urandom without this";
 
-const LOCALITY: &str = "The locality of all commands, 0 to 4; 0 without this";
+const LOCALITY: &str = "The locality of all commands, 0 to 4; with --state, 0 without this";
 
 const CONNECTIONS: &str =
-    "How many connections are served, one after another; without this there is no end";
+    "How many connections are served, one after another; with --state, without end unless this is \
+     given";
 
 const SAVE_EACH: &str =
     "Saves before each response that reports a change, not after a connection alone";

@@ -10,10 +10,12 @@ ghost use Rattle.tpmsim_arguments.specs.Lines.{AskForSavedDevice, AskForService,
 ghost use Rattle.tpmsim_arguments.specs.Lines.{NoneBeginsWithHyphen, asm_line, begins_with_hyphen};
 ghost use Rattle.tpmsim_arguments.specs.Lines.{check_line, code_line, complete_line, cut_line};
 ghost use Rattle.tpmsim_arguments.specs.Lines.{form_line, forms_line, incomplete_line, joined_line};
-ghost use Rattle.tpmsim_arguments.specs.Lines.{keeping_line, kept_line, line_line, logging_line};
-ghost use Rattle.tpmsim_arguments.specs.Lines.{played_line, power_line, replay_line, restore_line};
-ghost use Rattle.tpmsim_arguments.specs.Lines.{run_line, saving_line, script_line, serve_line};
-ghost use Rattle.tpmsim_arguments.specs.Lines.{short_line, snapshot_line, state_line, trace_line};
+ghost use Rattle.tpmsim_arguments.specs.Lines.{keeping_line, kept_line, line_line};
+ghost use Rattle.tpmsim_arguments.specs.Lines.{line_without_connections, line_without_entropy};
+ghost use Rattle.tpmsim_arguments.specs.Lines.{line_without_locality, logging_line, played_line};
+ghost use Rattle.tpmsim_arguments.specs.Lines.{power_line, replay_line, restore_line, run_line};
+ghost use Rattle.tpmsim_arguments.specs.Lines.{saving_line, script_line, serve_line, short_line};
+ghost use Rattle.tpmsim_arguments.specs.Lines.{snapshot_line, state_line, trace_line};
 
 /// Each common command line requests what a user expects, if no word except the names of settings
 /// begins with a hyphen. A script may be a single hyphen. A value that is joined to its name by `=`
@@ -77,6 +79,12 @@ pub fn usual_line_laws()
     ensures complete { (name socket state keep : List ℕ)
         → (past : ℕ) → decimal_of keep ≡ Some past → past ≤ 99
         → AskForFolder (complete_line name socket state keep) socket state past true }
-    ensures incomplete { (name socket image : List ℕ)
-        → AskForNothing (incomplete_line name socket image) }
+    ensures incomplete { (name socket image entropy locality connections : List ℕ)
+        → AskForNothing (incomplete_line name socket image entropy locality connections) }
+    ensures without_entropy { (name socket image locality connections : List ℕ)
+        → AskForNothing (line_without_entropy name socket image locality connections) }
+    ensures without_locality { (name socket image entropy connections : List ℕ)
+        → AskForNothing (line_without_locality name socket image entropy connections) }
+    ensures without_connections { (name socket image entropy locality : List ℕ)
+        → AskForNothing (line_without_connections name socket image entropy locality) }
 {}

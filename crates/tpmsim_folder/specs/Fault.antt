@@ -43,7 +43,7 @@ said_text said.HoldsNoState = codes "holds a state that this program does not op
 said_text said.HoldsEarlierState =
     codes "holds a state of an earlier version: take a snapshot with that version, and restore it with this one"
 said_text said.WasAnsweredOtherwise =
-    codes "was written by a program that answers otherwise than this one, and stays as it is"
+    codes "was written by a version that answers otherwise than this one, and stays as it is: power-cycle the device with that version, or drop its commands with tpmsim-power --cut"
 said_text (said.Keeper fault) = sentence fault
 
 -- the message for a fault of a folder called `state`; it does not contain the system's error

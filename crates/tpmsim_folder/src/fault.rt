@@ -134,7 +134,7 @@ impl Said {
                 "holds a state of an earlier version: take a snapshot with that version, and restore it with this one"
             }
             Said::WasAnsweredOtherwise => {
-                "was written by a program that answers otherwise than this one, and stays as it is"
+                "was written by a version that answers otherwise than this one, and stays as it is: power-cycle the device with that version, or drop its commands with tpmsim-power --cut"
             }
             Said::Keeper(fault) => fault.sentence(),
         }

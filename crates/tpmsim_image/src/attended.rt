@@ -1,5 +1,6 @@
 //! The reader of a connection. Connections are served one at a time, so a second client has to
-//! wait. The first time that a client waits, the program prints a message.
+//! wait. The first time that a client waits, the program prints a message, if the environment
+//! requests explanations.
 
 use crate::socket::Socket;
 use std::io;
@@ -20,14 +21,14 @@ pub struct Attended<'a> {
 }
 
 impl<'a> Attended<'a> {
-    /// Creates the reader of a connection to this socket. If a client was already seen waiting, the
-    /// reader does not check again.
+    /// Creates the reader of a connection to this socket. Only if the socket looks for waiting
+    /// clients, reads have a time limit.
     pub(crate) fn new(
         rt: &'a HostRuntime,
         stream: &'a UnixStream,
         socket: &'a mut Socket,
     ) -> Attended<'a> {
-        if !socket.has_seen() {
+        if socket.looks() {
             let silence = Duration::from_secs(SILENCE_SECONDS);
             let _ = stream.set_read_timeout(Some(silence));
         }
@@ -37,7 +38,7 @@ impl<'a> Attended<'a> {
     /// Checks whether a client is waiting, and reports it. After the report, reads have no time
     /// limit.
     fn look(&mut self) {
-        if self.socket.has_seen() || !self.socket.sees_client() {
+        if !self.socket.looks() || !self.socket.sees_client() {
             return;
         }
         let _ = self.stream.set_read_timeout(None);

@@ -3,7 +3,8 @@
 ghost use Rattle.std.specs.Prelude.{◌≡◌, is_some, true};
 
 use crate::image_saver::ImageSaver;
-use tpm_machine::{Machine, Saver, Unsaved, Witness};
+use tpm_machine::Machine;
+use tpm_machine_saver::{Saver, Unsaved, Witness};
 use tpm_record::Keep;
 use tpm_step::{Event, Outcome};
 

@@ -7,7 +7,8 @@ ghost use Rattle.tpm_machine.specs.State.{state_of};
 use crate::fault::DeviceFault;
 use crate::image_file::ImageFile;
 use tpm_image::KeptText;
-use tpm_machine::{Machine, Saver, Unsaved};
+use tpm_machine::Machine;
+use tpm_machine_saver::{Saver, Unsaved};
 use tpm_record::Keep;
 
 /// A saver of a script's device. It remembers what it wrote last. Therefore a command that changes

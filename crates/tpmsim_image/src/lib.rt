@@ -7,7 +7,8 @@
 //!
 //! The device's inputs come from the host: random bytes from a file ([`entropy`]), the time that
 //! has passed ([`stopwatch`]), and both together for each command ([`source`]). The socket
-//! ([`socket`]) serves any device, and its reader ([`attended`]) reports a client that waits.
+//! ([`socket`]) serves any device. If the environment requests explanations ([`verbose`]), the
+//! socket's reader ([`attended`]) reports a client that waits.
 //! Contracts define what a saver remembers, what is written to a log, and the elapsed time of each
 //! command. No contract can define the contents of a file.
 //!
@@ -29,6 +30,7 @@ pub mod serving;
 pub mod socket;
 pub mod source;
 pub mod stopwatch;
+mod verbose;
 
 pub use attended::Attended;
 pub use entropy::Entropy;
@@ -37,3 +39,4 @@ pub use image_file::ImageFile;
 pub use image_saver::ImageSaver;
 pub use serving::serve_device;
 pub use socket::{Socket, bind};
+pub use verbose::is_verbose;

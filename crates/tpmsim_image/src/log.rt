@@ -28,7 +28,8 @@ use tpm_bytes::{Sink, Tap};
 use tpm_image_text::laws::image_laws;
 use tpm_image_text::{Text, write_image as write_text};
 use tpm_journal_text::{ENTRY_ROOM, HeadKind, head_size, write_head};
-use tpm_machine::{Machine, Unsaved, Witness};
+use tpm_machine::Machine;
+use tpm_machine_saver::{Unsaved, Witness};
 use tpm_record::Keep;
 use tpm_step::{Event, Outcome};
 

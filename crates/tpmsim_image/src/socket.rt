@@ -3,6 +3,7 @@
 use crate::attended::Attended;
 use crate::fault::{DeviceFault, Subject};
 use crate::folder::folder_of;
+use crate::verbose::is_verbose;
 use std::fs::{DirBuilder, Permissions};
 use std::io::ErrorKind;
 use std::os::unix::fs::{DirBuilderExt, FileTypeExt, MetadataExt, PermissionsExt};
@@ -16,8 +17,9 @@ pub struct Socket {
     identity: Identity,
     /// The client that was seen waiting while another client was served.
     waiting: Option<UnixStream>,
-    /// Whether a client was seen waiting.
-    has_seen: bool,
+    /// Whether the program looks for waiting clients: if the environment requests explanations, and
+    /// until the first such client was seen.
+    looks: bool,
 }
 
 impl Socket {
@@ -37,9 +39,9 @@ impl Socket {
         Attended::new(rt, stream, self)
     }
 
-    /// Whether a client was seen waiting.
-    pub(crate) fn has_seen(&self) -> bool {
-        self.has_seen
+    /// Whether the program looks for waiting clients.
+    pub(crate) fn looks(&self) -> bool {
+        self.looks
     }
 
     /// Whether a client is waiting now. That client is the next client to be served.
@@ -53,7 +55,7 @@ impl Socket {
             return false;
         };
         self.waiting = Some(stream);
-        self.has_seen = true;
+        self.looks = false;
         true
     }
 
@@ -88,7 +90,11 @@ fn identity_at(rt: &HostRuntime, path: &str) -> io::Result<Identity> {
 /// Creates a socket at this path. From its creation on, only its owner can use it. Replaces an
 /// existing socket on which no process listens.
 pub fn bind(rt: &HostRuntime, path: &str) -> Result<Socket, DeviceFault> {
-    DeviceFault::Socket(Subject::Socket.alone()).unless(bind_aside(rt, path))
+    // The environment is read before the socket is made: a run that serves allocates nothing.
+    let looks = is_verbose(rt);
+    let mut socket = DeviceFault::Socket(Subject::Socket.alone()).unless(bind_aside(rt, path))?;
+    socket.looks = looks;
+    Ok(socket)
 }
 
 /// Binds a socket next to the path, in a folder that nobody else can enter, and moves the socket to
@@ -160,7 +166,7 @@ fn bind_in_folder(rt: &HostRuntime, aside: &Aside, path: &str, folder: &str) -> 
         listener,
         identity,
         waiting: None,
-        has_seen: false,
+        looks: false,
     })
 }
 

@@ -14,8 +14,8 @@ use Rattle.tpmsim_script.specs.Lines.{BeginsTooLong, IsUnbroken, LosesFirstLine,
 use Rattle.tpmsim_script.specs.Player.{Did, Told}
 use Rattle.tpmsim_script.specs.Run.{AreTheirs, NextFound, OnNoMemory, OnUnread, OnUnwritten, UnlessFailed, end_at_limit, is_unsaved}
 use Rattle.tpmsim_script.specs.Script.{Effect, Playing, perform_line}
-use Rattle.tpmsim_script.specs.declared.fault.ScriptFault.{ScriptFault}
-use Rattle.tpmsim_script.specs.declared.fault.ScriptFault.TheVariants as fault
+use Rattle.tpmsim_script.specs.declared.fault.RunFault.{RunFault}
+use Rattle.tpmsim_script.specs.declared.fault.RunFault.TheVariants as fault
 use Rattle.tpmsim_script.specs.declared.line_fault.LineFault.{LineFault}
 use Rattle.tpmsim_script.specs.declared.line_fault.LineFault.TheVariants as stop
 use Rattle.tpmsim_script.proofs.CutText.{cut_behind, cut_then_kept, cut_twice, cut_within, nothing_printed_yet, printed_on, printed_yet}
@@ -304,7 +304,7 @@ ended_unwritten saves saves_change text left here first now new number start at 
 
 pub failed : {S : Type 0} (saves saves_change : S → Record → S → Type 0)
     (text left here rest first now new : Option (List ℕ)) (writer : Marks) (number : ℕ)
-    (start at : Kept S) (q : Playing) (why : ScriptFault) (line : List ℕ)
+    (start at : Kept S) (q : Playing) (why : RunFault) (line : List ℕ)
     → SoFar saves saves_change text here first now number start at
     → NextFound number here (Err why) line rest
     → UnlessFailed {X = Bool} (Err why) (Keeps now new)
@@ -370,7 +370,7 @@ ended_full saves saves_change text left here first now new number start at q so 
 
 pub ended_at_limit : {S : Type 0} (saves saves_change : S → Record → S → Type 0)
     (text left here rest first now new : Option (List ℕ)) (writer : Marks) (number known : ℕ)
-    (start at : Kept S) (q : Playing) (next : Result Bool ScriptFault) (line : List ℕ)
+    (start at : Kept S) (q : Playing) (next : Result Bool RunFault) (line : List ℕ)
     → number ≡ 1048577 → SoFar saves saves_change text here first now number start at
     → NextFound known here next line rest
     → UnlessFailed next (Keeps now new) → OnUnread next (LosesStart here left)
@@ -426,7 +426,7 @@ told_there saves saves_change line said device old result new e told =
 -- start.
 pub begun_at : {S : Type 0} (saves saves_change : S → Record → S → Type 0)
     (before text left held old new : Option (List ℕ)) (writer : Marks) (q p : Playing) (saver : S)
-    (result : Result (Unit {0}) ScriptFault) (Last : Kept S → Type 0)
+    (result : Result (Unit {0}) RunFault) (Last : Kept S → Type 0)
     → before ≡ text → held ≡ old → q ≡ p
     → KeepsDevice saves saves_change before left held new writer (kept_playing q saver) result
     Last → KeepsDevice saves saves_change text left old new writer (kept_playing p saver) result
@@ -450,7 +450,7 @@ others_yet (Some text) lines P Q q h = (h.0, h.1, q h.0)
 -- same lines and the same output.
 recast : {S : Type 0} (saves saves_change : S → Record → S → Type 0)
     (text left old mid new : Option (List ℕ)) (start : Kept S)
-    (result other : Result (Unit {0}) ScriptFault) (Last Next : Kept S → Type 0)
+    (result other : Result (Unit {0}) RunFault) (Last Next : Kept S → Type 0)
     → (h : Played saves saves_change text left old mid start result Last)
     → Counts other (length h.lines)
     → ((rest : List (List ℕ)) → Leaves other left h.end.playing rest)
@@ -471,7 +471,7 @@ recast saves saves_change text left old mid new start result other Last Next h c
 
 renewed : {S : Type 0} (saves saves_change : S → Record → S → Type 0)
     (text left old mid new : Option (List ℕ)) (start : Kept S)
-    (result : Result (Unit {0}) ScriptFault) (Last Next : Kept S → Type 0)
+    (result : Result (Unit {0}) RunFault) (Last Next : Kept S → Type 0)
     → (h : Played saves saves_change text left old mid start result Last)
     → Writes result old new h.print → Next h.end
     → Played saves saves_change text left old new start result Next
@@ -489,7 +489,7 @@ renewed saves saves_change text left old mid new start result Last Next h writte
 -- If all responses were written and the device was saved, the run satisfies `KeepsDevice`.
 pub ran_well : {S : Type 0} (saves saves_change : S → Record → S → Type 0)
     (text left old mid new : Option (List ℕ)) (was writer : Marks) (start at : Kept S)
-    (result : Result (Unit {0}) ScriptFault) (Last : Kept S → Type 0)
+    (result : Result (Unit {0}) RunFault) (Last : Kept S → Type 0)
     → KeepsDevice saves saves_change text left old mid was start result (λ end. end ≡ at)
     → Keeps mid new → writer ≡ was → Last at
     → KeepsDevice saves saves_change text left old new writer start result Last
@@ -528,7 +528,7 @@ ran_well saves saves_change text left old mid new was writer start at (Err fault
 -- with the fault `Write`.
 last_unwritten : {S : Type 0} (saves saves_change : S → Record → S → Type 0)
     (text left old mid new : Option (List ℕ)) (was writer : Marks) (start at : Kept S)
-    (result : Result (Unit {0}) ScriptFault) (Last : Kept S → Type 0)
+    (result : Result (Unit {0}) RunFault) (Last : Kept S → Type 0)
     → KeepsDevice saves saves_change text left old mid was start result (λ end. end ≡ at)
     → is_unsaved result ≡ false → OnNoMemory result ⊥ → CutOff mid new → Last at
     → KeepsDevice saves saves_change text left old new writer start (Err fault.Write) Last
@@ -564,7 +564,7 @@ last_unwritten saves saves_change text left old mid new was writer start at (Err
 
 pub ran_unwritten : {S : Type 0} (saves saves_change : S → Record → S → Type 0)
     (text left old mid new : Option (List ℕ)) (was writer : Marks) (start at : Kept S)
-    (result other : Result (Unit {0}) ScriptFault) (Last : Kept S → Type 0)
+    (result other : Result (Unit {0}) RunFault) (Last : Kept S → Type 0)
     → other ≡ Err fault.Write → KeepsDevice saves saves_change text left old mid was start result
     (λ end. end ≡ at) → is_unsaved result ≡ false → OnNoMemory result ⊥ → CutOff mid new
     → Last at
@@ -579,7 +579,7 @@ ran_unwritten saves saves_change text left old mid new was writer start at resul
 -- `Save`.
 written_unsaved : {S : Type 0} (saves saves_change : S → Record → S → Type 0)
     (text left old mid new : Option (List ℕ)) (reader was writer : Marks) (unsaved : Bool)
-    (start at : Kept S) (result : Result (Unit {0}) ScriptFault) (Last : Kept S → Type 0)
+    (start at : Kept S) (result : Result (Unit {0}) RunFault) (Last : Kept S → Type 0)
     → KeepsDevice saves saves_change text left old mid was start result (λ end. end ≡ at)
     → AreTheirs result reader was unsaved → OnNoMemory result ⊥ → Keeps mid new → writer ≡ was
     → KeepsDevice saves saves_change text left old new writer start (Err fault.Save) Last
@@ -618,7 +618,7 @@ written_unsaved saves saves_change text left old mid new reader was writer unsav
 -- responses were written.
 pub ran_unsaved : {S : Type 0} (saves saves_change : S → Record → S → Type 0)
     (text left old mid new : Option (List ℕ)) (reader was writer : Marks) (unsaved : Bool)
-    (start at : Kept S) (result flushed : Result (Unit {0}) ScriptFault) (Last : Kept S → Type 0)
+    (start at : Kept S) (result flushed : Result (Unit {0}) RunFault) (Last : Kept S → Type 0)
     → KeepsDevice saves saves_change text left old mid was start result (λ end. end ≡ at)
     → AreTheirs result reader was unsaved → OnNoMemory result ⊥
     → OnOk flushed (Keeps mid new) → OnOk flushed (writer ≡ was)

@@ -12,8 +12,8 @@ use Rattle.tpmsim_script.specs.declared.line_fault.LineFault.{LineFault}
 use Rattle.tpmsim_script.specs.declared.line_fault.LineFault.TheVariants as stop
 use Rattle.tpm_bytes.specs.Tap.{Marks}
 use Rattle.tpmsim_script.specs.Run.{AreTheirs, NextFound, OnNoMemory, OnTooMany, OnUnread, PlaysAllAllowed, PlaysToFailure, PlaysUpTo, UnlessFailed, Ran, end_at_limit}
-use Rattle.tpmsim_script.specs.declared.fault.ScriptFault.{ScriptFault}
-use Rattle.tpmsim_script.specs.declared.fault.ScriptFault.TheVariants.{Line, Read, TooManyLines, Write, Save, NoMemory}
+use Rattle.tpmsim_script.specs.declared.fault.RunFault.{RunFault}
+use Rattle.tpmsim_script.specs.declared.fault.RunFault.TheVariants.{Line, Read, TooManyLines, Write, Save, NoMemory}
 use Rattle.tpmsim_script.specs.Script.{IsOutput, Output, Playing, Plays, Effect, output_with, perform_line, play}
 
 appended : (a b c d : Option (List ℕ)) (first more : List ℕ) → Keeps a b → Appends b c first
@@ -112,7 +112,7 @@ stopped_by_length (Some text) old new p number t k =
 
 -- If a fault occurs before the next line is found, the run ends there.
 pub ran_to_fault : (left old new rest : Option (List ℕ)) (p : Playing) (number : ℕ)
-    (fault : ScriptFault) (line : List ℕ) (P : Option ℕ → Type 0)
+    (fault : RunFault) (line : List ℕ) (P : Option ℕ → Type 0)
     → NextFound number left (Err fault) line rest
     → UnlessFailed {X = Bool} (Err fault) (Keeps old new)
     → ((bad : Option ℕ) → Plays left old new p number bad → P bad) → Ran P (Err fault)
@@ -181,7 +181,7 @@ stopped_by_reader (Some rest) (Some left) old new (Some text) first p q number t
 
 -- If no line was found because the reader failed, the script was played up to the reader's failure.
 pub failed_read : (here left old new start first : Option (List ℕ)) (p q : Playing) (number : ℕ)
-    (fault : ScriptFault) → OnUnread {X = Bool} (Err fault) (LosesStart here left)
+    (fault : RunFault) → OnUnread {X = Bool} (Err fault) (LosesStart here left)
     → UnlessFailed {X = Bool} (Err fault) (Keeps old new)
     → Leads here old p number start first q new
     → OnUnread {X = Unit {0}} (Err fault) (PlaysToFailure start left first new q)
@@ -193,7 +193,7 @@ failed_read here left old new start first p q number Write t k leads = tt
 failed_read here left old new start first p q number Save t k leads = tt
 failed_read here left old new start first p q number NoMemory t k leads = tt
 
-pub failed_few : (here rest : Option (List ℕ)) (number : ℕ) (fault : ScriptFault) (line : List ℕ)
+pub failed_few : (here rest : Option (List ℕ)) (number : ℕ) (fault : RunFault) (line : List ℕ)
     (fact : Type 0) → NextFound number here (Err fault) line rest
     → OnTooMany {X = Unit {0}} (Err fault) fact
 failed_few here rest number (Line bad) line fact found = tt
@@ -203,7 +203,7 @@ failed_few here rest number Write line fact found = tt
 failed_few here rest number Save line fact found = tt
 failed_few here rest number NoMemory line fact found = tt
 
-pub failed_with_memory : (here rest : Option (List ℕ)) (number : ℕ) (fault : ScriptFault)
+pub failed_with_memory : (here rest : Option (List ℕ)) (number : ℕ) (fault : RunFault)
     (line : List ℕ) → NextFound number here (Err fault) line rest
     → OnNoMemory {X = Unit {0}} (Err fault) ⊥
 failed_with_memory here rest number (Line bad) line found = tt
@@ -256,7 +256,7 @@ one_more (Some text) old new start first p q number e t k leads =
     (t.0, t.1, leads 1048577 (t.0 ∷ t.1) ([], t.2, omega arith, (kept old new k, refl)))
 
 pub ended_played : (here rest old new : Option (List ℕ)) (p : Playing) (number known : ℕ)
-    (next : Result Bool ScriptFault) (line : List ℕ) (P : Option ℕ → Type 0)
+    (next : Result Bool RunFault) (line : List ℕ) (P : Option ℕ → Type 0)
     → NextFound known here next line rest → UnlessFailed next (Keeps old new)
     → ((bad : Option ℕ) → Plays here old new p number bad → P bad) → Ran P (end_at_limit next)
 ended_played here rest old new p number known (Ok true) line P found k whole = tt
@@ -270,7 +270,7 @@ ended_played here rest old new p number known (Err Save) line P found k whole = 
 ended_played here rest old new p number known (Err NoMemory) line P found k whole = tt
 
 pub ended_read : (here left old new start first : Option (List ℕ)) (p q : Playing) (number : ℕ)
-    (next : Result Bool ScriptFault)
+    (next : Result Bool RunFault)
     → OnUnread next (LosesStart here left) → UnlessFailed next (Keeps old new)
     → Leads here old p number start first q new
     → OnUnread (end_at_limit next) (PlaysToFailure start left first new q)
@@ -285,7 +285,7 @@ ended_read here left old new start first p q number (Err Save) t k leads = tt
 ended_read here left old new start first p q number (Err NoMemory) t k leads = tt
 
 pub ended_many : (here rest old new start first : Option (List ℕ)) (p q : Playing)
-    (number known : ℕ) (next : Result Bool ScriptFault) (line : List ℕ)
+    (number known : ℕ) (next : Result Bool RunFault) (line : List ℕ)
     → number ≡ 1048577 → NextFound known here next line rest → UnlessFailed next (Keeps old new)
     → Leads here old p number start first q new
     → OnTooMany (end_at_limit next) (PlaysAllAllowed start first new q)
@@ -301,7 +301,7 @@ ended_many here rest old new start first p q number known (Err Write) line e fou
 ended_many here rest old new start first p q number known (Err Save) line e found k leads = tt
 ended_many here rest old new start first p q number known (Err NoMemory) line e found k leads = tt
 
-pub ended_with_memory : (here rest : Option (List ℕ)) (known : ℕ) (next : Result Bool ScriptFault)
+pub ended_with_memory : (here rest : Option (List ℕ)) (known : ℕ) (next : Result Bool RunFault)
     (line : List ℕ) → NextFound known here next line rest → OnNoMemory (end_at_limit next) ⊥
 ended_with_memory here rest known (Ok true) line found = tt
 ended_with_memory here rest known (Ok false) line found = tt
@@ -372,7 +372,7 @@ failure_kept (Some text) (Some left) old mid new p h k =
     (h.0, h.1, h.2, up_to_kept (Some text) old mid new p 1 h.1 (lines_of (h.0 ++ left)) h.3 k)
 
 pub ran_unread : (start text left before old mid written new : Option (List ℕ)) (q p : Playing)
-    (result : Result (Unit {0}) ScriptFault) → start ≡ text → before ≡ old → q ≡ p
+    (result : Result (Unit {0}) RunFault) → start ≡ text → before ≡ old → q ≡ p
     → Keeps mid written → written ≡ new
     → OnUnread result (PlaysToFailure start left before mid q)
     → OnUnread result (PlaysToFailure text left old new p)
@@ -389,7 +389,7 @@ ran_unread start text left before old mid written new q p (Err Save) a b c k d h
 ran_unread start text left before old mid written new q p (Err NoMemory) a b c k d h = tt
 
 pub ran_too_many : (start text before old mid written new : Option (List ℕ)) (q p : Playing)
-    (result : Result (Unit {0}) ScriptFault) → start ≡ text → before ≡ old → q ≡ p
+    (result : Result (Unit {0}) RunFault) → start ≡ text → before ≡ old → q ≡ p
     → Keeps mid written → written ≡ new
     → OnTooMany result (PlaysAllAllowed start before mid q)
     → OnTooMany result (PlaysAllAllowed text old new p)
@@ -412,7 +412,7 @@ ran_too_many start text before old mid written new q p (Err NoMemory) a b c k d 
 
 -- Suppose that a fault names the part that failed. The fault still names this part if the writer's
 -- flags are unchanged, and a saver that had failed still counts as failed.
-pub theirs_yet : (result : Result (Unit {0}) ScriptFault) (reader old new : Marks)
+pub theirs_yet : (result : Result (Unit {0}) RunFault) (reader old new : Marks)
     (unsaved still : Bool) → new ≡ old → (unsaved ≡ true → still ≡ true)
     → AreTheirs result reader old unsaved → AreTheirs result reader new still
 theirs_yet (Ok done) reader old new unsaved still e stays h = tt

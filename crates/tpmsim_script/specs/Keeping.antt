@@ -10,8 +10,8 @@ use Rattle.tpmsim_script.specs.Line.{Meaning, Executes, ExecutesWords, CyclesPow
 use Rattle.tpmsim_script.specs.Line.{line_meaning, lines_of}
 use Rattle.tpmsim_script.specs.Lines.{IsUnbroken}
 use Rattle.tpmsim_script.specs.Script.{Effect, Playing, perform_line}
-use Rattle.tpmsim_script.specs.declared.fault.ScriptFault.{ScriptFault}
-use Rattle.tpmsim_script.specs.declared.fault.ScriptFault.TheVariants as fault
+use Rattle.tpmsim_script.specs.declared.fault.RunFault.{RunFault}
+use Rattle.tpmsim_script.specs.declared.fault.RunFault.TheVariants as fault
 
 -- a script that is being played, and the saver of its device
 pub record Kept (S : Type 0) : Type 0 where
@@ -49,7 +49,7 @@ PlaysLines {S = S} saves saves_change old (line ∷ lines) text new =
 
 -- `count` lines were played. If a line is bad, these are all the lines before it. If the script has
 -- too many lines, `count` is the maximum number of lines.
-abbrev pub Counts : Result (Unit {0}) ScriptFault → ℕ → Type 0
+abbrev pub Counts : Result (Unit {0}) RunFault → ℕ → Type 0
 Counts (Err (fault.Line number)) count = number ≡ count + 1
 Counts (Err fault.TooManyLines) count = count ≡ 1048576
 Counts other count = Unit {0}
@@ -58,7 +58,7 @@ Counts other count = Unit {0}
 -- bad line, `rest` begins with the bad line. If the reader failed, `rest` begins with the line that
 -- the reader had begun to return; `left` is the text that the reader has not returned. If the
 -- script has too many lines, `rest` has at least one line.
-abbrev pub Leaves : Result (Unit {0}) ScriptFault → (left : Option (List ℕ)) → Playing
+abbrev pub Leaves : Result (Unit {0}) RunFault → (left : Option (List ℕ)) → Playing
     → List (List ℕ) → Type 0
 Leaves (Ok done) left p rest = rest ≡ []
 Leaves (Err (fault.Line number)) left p rest =
@@ -71,7 +71,7 @@ Leaves (Err fault.TooManyLines) left p rest =
 Leaves (Err other) left p rest = Unit {0}
 
 -- This text was written; if the writer failed, only a prefix of the text was written.
-abbrev pub Writes : Result (Unit {0}) ScriptFault
+abbrev pub Writes : Result (Unit {0}) RunFault
     → Option (List ℕ) → Option (List ℕ) → List ℕ → Type 0
 Writes (Err fault.Write) old new text = CutOff (append_known old text) new
 Writes other old new text = Appends old new text
@@ -80,7 +80,7 @@ Writes other old new text = Appends old new text
 -- `Last`. Their output was written after the old contents of the writer (`old`).
 pub record Played {S : Type 0} (saves saves_change : S → Record → S → Type 0)
     (text left old new : Option (List ℕ)) (start : Kept S)
-    (result : Result (Unit {0}) ScriptFault) (Last : Kept S → Type 0) : Type 0 where
+    (result : Result (Unit {0}) RunFault) (Last : Kept S → Type 0) : Type 0 where
   pub lines : List (List ℕ)
   pub print : List ℕ
   pub end : Kept S
@@ -97,7 +97,7 @@ pub record Played {S : Type 0} (saves saves_change : S → Record → S → Type
 -- writer also failed, or if memory ran out, nothing is claimed.
 abbrev pub KeepsDevice : {S : Type 0} → (saves saves_change : S → Record → S → Type 0)
     → (text left old new : Option (List ℕ)) → (writer : Marks) → Kept S
-    → Result (Unit {0}) ScriptFault → (Last : Kept S → Type 0) → Type 0
+    → Result (Unit {0}) RunFault → (Last : Kept S → Type 0) → Type 0
 KeepsDevice saves saves_change text left old new writer start (Err fault.NoMemory) Last = Unit {0}
 KeepsDevice saves saves_change text left old new writer start (Err fault.Save) Last =
     writer.failed ≡ false → Played saves saves_change text left old new start (Err fault.Save)

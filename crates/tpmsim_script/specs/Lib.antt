@@ -6,6 +6,7 @@ pub mod Answers
 pub mod Script
 pub mod Player
 pub mod Run
+pub mod ScriptFault
 pub mod Keeping
 pub mod Checking
 pub mod Checker

@@ -10,8 +10,8 @@ use Rattle.tpmsim_script.specs.Checking.{Fault, faults_of, first_number}
 use Rattle.tpmsim_script.specs.Line.{lines_of}
 use Rattle.tpmsim_script.specs.declared.bad_line.Wanted.{Wanted}
 use Rattle.tpmsim_script.specs.declared.bad_line.Wanted.TheVariants as wanted
-use Rattle.tpmsim_script.specs.declared.fault.ScriptFault.{ScriptFault}
-use Rattle.tpmsim_script.specs.declared.fault.ScriptFault.TheVariants as script
+use Rattle.tpmsim_script.specs.declared.fault.RunFault.{RunFault}
+use Rattle.tpmsim_script.specs.declared.fault.RunFault.TheVariants as script
 
 -- the name of a line's fault, with the column of the faulty token
 abbrev pub fault_name : AsmFault → List ℕ
@@ -51,7 +51,7 @@ script_faults text = faults_of 0 1 (take 1048576 (lines_of text))
 
 -- how a script ends, given the number of its first bad line, if any, and whether it has more lines
 -- than the limit
-abbrev pub end_of : (first : Option ℕ) → (more : Bool) → Result (Unit {0}) ScriptFault
+abbrev pub end_of : (first : Option ℕ) → (more : Bool) → Result (Unit {0}) RunFault
 end_of (Some number) more = Err (script.Line number)
 end_of None true = Err script.TooManyLines
 end_of None false = Ok tt
@@ -60,6 +60,6 @@ end_of None false = Ok tt
 abbrev pub report_text : List ℕ → List ℕ
 report_text text = flat_map report_line (script_faults text)
 
-abbrev pub report_end : List ℕ → Result (Unit {0}) ScriptFault
+abbrev pub report_end : List ℕ → Result (Unit {0}) RunFault
 report_end text =
     end_of (first_number (script_faults text)) (nat_lt 1048576 (length (lines_of text)))

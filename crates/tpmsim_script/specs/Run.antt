@@ -5,44 +5,44 @@ use Rattle.tpm_bytes.specs.Tap.{Marks}
 use Rattle.tpmsim_script.specs.Line.{lines_of}
 use Rattle.tpmsim_script.specs.Lines.{BeginsTooLong, IsUnbroken, LosesFirstLine}
 use Rattle.tpmsim_script.specs.Script.{IsOutput, Playing, play}
-use Rattle.tpmsim_script.specs.declared.fault.ScriptFault.{ScriptFault}
-use Rattle.tpmsim_script.specs.declared.fault.ScriptFault.TheVariants as fault
+use Rattle.tpmsim_script.specs.declared.fault.RunFault.{RunFault}
+use Rattle.tpmsim_script.specs.declared.fault.RunFault.TheVariants as fault
 
 -- If a run succeeded, P holds for None. If it stopped at a bad line, P holds for the number of that
 -- line. After any other fault, nothing is claimed.
-abbrev pub Ran : (Option ℕ → Type 0) → Result (Unit {0}) ScriptFault → Type 0
+abbrev pub Ran : (Option ℕ → Type 0) → Result (Unit {0}) RunFault → Type 0
 Ran P (Ok done) = P None
 Ran P (Err (fault.Line number)) = P (Some number)
 Ran P (Err other) = Unit {0}
 
 -- If the reader failed, `fact` holds.
-abbrev pub OnUnread : {X : Type 0} → Result X ScriptFault → Type 0 → Type 0
+abbrev pub OnUnread : {X : Type 0} → Result X RunFault → Type 0 → Type 0
 OnUnread (Err fault.Read) fact = fact
 OnUnread other fact = Unit {0}
 
 -- If the writer failed, `fact` holds.
-abbrev pub OnUnwritten : {X : Type 0} → Result X ScriptFault → Type 0 → Type 0
+abbrev pub OnUnwritten : {X : Type 0} → Result X RunFault → Type 0 → Type 0
 OnUnwritten (Err fault.Write) fact = fact
 OnUnwritten other fact = Unit {0}
 
 -- whether a save failed
-abbrev pub is_unsaved : Result (Unit {0}) ScriptFault → Bool
+abbrev pub is_unsaved : Result (Unit {0}) RunFault → Bool
 is_unsaved (Err fault.Save) = true
 is_unsaved other = false
 
 -- If there were too many lines, `fact` holds.
-abbrev pub OnTooMany : {X : Type 0} → Result X ScriptFault → Type 0 → Type 0
+abbrev pub OnTooMany : {X : Type 0} → Result X RunFault → Type 0 → Type 0
 OnTooMany (Err fault.TooManyLines) fact = fact
 OnTooMany other fact = Unit {0}
 
 -- If there was not enough memory, `fact` holds.
-abbrev pub OnNoMemory : {X : Type 0} → Result X ScriptFault → Type 0 → Type 0
+abbrev pub OnNoMemory : {X : Type 0} → Result X RunFault → Type 0 → Type 0
 OnNoMemory (Err fault.NoMemory) fact = fact
 OnNoMemory other fact = Unit {0}
 
 -- The fault Read means that the reader failed, Write that the writer failed, and Save that the
 -- saver failed.
-abbrev pub AreTheirs : {X : Type 0} → Result X ScriptFault → (reader writer : Marks)
+abbrev pub AreTheirs : {X : Type 0} → Result X RunFault → (reader writer : Marks)
     → (unsaved : Bool) → Type 0
 AreTheirs (Err fault.Read) reader writer unsaved = reader.failed ≡ true
 AreTheirs (Err fault.Write) reader writer unsaved = writer.failed ≡ true
@@ -79,7 +79,7 @@ PlaysAllAllowed text old new p =
 -- empty; or its first line, which has this number, is too long; or the reader or the writer failed.
 -- No other fault occurs.
 abbrev pub NextFound : ℕ → Option (List ℕ)
-    → Result Bool ScriptFault → List ℕ → Option (List ℕ) → Type 0
+    → Result Bool RunFault → List ℕ → Option (List ℕ) → Type 0
 NextFound number old (Ok true) line new = LosesFirstLine old line new
 NextFound number old (Ok false) line new = IfSome old (λ text. text ≡ [])
 NextFound number old (Err (fault.Line bad)) line new = (bad ≡ number) × IfSome old BeginsTooLong
@@ -88,7 +88,7 @@ NextFound number old (Err fault.Write) line new = Unit {0}
 NextFound number old (Err other) line new = ⊥
 
 -- `fact` holds if a run succeeded, stopped at a bad line, or ended because the reader failed.
-abbrev pub UnlessFailed : {X : Type 0} → Result X ScriptFault → Type 0 → Type 0
+abbrev pub UnlessFailed : {X : Type 0} → Result X RunFault → Type 0 → Type 0
 UnlessFailed (Ok x) fact = fact
 UnlessFailed (Err (fault.Line number)) fact = fact
 UnlessFailed (Err fault.Read) fact = fact
@@ -96,7 +96,7 @@ UnlessFailed (Err other) fact = Unit {0}
 
 -- the result of a run after the maximum number of lines: TooManyLines if there is another
 -- line
-abbrev pub end_at_limit : Result Bool ScriptFault → Result (Unit {0}) ScriptFault
+abbrev pub end_at_limit : Result Bool RunFault → Result (Unit {0}) RunFault
 end_at_limit (Ok true) = Err fault.TooManyLines
 end_at_limit (Ok false) = Ok tt
 end_at_limit (Err (fault.Line number)) = Err fault.TooManyLines

@@ -1,4 +1,4 @@
-//! Why a script does not run to its end.
+//! Why a run of a device's script does not reach the script's end.
 
 ghost use Rattle.std.specs.Prelude.{◌≡◌};
 
@@ -8,7 +8,7 @@ use tpm_bytes::NoMemory;
 /// The reasons why a script did not run to its end. The lines before the fault were run, and
 /// their responses written. Only a `Write` or a `Save` fault can truncate the responses.
 #[derive(Clone, Copy, PartialEq, Eq)]
-pub enum ScriptFault {
+pub enum RunFault {
     /// The line with this number, counted from 1, is not allowed in a script.
     Line(u32),
     /// The reader failed. The complete lines that it had returned were run.
@@ -23,22 +23,22 @@ pub enum ScriptFault {
     NoMemory,
 }
 
-impl From<AllocError> for ScriptFault {
-    ghost use Rattle.tpmsim_script.specs.declared.fault.ScriptFault.TheVariants.{NoMemory};
+impl From<AllocError> for RunFault {
+    ghost use Rattle.tpmsim_script.specs.declared.fault.RunFault.TheVariants.{NoMemory};
 
     ghost from_gives = { λ _ fault. fault ≡ NoMemory };
 
-    fn from(_error: AllocError) -> ScriptFault {
-        ScriptFault::NoMemory
+    fn from(_error: AllocError) -> RunFault {
+        RunFault::NoMemory
     }
 }
 
-impl From<NoMemory> for ScriptFault {
-    ghost use Rattle.tpmsim_script.specs.declared.fault.ScriptFault.TheVariants.{NoMemory as Refused};
+impl From<NoMemory> for RunFault {
+    ghost use Rattle.tpmsim_script.specs.declared.fault.RunFault.TheVariants.{NoMemory as Refused};
 
     ghost from_gives = { λ _ fault. fault ≡ Refused };
 
-    fn from(_error: NoMemory) -> ScriptFault {
-        ScriptFault::NoMemory
+    fn from(_error: NoMemory) -> RunFault {
+        RunFault::NoMemory
     }
 }

@@ -33,12 +33,14 @@ pub mod report;
 pub mod room;
 pub mod run;
 pub mod script;
+pub mod script_fault;
 mod told_fault;
 
 pub use bad_line::{BadLine, Wanted};
 pub use checker::Checker;
-pub use fault::ScriptFault;
+pub use fault::RunFault;
 pub use laws::check_laws;
 pub use line::Line;
 pub use report::{Report, report_of};
 pub use run::{SCRIPT_LINES, first_bytes, new_machine, run_device, run_script};
+pub use script_fault::ScriptFault;

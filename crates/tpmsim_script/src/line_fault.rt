@@ -3,7 +3,7 @@
 ghost use Rattle.std.specs.Prelude.{◌≡◌};
 
 use crate::bad_line::BadLine;
-use crate::fault::ScriptFault;
+use crate::fault::RunFault;
 use crate::line::Unfit;
 use tpm_text::AsmFault;
 
@@ -22,13 +22,13 @@ impl LineFault {
     ghost use Rattle.tpmsim_script.specs.LineFault.{fault_at};
 
     /// The fault of a script that stops at the line with this number.
-    pub fn at(self, number: u32) -> ScriptFault
+    pub fn at(self, number: u32) -> RunFault
         ensures { result ≡ fault_at number self }
     {
         match self {
-            LineFault::Bad => ScriptFault::Line(number),
-            LineFault::Write => ScriptFault::Write,
-            LineFault::Save => ScriptFault::Save,
+            LineFault::Bad => RunFault::Line(number),
+            LineFault::Write => RunFault::Write,
+            LineFault::Save => RunFault::Save,
         }
     }
 }

@@ -16,7 +16,7 @@ ghost use Rattle.tpmsim_script.specs.Script.{at_first, cycle, execute, perform, 
 ghost use Rattle.tpmsim_script.specs.Script.{printed_trace, set_entropy};
 
 use crate::answers::Answers;
-use crate::fault::ScriptFault;
+use crate::fault::RunFault;
 use crate::line::Line;
 use crate::line_fault::LineFault;
 use crate::room::Room;
@@ -24,7 +24,8 @@ use crate::script::Script;
 use std::alloc::{AllocError, Global};
 use std::io::Write;
 use tpm_bytes::Tap;
-use tpm_machine::{Machine, Saver};
+use tpm_machine::Machine;
+use tpm_machine_saver::Saver;
 use tpm_record::Keep;
 use tpm_step::{Event, Outcome};
 use tpm_text::{trace_text, traceable_laws};
@@ -93,8 +94,8 @@ impl<K: Keep> Player<K> {
     }
 
     /// Writes all buffered lines.
-    pub fn flush<W: Write>(&mut self, writer: &mut Tap<W>) -> Result<(), ScriptFault>
-        ensures fault { OnErr result (result ≡ Err ScriptFault.Write) }
+    pub fn flush<W: Write>(&mut self, writer: &mut Tap<W>) -> Result<(), RunFault>
+        ensures fault { OnErr result (result ≡ Err RunFault.Write) }
         ensures unmarked { OnOk result (marks_of writer.new ≡ marks_of writer.old) }
         ensures failed { OnErr result ((marks_of writer.new).failed ≡ true) }
         ensures playing { playing_of K.record_of self.new ≡ playing_of K.record_of self.old }
@@ -106,7 +107,7 @@ impl<K: Keep> Player<K> {
             (printout (W.contents (device_of writer.old)) self.old.answers)
             (printout (W.contents (device_of writer.new)) self.new.answers)) }
     {
-        self.answers.flush(writer).map_err(|_| ScriptFault::Write)
+        self.answers.flush(writer).map_err(|_| RunFault::Write)
     }
 
     /// Performs a parsed line.

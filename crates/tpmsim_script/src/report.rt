@@ -4,7 +4,7 @@ ghost use Rattle.std.specs.Prelude.{◌≡◌, IfOk};
 ghost use Rattle.tpmsim_script.specs.Report.{end_of, report_end, report_text};
 
 use crate::checker::Checker;
-use crate::fault::ScriptFault;
+use crate::fault::RunFault;
 use crate::findings::Findings;
 use std::alloc::{AllocError, Global};
 
@@ -15,7 +15,7 @@ pub struct Report {
     pub text: String,
     /// How a run of the script would end: with success, at its first bad line, or because the
     /// script contains more lines than the limit.
-    pub end: Result<(), ScriptFault>,
+    pub end: Result<(), RunFault>,
 }
 
 /// The report of this script.
@@ -35,12 +35,12 @@ pub fn report_of(alloc: Global, text: &[u8]) -> Result<Report, AllocError>
 
 /// How a run of the script ends, given the number of its first bad line, if any. `more` says
 /// whether the script contains more lines than the limit.
-fn end_of(first: Option<u32>, more: bool) -> Result<(), ScriptFault>
+fn end_of(first: Option<u32>, more: bool) -> Result<(), RunFault>
     ensures { result ≡ end_of first more }
 {
     match first {
-        Some(number) => Err(ScriptFault::Line(number)),
-        None if more => Err(ScriptFault::TooManyLines),
+        Some(number) => Err(RunFault::Line(number)),
+        None if more => Err(RunFault::TooManyLines),
         None => Ok(()),
     }
 }

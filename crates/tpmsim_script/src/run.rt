@@ -12,47 +12,65 @@ ghost use Rattle.tpmsim_script.specs.Player.{playing_of};
 ghost use Rattle.tpmsim_script.specs.Run.{AreTheirs, NextFound, OnNoMemory, OnTooMany, OnUnread};
 ghost use Rattle.tpmsim_script.specs.Run.{OnUnwritten, PlaysAllAllowed, PlaysToFailure, Ran};
 ghost use Rattle.tpmsim_script.specs.Run.{UnlessFailed, end_at_limit, is_unsaved};
+ghost use Rattle.tpmsim_script.specs.ScriptFault.{AreScriptFaults, OnScriptNoMemory, RanScript, script_result};
 ghost use Rattle.tpmsim_script.specs.Script.{Plays, at_first, new_device, script_bytes};
 
-use crate::fault::ScriptFault;
+use crate::fault::RunFault;
 use crate::lines::{Lines, Next};
 use crate::player::Player;
 use crate::room::Room;
+use crate::script_fault::ScriptFault;
 use std::alloc::{AllocError, Global};
 use std::array;
 use std::io::{Read, Write};
 use tpm_bytes::{NoMemory, Tap};
-use tpm_machine::{Machine, Saver, SavesNothing};
+use tpm_machine::Machine;
+use tpm_machine_saver::{Saver, SavesNothing};
 use tpm_record::Keep;
 
 /// The maximum number of lines that a script may have.
 pub const SCRIPT_LINES: u32 = 1_048_576;
 
 /// Like [`run_device`], but runs the script from `reader` on a new device, which is manufactured
-/// with the bytes 00 to ff and is not saved.
+/// with the bytes 00 to ff and is not saved. A script with too many lines ends like one whose
+/// reader failed.
 pub fn run_script<K: Keep, R: Read, W: Write>(
     alloc: Global,
     reader: &mut Tap<R>,
     writer: &mut Tap<W>,
     trace: bool,
 ) -> Result<(), ScriptFault>
-    ensures played { K.can_refuse ≡ false → Ran (Plays (R.remaining (device_of reader.old))
+    ensures played { K.can_refuse ≡ false → RanScript (Plays (R.remaining (device_of reader.old))
         (W.contents (device_of writer.old)) (W.contents (device_of writer.new))
         (at_first trace new_device) 1) result }
-    ensures read { K.can_refuse ≡ false → OnUnread result (PlaysToFailure
+    // If allocations never fail, the lines that the reader returned before it failed were played,
+    // or as many lines as a script may have.
+    ensures failed { AreScriptFaults result (marks_of reader.new) (marks_of writer.new)
+        (K.can_refuse ≡ false → PlaysToFailure
         (R.remaining (device_of reader.old)) (R.remaining (device_of reader.new))
         (W.contents (device_of writer.old)) (W.contents (device_of writer.new))
-        (at_first trace new_device)) }
-    ensures too_many { K.can_refuse ≡ false → OnTooMany result (PlaysAllAllowed
-        (R.remaining (device_of reader.old))
+        (at_first trace new_device))
+        (K.can_refuse ≡ false → PlaysAllAllowed (R.remaining (device_of reader.old))
         (W.contents (device_of writer.old)) (W.contents (device_of writer.new))
         (at_first trace new_device)) }
-    ensures failed { AreTheirs result (marks_of reader.new) (marks_of writer.new) false }
-    ensures no_memory { OnNoMemory result
+    ensures no_memory { OnScriptNoMemory result
         ((reader.new ≡ reader.old) × (writer.new ≡ writer.old)) }
 {
     let machine: Machine<K> = new_machine(alloc)?;
-    run_device(alloc, machine, &mut SavesNothing, reader, writer, trace)
+    script_result(run_device(alloc, machine, &mut SavesNothing, reader, writer, trace))
+}
+
+/// The result of a run on a new device, which is not saved.
+fn script_result(ended: Result<(), RunFault>) -> Result<(), ScriptFault>
+    ensures { result ≡ script_result ended }
+{
+    match ended {
+        Ok(()) => Ok(()),
+        Err(RunFault::Line(number)) => Err(ScriptFault::Line(number)),
+        Err(RunFault::Read | RunFault::TooManyLines) => Err(ScriptFault::Read),
+        Err(RunFault::Write | RunFault::Save) => Err(ScriptFault::Write),
+        Err(RunFault::NoMemory) => Err(ScriptFault::NoMemory),
+    }
 }
 
 /// A new device for scripts, manufactured with the bytes 00 to ff.
@@ -85,7 +103,7 @@ pub fn run_device<K: Keep, S: Saver, R: Read, W: Write>(
     reader: &mut Tap<R>,
     writer: &mut Tap<W>,
     trace: bool,
-) -> Result<(), ScriptFault>
+) -> Result<(), RunFault>
     // If allocations never fail, the output is as defined for the script, to its end or to its
     // first bad line.
     ensures played { K.can_refuse ≡ false → Ran (Plays (R.remaining (device_of reader.old))
@@ -130,20 +148,20 @@ pub fn run_device<K: Keep, S: Saver, R: Read, W: Write>(
     let outcome = run.lines(reader, writer, saver, &mut room);
     let flushed = run.player.flush(writer);
     let Ok(()) = saver.save(run.player.machine()) else {
-        return Err(ScriptFault::Save);
+        return Err(RunFault::Save);
     };
     if is_unsaved(outcome) {
-        return Err(ScriptFault::Save);
+        return Err(RunFault::Save);
     }
     flushed?;
     outcome
 }
 
 /// Whether a run ended because a save failed.
-fn is_unsaved(outcome: Result<(), ScriptFault>) -> bool
+fn is_unsaved(outcome: Result<(), RunFault>) -> bool
     ensures { result ≡ is_unsaved outcome }
 {
-    matches!(outcome, Err(ScriptFault::Save))
+    matches!(outcome, Err(RunFault::Save))
 }
 
 /// A script and its player.
@@ -175,7 +193,7 @@ impl<K: Keep> Run<K> {
         writer: &mut Tap<W>,
         saver: &mut S,
         room: &mut Room,
-    ) -> Result<(), ScriptFault>
+    ) -> Result<(), RunFault>
         requires { Agrees (R.remaining (device_of reader.old)) self.old.lines }
         ensures played { K.can_refuse ≡ false → Ran (Plays
             (text_left (R.remaining (device_of reader.old)) self.old.lines)
@@ -226,7 +244,7 @@ impl<K: Keep> Run<K> {
         reader: &mut Tap<R>,
         writer: &mut Tap<W>,
         number: u32,
-    ) -> Result<bool, ScriptFault>
+    ) -> Result<bool, RunFault>
         requires { Agrees (R.remaining (device_of reader.old)) self.old.lines }
         ensures failed { AreTheirs result (marks_of reader.new) (marks_of writer.new) false }
         ensures played { playing_of K.record_of self.new.player
@@ -251,11 +269,11 @@ impl<K: Keep> Run<K> {
             match self.lines.find() {
                 Next::Line => return Ok(true),
                 Next::End => return Ok(false),
-                Next::TooLong => return Err(ScriptFault::Line(number)),
+                Next::TooLong => return Err(RunFault::Line(number)),
                 Next::Incomplete => {
                     self.player.flush(writer)?;
                     if let Err(_error) = self.lines.fill(reader, &self.player.answers) {
-                        return Err(ScriptFault::Read);
+                        return Err(RunFault::Read);
                     }
                 }
             }
@@ -265,12 +283,12 @@ impl<K: Keep> Run<K> {
 
 /// Returns the result of a run after the maximum number of lines: TooManyLines if there is
 /// another line.
-fn end_at_limit(next: Result<bool, ScriptFault>) -> Result<(), ScriptFault>
+fn end_at_limit(next: Result<bool, RunFault>) -> Result<(), RunFault>
     ensures { result ≡ end_at_limit next }
 {
     match next {
         Ok(false) => Ok(()),
-        Ok(true) | Err(ScriptFault::Line(_)) => Err(ScriptFault::TooManyLines),
+        Ok(true) | Err(RunFault::Line(_)) => Err(RunFault::TooManyLines),
         Err(fault) => Err(fault),
     }
 }

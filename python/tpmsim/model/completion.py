@@ -6,10 +6,11 @@ the sequence objects.
 
 from __future__ import annotations
 
+import dataclasses
 from dataclasses import dataclass
 from typing import Callable, Self
 
-from tpmsim.model import capability, completion_rows, contexts, sequence_commands
+from tpmsim.model import capability, completion_rows, contexts, hidden_sessions, sequence_commands
 from tpmsim.model.completion_properties import Counts, properties
 from tpmsim.model.general import Refusal
 from tpmsim.model.machine import Model, Outcome, PLACE_BITS, SESSIONS
@@ -168,16 +169,22 @@ class Completion:
         milliseconds. `execute` executes it on the device, and `place` places the object of a
         context there.
         """
-        own = execute(*event)
+        given, locality, random, elapsed = event
+        saved = hidden_sessions.first(given, self.is_saved)
+        buffer = hidden_sessions.hidden(given, saved)
+        own = execute(buffer, locality, random, elapsed)
         self.forget(device)
-        buffer, locality, random, _ = event
 
         def send(command: bytes) -> Outcome:
             sent = execute(command, locality, random, 0)
             self.forget(device)
             return sent
 
-        return self.on_sequence(device, buffer, own, send) or self.reply(device, buffer, own, place)
+        done = self.on_sequence(device, buffer, own, send)
+        done = done or self.reply(device, buffer, own, place)
+        if saved is None or done.did:
+            return done
+        return dataclasses.replace(done, did=saved.words)
 
     def forget(self, device: Model) -> None:
         """Forgets the contexts of sessions that have ended. Forgets the sequence objects if the
@@ -191,6 +198,10 @@ class Completion:
     def saved(self, handle: int) -> int:
         place = handle & PLACE_BITS
         return self.sessions[place] if place < SESSIONS else 0
+
+    def is_saved(self, handle: int) -> bool:
+        """Returns whether a handle is that of a saved session, whose context is not loaded."""
+        return is_session(handle) and self.saved(handle) != 0
 
     # Responses of the layer.
 

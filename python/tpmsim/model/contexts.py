@@ -3,7 +3,9 @@ and Part 2, section 14). TPM2_ContextSave returns it, and TPM2_ContextLoad loads
 
 A context contains the whole object, encrypted. Its integrity value binds it to the proof of a
 hierarchy, to the start of the completing layer, and to the device's count of TPM Resets. For a
-transient object the hierarchy is the object's; for a sequence object it is the null hierarchy.
+transient object the hierarchy is the object's; for a sequence object it is the null hierarchy. In the
+platform hierarchy, contexts are also bound to the proof of the owner hierarchy, which TPM2_Clear
+changes.
 """
 
 from __future__ import annotations
@@ -18,8 +20,8 @@ from tpmsim.model.machine import Model
 from tpmsim.model.object_rules import Object
 from tpmsim.model.parameters import Parameters
 from tpmsim.model.sequences import SequenceObject
-from tpmsim.standard import aes, digest_bytes, Fields, kdfa, mac, number, RH_NULL, SHA256, Short
-from tpmsim.standard import sized
+from tpmsim.standard import aes, digest_bytes, Fields, kdfa, mac, number, RH_NULL, RH_OWNER
+from tpmsim.standard import RH_PLATFORM, SHA256, Short, sized
 from tpmsim.standard.objects import Attribute
 
 # What a context contains.
@@ -93,6 +95,12 @@ class Head:
 # How a context is protected (Part 1, section 30.3).
 
 
+def proof_of(device: Model, hierarchy: int) -> bytes:
+    """Returns the secret with which the contexts of a hierarchy are protected."""
+    proof = device.proofs[hierarchy]
+    return proof + device.proofs[RH_OWNER] if hierarchy == RH_PLATFORM else proof
+
+
 def key_and_iv(proof: bytes, start: int, head: Head) -> tuple[bytes, bytes]:
     """Returns the key and the IV with which the object is encrypted. They also depend on `start`,
     so the contexts of each start of the completing layer have different keys. Part 1 does not
@@ -123,7 +131,7 @@ def content_text(content: Content) -> bytes:
 def sealed(device: Model, start: int, sequence: int, content: Content) -> bytes:
     """Returns the context of an object of this device, or of a sequence object of its layer."""
     head = Head.of(sequence, content)
-    proof = device.proofs[head.hierarchy]
+    proof = proof_of(device, head.hierarchy)
     keys = key_and_iv(proof, start, head)
     cipher = aes.cfb_encrypt(*keys, content_text(content), device.block_cipher)
     right = integrity(proof, Binding.of(device, start), head, cipher)
@@ -138,7 +146,7 @@ def opened(device: Model, start: int, context: bytes) -> Content:
     fields = Fields(context)
     head = read_head(fields)
     given, cipher = parts_of(read_blob(fields))
-    proof = device.proofs[head.hierarchy]
+    proof = proof_of(device, head.hierarchy)
     if given != integrity(proof, Binding.of(device, start), head, cipher):
         raise Fault(*INTEGRITY)
     keys = key_and_iv(proof, start, head)

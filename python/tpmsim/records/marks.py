@@ -12,9 +12,13 @@ from tpmsim.standard import Fields
 
 OFFSET_BASIS, PRIME, SUM_BITS = 0xCBF29CE484222325, 0x100000001B3, 0xFFFF_FFFF_FFFF_FFFF
 
-HEAD = re.compile(rb"# tpmsim journal ([12]) ([0-9a-f]{40}) ([0-9a-f]{16})")
+HEAD = re.compile(rb"# tpmsim (journal [12]|v[0-9a-f]{8}) ([0-9a-f]{40}) ([0-9a-f]{16})")
 MARK = re.compile(rb"# ([0-9a-f]{52}) ([0-9a-f]{16})")
-STATE = b"2"
+
+# The first words of a head with an image, and of a head with a state text whose writer did not write
+# its version. Any other word contains the version, as a multiple of VERSION_FACTOR.
+IMAGE, UNVERSIONED, VERSION_FACTOR = b"journal 1", b"journal 2", 251
+
 MARK_LINE_BYTES = 72
 
 # The size of the lines of a journal's entry, without the entry's mark, and without the digits of
@@ -41,7 +45,8 @@ def sum_of(data: bytes) -> int:
 @dataclass(frozen=True)
 class HeadMark:
     """A head's mark: the host's clock, and the size and the checksum of the image or the state
-    text; `said` is the mark's own checksum.
+    text; `said` is the mark's own checksum, and `is_known` says whether the first word can be that of
+    a head.
     """
 
     is_state: bool
@@ -50,6 +55,7 @@ class HeadMark:
     content: int
     text: bytes
     said: int
+    is_known: bool
 
     @classmethod
     def read(cls, line: bytes) -> HeadMark | None:
@@ -61,11 +67,12 @@ class HeadMark:
         text, said = (bytes.fromhex(it.decode("ascii")) for it in marked)
         fields = Fields(text)
         numbers = fields.number(8), fields.number(4), fields.number(8)
-        return cls(kind == STATE, *numbers, text, int.from_bytes(said, "big"))
+        is_known = kind in (IMAGE, UNVERSIONED) or int(kind[1:], 16) % VERSION_FACTOR == 0
+        return cls(kind != IMAGE, *numbers, text, int.from_bytes(said, "big"), is_known)
 
     def is_of(self, content: bytes) -> bool:
         """Returns whether the mark is undamaged and belongs to this content."""
-        own = sum_of(self.text) == self.said
+        own = self.is_known and sum_of(self.text) == self.said
         return own and len(content) == self.size and sum_of(content) == self.content
 
 

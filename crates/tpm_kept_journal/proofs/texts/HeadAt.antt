@@ -1,53 +1,86 @@
 -- `head_at` returns a head exactly when its argument begins with the encoding of this head.
-use Rattle.std.proofs.Common.{◌≡◌, ℕ, ◌*◌, ◌^◌, Bool, true, false, List, ◌++◌, length, take, drop, Some, None, refl, ap, sym, subst, ◌∙◌}
-use Rattle.std.specs.Prelude.{Decides, cond}
+use Rattle.std.proofs.Common.{◌≡◌, ℕ, ◌*◌, ◌/◌, ◌<◌, ◌^◌, Bool, true, false, List, ◌++◌, length, take, drop, Some, None, refl, ap, sym, subst, ◌∙◌}
+use Rattle.std.specs.Prelude.{Decides, codes, cond}
 use Rattle.std.specs.Int.{w32, from_be_bytes}
 use Rattle.std.proofs.lemmas.Bool.{cond-false, cond-true}
 use Rattle.std.proofs.lemmas.Bool.Decides.{Decides-and, Decides-like, Decides-ltb}
 use Rattle.std.proofs.lemmas.List.{drop_at, take_at}
-use Rattle.tpm_journal_text.specs.Head.{HasHead, content_limit, head_mark, head_sum, head_text, head_word}
+use Rattle.tpm_journal_text.specs.Head.{HasHead, IsKind, content_limit, head_mark, head_sum, head_text, head_word, version_number}
 use Rattle.tpm_journal_text.specs.Places.{HeadStands}
 use Rattle.tpm_journal_text.specs.declared.head.HeadKind.{HeadKind}
-use Rattle.tpm_journal_text.specs.declared.head.HeadKind.TheVariants.{Image, State}
-use Rattle.tpm_journal_text.proofs.HeadStanding.{head_line_stands, head_mark_bytes, head_mark_many, head_stands, is_image, is_state, word_many}
+use Rattle.tpm_journal_text.specs.declared.head.HeadKind.TheVariants.{Image, State, Versioned}
+use Rattle.tpm_journal_text.proofs.HeadStanding.{head_line_stands, head_mark_bytes, head_mark_many, head_stands, is_image, is_state, is_versioned, version_bytes, version_digits, version_read, version_text, word_many}
 use Rattle.tpm_journal_text.proofs.Pieces.{line_digits}
-use Rattle.tpm_kept_journal.specs.texts.HeadAt.{PlainHead, begins_with_head, head_at, head_by, head_mark_in, is_head, kind_in, text_of_head}
+use Rattle.tpm_kept_journal.specs.texts.HeadAt.{PlainHead, begins_with_head, head_at, head_by, head_mark_in, is_head, is_kind, kind_in, text_of_head, version_in}
 use Rattle.tpm_kept_journal.specs.texts.Parts.{begins_with, hex_at, where_so}
 use Rattle.tpm_image_text.proofs.Bytes.{are_bytes-Decides}
 use Rattle.tpm_kept_journal.proofs.texts.Parts.{Decides-leb, begins, begins_with-Decides, hex_is_at, not_told, so_found, so_told}
 
 -- ---- the test of a head's fields
 
+is_kind-Decides : (kind : HeadKind) → Decides (is_kind kind) (IsKind kind)
+is_kind-Decides Image = (λ so. tt, λ is. refl)
+is_kind-Decides State = (λ so. tt, λ is. refl)
+is_kind-Decides (Versioned version) = Decides-ltb (version_number version) (2 ^ 32)
+
 pub is_head-Decides : (h : PlainHead) → Decides (is_head h) (HasHead h.kind h.clock h.content)
 unfolding is_head
 is_head-Decides h =
     Decides-like (is_head h)
-    (λ p. record { in_time = p.0; small = p.1.0; are_bytes = p.1.1 })
-    (λ has. (has.in_time, (has.small, has.are_bytes)))
+    (λ p. record { named = p.0; in_time = p.1.0; small = p.1.1.0; are_bytes = p.1.1.1 })
+    (λ has. (has.named, (has.in_time, (has.small, has.are_bytes))))
+    (Decides-and _ _ (is_kind-Decides h.kind)
     (Decides-and _ _ (Decides-ltb h.clock (2 ^ 64))
     (Decides-and _ _ (Decides-leb (length h.content) (content_limit h.kind))
-    (are_bytes-Decides h.content)))
+    (are_bytes-Decides h.content))))
 
 -- ---- the parts of a head
 
-kind_is : (kind : HeadKind) (clock : ℕ) (content rest text : List ℕ)
+version_is : (version : ℕ) (text more : List ℕ) → version_number version < 2 ^ 32
+    → text ≡ head_word (Versioned version) ++ more → version_in text ≡ version
+version_is version text more small t =
+    ap (λ (l : List ℕ). from_be_bytes w32 l / 251)
+    (hex_is_at 10 4 text (version_text version) (version_bytes version) refl
+    (version_digits version text more t))
+    ∙ version_read version small
+
+kind_is : (kind : HeadKind) (clock : ℕ) (content rest text : List ℕ) → IsKind kind
     → text ≡ head_text kind clock content ++ rest → kind_in text ≡ kind
 unfolding kind_in
-kind_is kind clock content rest text t = by (begins_with text (head_word State)) refl
+kind_is kind clock content rest text is t = first (begins_with text (codes "# tpmsim v")) refl
   where
     by : (b : Bool) → begins_with text (head_word State) ≡ b
+        → begins_with text (codes "# tpmsim v") ≡ false
         → cond (begins_with text (head_word State)) State Image ≡ kind
-    by true so =
+    by true so none =
         let front = (begins_with-Decides text (head_word State)).0 so in
         cond-true (begins_with text (head_word State)) State Image so
-        ∙ is_state (head_word State) text rest kind clock content refl
+        ∙ is_state (head_word State) text rest kind clock content is refl
         (ap (take (length (head_word State))) front
         ∙ take_at (head_word State) (drop (length (head_word State)) text)
         (length (head_word State)) refl) t
-    by false not =
+    by false not none =
         cond-false (begins_with text (head_word State)) State Image not
-        ∙ is_image (head_word State) text rest (begins_with text (head_word State)) kind clock
-        content refl (λ more m. begins text (head_word State) more m) not t
+        ∙ is_image (head_word State) text rest (begins_with text (head_word State))
+        (begins_with text (codes "# tpmsim v")) kind clock content refl
+        (λ more m. begins text (head_word State) more m) not
+        (λ more m. begins text (codes "# tpmsim v") more m) none t
+
+    first : (b : Bool) → begins_with text (codes "# tpmsim v") ≡ b
+        → cond (begins_with text (codes "# tpmsim v")) (Versioned (version_in text))
+        (cond (begins_with text (head_word State)) State Image) ≡ kind
+    first true so =
+        let front = (begins_with-Decides text (codes "# tpmsim v")).0 so in
+        cond-true (begins_with text (codes "# tpmsim v")) (Versioned (version_in text))
+        (cond (begins_with text (head_word State)) State Image) so
+        ∙ is_versioned text rest (version_in text) kind clock content is
+        (λ version more small m. version_is version text more small m)
+        (ap (take 10) front
+        ∙ take_at (codes "# tpmsim v") (drop (length (codes "# tpmsim v")) text) 10 refl) t
+    first false not =
+        cond-false (begins_with text (codes "# tpmsim v")) (Versioned (version_in text))
+        (cond (begins_with text (head_word State)) State Image) not
+        ∙ by (begins_with text (head_word State)) refl not
 
 mark_is : (kind : HeadKind) (clock : ℕ) (content rest text : List ℕ)
     → text ≡ head_text kind clock content ++ rest
@@ -83,7 +116,7 @@ head_is : (h : PlainHead) (rest text : List ℕ) → HasHead h.kind h.clock h.co
     → text ≡ text_of_head h ++ rest
     → head_by (kind_in text) (head_mark_in text) text ≡ h
 head_is h rest text has t =
-    let kind = kind_is h.kind h.clock h.content rest text t in
+    let kind = kind_is h.kind h.clock h.content rest text has.named t in
     let mark = mark_is h.kind h.clock h.content rest text t in
     ap (λ (k : HeadKind). head_by k (head_mark_in text) text) kind
     ∙ ap (λ (m : List ℕ). head_by h.kind m text) mark

@@ -1,9 +1,9 @@
 -- The head at the start of a list of bytes.
-use Rattle.std.specs.Prelude.{ℕ, ◌^◌, ◌&&◌, nat_le, nat_lt, Bool, cond, List, drop, length, take, Option}
+use Rattle.std.specs.Prelude.{ℕ, ◌/◌, ◌^◌, ◌&&◌, nat_le, nat_lt, Bool, true, cond, codes, List, drop, length, take, Option}
 use Rattle.std.specs.Int.{w32, w64, from_be_bytes}
-use Rattle.tpm_journal_text.specs.Head.{content_limit, head_text, head_word}
+use Rattle.tpm_journal_text.specs.Head.{content_limit, head_text, head_word, version_number}
 use Rattle.tpm_journal_text.specs.declared.head.HeadKind.{HeadKind}
-use Rattle.tpm_journal_text.specs.declared.head.HeadKind.TheVariants.{Image, State}
+use Rattle.tpm_journal_text.specs.declared.head.HeadKind.TheVariants.{Image, State, Versioned}
 use Rattle.tpm_image_text.specs.Fields.{are_bytes}
 use Rattle.tpm_kept_journal.specs.texts.Parts.{begins_with, hex_at, where_so}
 
@@ -17,16 +17,29 @@ pub record PlainHead : Type 0 where
 abbrev pub text_of_head : PlainHead → List ℕ
 text_of_head h = head_text h.kind h.clock h.content
 
+-- whether a head can be of this kind: the number of the version fits in four bytes
+abbrev pub is_kind : HeadKind → Bool
+is_kind Image = true
+is_kind State = true
+is_kind (Versioned version) = nat_lt (version_number version) (2 ^ 32)
+
 -- whether the fields of a head have allowed values
 unfoldable pub is_head : PlainHead → Bool
 is_head h =
-    nat_lt h.clock (2 ^ 64)
-    && (nat_le (length h.content) (content_limit h.kind) && are_bytes h.content)
+    is_kind h.kind
+    && (nat_lt h.clock (2 ^ 64)
+    && (nat_le (length h.content) (content_limit h.kind) && are_bytes h.content))
 
--- the kind of the head at the start of the bytes: `State` if the bytes begin with the word of this
--- kind, and `Image` otherwise
+-- the version in the first word of the bytes
+abbrev pub version_in : List ℕ → ℕ
+version_in text = from_be_bytes w32 (hex_at 10 4 text) / 251
+
+-- the kind of the head at the start of the bytes: `Versioned` or `State` if the bytes begin with the
+-- word of this kind, and `Image` otherwise
 unfoldable pub kind_in : List ℕ → HeadKind
-kind_in text = cond (begins_with text (head_word State)) State Image
+kind_in text =
+    cond (begins_with text (codes "# tpmsim v")) (Versioned (version_in text))
+    (cond (begins_with text (head_word State)) State Image)
 
 -- the mark on the first line, after the line's first word, if the bytes begin with a head
 unfoldable pub head_mark_in : List ℕ → List ℕ

@@ -4,6 +4,7 @@
 ghost use Rattle.std.specs.Prelude.{◌≡◌};
 ghost use Rattle.tpm_machine.specs.Placing.{IfMemory, Places, placing_seen};
 ghost use Rattle.tpm_machine.specs.State.{state_of};
+ghost use Rattle.tpm_record.specs.AnyObject.{AddsObject};
 ghost use Rattle.tpm_step.specs.step.Events.{Placed};
 ghost use Rattle.tpm_step.specs.step.Execution.{Executes};
 ghost use Rattle.tpm_step.specs.history.Follows.{FollowsOn};
@@ -11,8 +12,15 @@ ghost use Rattle.tpm_step.specs.history.Follows.{FollowsOn};
 use crate::machine::Machine;
 use tpm_containers::{Sizes, SlotFault};
 use tpm_object::Object;
-use tpm_record::{Keep, add_object, read_widths};
+use tpm_record::{Keep, read_widths};
 use tpm_types_common::Handle;
+
+/// Adds an object with the lowest free handle, and returns the handle.
+fn add_object<K: Keep>(keep: &mut K, object: Object) -> Result<Handle, SlotFault>
+    ensures { AddsObject K.can_refuse (K.record_of keep.old) object result (K.record_of keep.new) }
+{
+    keep.objects_mut().add(object)
+}
 
 impl<K: Keep> Machine<K> {
     ghost use Rattle.tpm_machine.specs.State.{latest_drawn};

@@ -45,6 +45,6 @@ IsAnswer parts a =
     (a.handle ≡ parts.handle) × (a.parameters ≡ answer_body_text parts.body)
     × (a.drawn ≡ parts.drawn)
 
--- The code's answer is still empty.
+-- The code's answer is empty.
 abbrev pub IsEmpty : Answer → Type 0
 IsEmpty a = IsAnswer nothing a

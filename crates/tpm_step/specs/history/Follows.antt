@@ -76,9 +76,10 @@ After Holds old event x =
 
 -- If the device followed a history before this event, it now follows that history, extended by the
 -- event if it was accepted. The history determines the device's counters, PCRs, authorization
--- values and sessions. In the history, every replay repeats a nonce or an HMAC. Every use of a
--- handle that needs authorization was authorized by a password, an HMAC session or a policy
--- session. If a policy session authorized the use, then, unless the hash is broken, the use
+-- values and sessions. If a buffer with an HMAC of one HMAC session is accepted twice while the
+-- session lives, the session had one nonceTPM twice, or two different texts have the same HMAC.
+-- Every use of a handle that needs authorization was authorized by a password, an HMAC session or a
+-- policy session. If a policy session authorized the use, then, unless the hash is broken, the use
 -- satisfies each policy whose digest is the entity's authPolicy.
 pub record FollowsOn (old : Record) (event : PlainEvent) (x : Stepped) : Type 0 where
   pub history : After Follows old event x
@@ -97,7 +98,7 @@ pub record FollowsOn (old : Record) (event : PlainEvent) (x : Stepped) : Type 0 
 -- If a counter had no value before the executions, its value after them exceeds all values that any
 -- counter had before them. If a counter was defined during the executions, its value exceeds all
 -- values that any counter had before this definition. The number of failed tries is within its
--- bounds. Every replay repeats a nonce or an HMAC.
+-- bounds. Each replay (`IsReplay`) repeats a nonceTPM or an HMAC of two different texts.
 pub record StretchFollows (can : Bool) (old : Record) (executions : List Execution) (new : Record)
     (history : History) : Type 0
   where

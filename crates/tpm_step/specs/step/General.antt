@@ -16,7 +16,7 @@ use Rattle.tpm_types_common.specs.declared.rc.ResponseCode.TheVariants as code
 use Rattle.tpm_commands.specs.declared.shape.HandleRule.{HandleRule}
 use Rattle.tpm_types_command.specs.declared.tag.Tag.{Tag}
 use Rattle.tpm_types_command.specs.declared.tag.Tag.TheVariants.{NoSessions, Sessions}
-use Rattle.tpm_types_command.specs.declared.command.Command.{Command}
+use Rattle.tpm_types_command.specs.declared.command_ref.CommandRef.{CommandRef}
 use Rattle.tpm_types_command.specs.Command.{Whole, sessions_at, whole_of}
 use Rattle.tpm_commands.specs.CommandCode.{code_number}
 use Rattle.tpm_commands.specs.HandleArea.{allowed_handle_at}

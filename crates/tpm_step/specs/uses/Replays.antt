@@ -100,7 +100,7 @@ pub record Repeats (replay : Replay) : Type 0 where
   pub hash : now.hash ≡ replay.session.hash
   pub repeats : HasNonceAgain replay.session now ⊎ HaveOneHmac replay now
 
--- Every replay in a history repeats a nonceTPM or an HMAC.
+-- Every replay in a history repeats a nonceTPM, or an HMAC of two different texts.
 abbrev pub ReplaysRepeat : History → Type 0
 ReplaysRepeat history =
     (replay : Replay) (after : History)

@@ -81,7 +81,7 @@ pub record RunRepeats (history : History) (replay : RunReplay) : Type 0 where
   pub at_second : (before : History) → with_execution replay.two before ≡ Done second ∷ before
   pub repeats : Repeats (replay_between history replay first second)
 
--- Every replay among these events repeats a nonce or an HMAC.
+-- Every replay among these events repeats a nonceTPM, or an HMAC of two different texts.
 abbrev pub RunReplaysRepeat : History → List Execution → Type 0
 RunReplaysRepeat history executions =
     (replay : RunReplay) (later : List Execution)

@@ -4,7 +4,7 @@ ghost use Rattle.std.specs.Prelude.{◌≡◌, ◌≤◌, [], length, map, Ok, I
 ghost use Rattle.tpm_bytes.specs.Reading.{AreBytes, Reads};
 ghost use Rattle.tpm_types_command.specs.AuthEntry.{entry_of};
 ghost use Rattle.tpm_types_command.specs.Command.{IsCommand, Whole, command_at, command_text};
-ghost use Rattle.tpm_types_command.specs.Command.{handles_at, sessions_at, whole_of};
+ghost use Rattle.tpm_types_command.specs.Command.{handles_at, sessions_at, whole_command};
 
 use crate::auth_area::read_area;
 use crate::auth_entry::AuthEntry;
@@ -15,35 +15,26 @@ use arrayvec::ArrayVec;
 use tpm_bytes::Cursor;
 use tpm_types_common::{Handle, Rc, ResponseCode};
 
-impl<'a, 'b> Command<'a, 'b> {
-    /// Reads a command, which must fill the rest of the input and fit in a command buffer. The
-    /// command borrows its entries from the array `entries`, which must be empty. Fails with the
-    /// first fault of the header, with INSUFFICIENT for the first truncated handle, or with
-    /// AUTHSIZE for any fault in the authorization area.
-    pub fn read(
-        text: &mut Cursor<'b>,
-        entries: &'a mut ArrayVec<AuthEntry<'b>, 3>,
-    ) -> Result<Command<'a, 'b>, Rc>
-        requires { entries.old.items ≡ [] }
+impl<'a> Command<'a> {
+    /// Reads a command, which must fill the rest of the input and fit in a command buffer. Fails
+    /// with the first fault of the header, with INSUFFICIENT for the first truncated handle, or
+    /// with AUTHSIZE for any fault in the authorization area.
+    pub fn read(text: &mut Cursor<'a>) -> Result<Command<'a>, Rc>
         // The result is the decoded command, or the first fault.
-        ensures exact { Reads whole_of (command_at text.old) text.old result text.new }
+        ensures exact { Reads whole_command (command_at text.old) text.old result text.new }
         // If decoding succeeds, the input is exactly the encoding of the returned command.
-        ensures found { IfOk result (λ command. IsCommand (whole_of command)
-            × (text.old ≡ command_text (whole_of command)) × (text.new ≡ [])) }
+        ensures found { IfOk result (λ command. IsCommand (whole_command command)
+            × (text.old ≡ command_text (whole_command command)) × (text.new ≡ [])) }
         // The encoding of a command decodes to that command.
         ensures only { (command : Whole) → IsCommand command → text.old ≡ command_text command
-            → Reads whole_of (Ok (command, [])) text.old result text.new }
+            → Reads whole_command (Ok (command, [])) text.old result text.new }
     {
-        Command::read_fields(text, entries)
+        Command::read_fields(text)
     }
 
     #[tactic(auto, unfolding(crate::specs::Command::command_at))]
-    fn read_fields(
-        text: &mut Cursor<'b>,
-        entries: &'a mut ArrayVec<AuthEntry<'b>, 3>,
-    ) -> Result<Command<'a, 'b>, Rc>
-        requires { entries.old.items ≡ [] }
-        ensures exact { Reads whole_of (command_at text.old) text.old result text.new }
+    fn read_fields(text: &mut Cursor<'a>) -> Result<Command<'a>, Rc>
+        ensures exact { Reads whole_command (command_at text.old) text.old result text.new }
         ensures bytes { AreBytes text.old }
     {
         let mut ahead = Cursor::new(text.rest());
@@ -52,12 +43,13 @@ impl<'a, 'b> Command<'a, 'b> {
             Err(fault) => return Err(fault.rc()),
         };
         let handles = read_handles(&mut ahead, header.code.handle_count())?;
-        read_sessions(&mut ahead, header.tag, entries)?;
+        let mut entries = ArrayVec::new();
+        read_sessions(&mut ahead, header.tag, &mut entries)?;
         *text = Cursor::new(&[]);
         Ok(Command {
             code: header.code,
             handles,
-            entries: entries.as_slice(),
+            entries,
             parameters: ahead.rest(),
         })
     }

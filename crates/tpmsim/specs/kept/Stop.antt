@@ -4,7 +4,7 @@ use Rattle.tpmsim.specs.declared.kept.stop.PlayFault.{PlayFault}
 use Rattle.tpmsim.specs.declared.kept.stop.PlayFault.TheVariants.{Script, Kept}
 use Rattle.tpmsim.specs.declared.kept.stop.Stop.{Stop}
 use Rattle.tpmsim.specs.declared.kept.stop.Stop.TheVariants as stop
-use Rattle.tpmsim_script.specs.declared.fault.ScriptFault.TheVariants.{Line, Write}
+use Rattle.tpmsim_script.specs.declared.fault.RunFault.TheVariants.{Line, Write}
 
 -- the fault of a script that stops at the line with this number
 abbrev pub fault_at : (number : ℕ) → Stop → PlayFault

@@ -16,7 +16,7 @@ use tpm_kept_device::answer::Answer;
 use tpm_step::Event;
 use tpm_text::trace_text;
 use tpmsim_folder::{Place, Said};
-use tpmsim_script::ScriptFault;
+use tpmsim_script::RunFault;
 use tpmsim_script::answers::Answers;
 use tpmsim_script::line::Line;
 use tpmsim_script::lines::{Lines, Next};
@@ -72,7 +72,7 @@ impl Player {
             }
         }
         if self.next_line(lines, reader, writer, SCRIPT_LINES)? {
-            return Err(PlayFault::Script(ScriptFault::TooManyLines));
+            return Err(PlayFault::Script(RunFault::TooManyLines));
         }
         Ok(())
     }
@@ -91,14 +91,14 @@ impl Player {
             match lines.find() {
                 Next::Line => return Ok(true),
                 Next::End => return Ok(false),
-                Next::TooLong => return Err(PlayFault::Script(ScriptFault::Line(number))),
+                Next::TooLong => return Err(PlayFault::Script(RunFault::Line(number))),
                 Next::Incomplete => self.flush(writer)?,
             }
             let Ok(()) = lines.fill(reader, &self.answers) else {
-                return Err(PlayFault::Script(ScriptFault::Read));
+                return Err(PlayFault::Script(RunFault::Read));
             };
         }
-        Err(PlayFault::Script(ScriptFault::Read))
+        Err(PlayFault::Script(RunFault::Read))
     }
 
     /// Performs a line.
@@ -190,6 +190,6 @@ impl Player {
     {
         self.answers
             .flush(writer)
-            .map_err(|_| PlayFault::Script(ScriptFault::Write))
+            .map_err(|_| PlayFault::Script(RunFault::Write))
     }
 }

@@ -6,12 +6,12 @@ use std::alloc::AllocError;
 use tpm_text::AsmFault;
 use tpmsim_folder::KeptFault;
 use tpmsim_script::line::Unfit;
-use tpmsim_script::{BadLine, ScriptFault};
+use tpmsim_script::{BadLine, RunFault};
 
 /// Why a script was not played to its end.
 #[derive(Clone, Copy, PartialEq, Eq)]
 pub enum PlayFault {
-    Script(ScriptFault),
+    Script(RunFault),
     Kept(KeptFault),
 }
 
@@ -34,8 +34,8 @@ impl Stop {
         ensures { result ≡ fault_at number self }
     {
         match self {
-            Stop::Bad => PlayFault::Script(ScriptFault::Line(number)),
-            Stop::Write => PlayFault::Script(ScriptFault::Write),
+            Stop::Bad => PlayFault::Script(RunFault::Line(number)),
+            Stop::Write => PlayFault::Script(RunFault::Write),
             Stop::Kept(fault) => PlayFault::Kept(fault),
         }
     }
@@ -83,11 +83,11 @@ impl From<KeptFault> for Stop {
 
 impl From<AllocError> for PlayFault {
     ghost use Rattle.tpmsim.specs.declared.kept.stop.PlayFault.TheVariants.{Script};
-    ghost use Rattle.tpmsim_script.specs.declared.fault.ScriptFault.TheVariants.{NoMemory};
+    ghost use Rattle.tpmsim_script.specs.declared.fault.RunFault.TheVariants.{NoMemory};
 
     ghost from_gives = { λ _ fault. fault ≡ Script NoMemory };
 
     fn from(_error: AllocError) -> PlayFault {
-        PlayFault::Script(ScriptFault::NoMemory)
+        PlayFault::Script(RunFault::NoMemory)
     }
 }

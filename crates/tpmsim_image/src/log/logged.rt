@@ -9,7 +9,8 @@ ghost use Rattle.tpm_step.specs.step.Events.{plain_event};
 
 use crate::log::Log;
 use std::io::Write;
-use tpm_machine::{Machine, Unsaved, Witness};
+use tpm_machine::Machine;
+use tpm_machine_saver::{Unsaved, Witness};
 use tpm_record::Keep;
 use tpm_step::{Event, Outcome};
 

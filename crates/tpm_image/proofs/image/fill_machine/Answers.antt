@@ -9,7 +9,7 @@ returns-in_err-version g c =
     let p = err_from_is_err_and c.from_residual.result c.from_residual.ensures.1 in
     rw (p.1, p.2)
     (unframed (λ (done : Unit {0}). state_of {K = g.row.K.Denot}
-    {S = g.row.K-SessionSlots.Denot} {O = g.row.K-ObjectSlots.Denot}
-    {P = g.row.K-PersistentMap.Denot} {N = g.row.K-NvIndices.Denot} g.K.Keep.record_of
+    {S = g.row.K-Se.Denot} {O = g.row.K-ObjectSlots.Denot}
+    {P = g.row.K-PersistentMap.Denot} {N = g.row.K-Nv.Denot} g.K.Keep.record_of
     c.args.machine.now) false c.args.text.now c.in_err-version.field-0.0
     c.in_err-version.ensures.value)

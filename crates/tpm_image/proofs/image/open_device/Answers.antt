@@ -9,9 +9,9 @@ pub returns-in_err-version-clause-exact : goal.returns-in_err-version-clause-exa
 returns-in_err-version-clause-exact g c =
     let p = err_from_is_err_and c.from_residual.result c.from_residual.ensures.1 in
     rw (p.1, p.2)
-    (unframed (state_of {K = g.row.K.Denot} {S = g.row.K-SessionSlots.Denot}
+    (unframed (state_of {K = g.row.K.Denot} {S = g.row.K-Se.Denot}
     {O = g.row.K-ObjectSlots.Denot} {P = g.row.K-PersistentMap.Denot}
-    {N = g.row.K-NvIndices.Denot} g.K.Keep.record_of)
+    {N = g.row.K-Nv.Denot} g.K.Keep.record_of)
     (g.K.Keep.empty_can_refuse || g.K.Keep.can_refuse) c.args.text.now
     c.in_err-version.field-0.0 c.in_err-version.ensures.value)
 

@@ -7,7 +7,7 @@ pub returns : goal.returns
 returns g c =
     let state = c.in-Ok-read_state.ensures in
     let persistent = g.K.PersistentMap.PersistentObjects.entries c.read_objects.new.objects in
-    let nv = g.K.NvIndices.Indices.contents c.read_indices.new.indices in
+    let nv = g.K.Nv.Indices.contents c.read_indices.new.indices in
     let kept : NonVolatile =
     record { state = state.0; persistent = persistent; indices = nv.indices } in
     let r = g.K.Keep.record_of c.args.keep.now in

@@ -66,6 +66,7 @@ pub returns-clause-head : goal.returns-clause-head
 returns-clause-head c =
     head_found c.args.text.now c.read_mark.new.mark c.in-Some-behind_content.field-0.now _
     (record {
+      named = c.requires;
       in_time = omega arith;
       small = c.in-Some-content_behind.ensures.small;
       are_bytes =

@@ -11,8 +11,9 @@ none_so None none so = so none
 
 pub returns-clause-none : goal.returns-clause-none
 returns-clause-none c =
-    let word : c.word.result.now ≡ head_word c.args.kind = c.word.ensures in
-    let size : marked_size c.word.result.now (length c.args.mark.now) ≡ 77 =
+    let word : c.as_slice.result.now ≡ head_word c.args.kind =
+    c.as_slice.ensures.value ∙ c.word-word.ensures.value in
+    let size : marked_size c.as_slice.result.now (length c.args.mark.now) ≡ 77 =
     omega (arith, ap length word, word_many c.args.kind, c.told-mark) in
     none_so c.read_marked_line.result c.read_marked_line.ensures.none
     (λ none other many are there.

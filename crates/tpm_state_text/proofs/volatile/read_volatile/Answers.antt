@@ -9,7 +9,7 @@ pub returns : goal.returns
 returns g c =
     let r : Record = g.K.Keep.record_of c.args.keep.now in
     let old = c.fixed_mut-fixed.result.now in
-    let sessions = places_of g.K.SessionSlots.Slots.places c.read_sessions.new.sessions in
+    let sessions = places_of g.K.Se.Slots.places c.read_sessions.new.sessions in
     let objects = objects_of g.K.ObjectSlots.Slots.places c.read_transients.new.objects in
     let fixed = record old {
       started = c.in-Ok.started;

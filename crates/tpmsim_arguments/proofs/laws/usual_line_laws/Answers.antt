@@ -1,4 +1,4 @@
-use Rattle.tpmsim_arguments.proofs.Lines.{code_is_named, damage_is_cut, digits_are_spelled, folder_is_completed, folder_is_served, form_is_told, forms_are_told, image_is_not_completed, joined_is_served, journal_is_replayed, journals_are_kept, line_is_assembled, logging_is_served, power_is_cycled, saving_is_served, script_is_checked, script_is_retold, state_is_played, state_is_restored, state_is_served, state_is_told}
+use Rattle.tpmsim_arguments.proofs.Lines.{code_is_named, connections_are_needed, damage_is_cut, digits_are_spelled, entropy_is_needed, folder_is_completed, folder_is_served, form_is_told, forms_are_told, image_is_not_completed, joined_is_served, journal_is_replayed, journals_are_kept, line_is_assembled, locality_is_needed, logging_is_served, power_is_cycled, saving_is_served, script_is_checked, script_is_retold, state_is_played, state_is_restored, state_is_served, state_is_told}
 use Rattle.tpmsim_arguments.proofs.Running.{device_is_kept, script_is_run, script_is_traced}
 use Rattle.tpmsim_arguments.proofs.Settings.{device_is_served}
 use Rattle.tpmsim_arguments.proofs.laws.usual_line_laws.Goals as goal
@@ -30,4 +30,7 @@ returns c = record {
   short = folder_is_served;
   complete = folder_is_completed;
   incomplete = image_is_not_completed;
+  without_entropy = entropy_is_needed;
+  without_locality = locality_is_needed;
+  without_connections = connections_are_needed;
 }
