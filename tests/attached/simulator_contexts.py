@@ -14,7 +14,7 @@ from tpmsim.caller import Caller
 from tpmsim.device import SimulatorDevice
 from tpmsim.device.served import POWER_OFF, POWER_ON
 
-SECONDS, WAIT = 60, 0.3
+SECONDS, WAIT = 600, 0.3
 
 
 def connected(served: Served) -> SimulatorDevice:

@@ -14,7 +14,7 @@ from tpmsim.caller import Caller
 from tpmsim.device import SimulatorDevice
 from tpmsim.device.base import DeviceEnded
 
-FOLDER, SECONDS = pathlib.Path("several"), 60
+FOLDER, SECONDS = pathlib.Path("several"), 600
 DAMAGE = b"# damage\n" * 100
 
 

@@ -10,7 +10,7 @@
 #include <unistd.h>
 
 /* The maximum duration of a run, in seconds. */
-enum { AT_MOST = 60 };
+enum { AT_MOST = 600 };
 
 /* The parameters of a run: two numbers, whose meaning depends on the shim, and the last argument of
  * the command line, if it differs between runs. */
