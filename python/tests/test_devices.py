@@ -247,7 +247,7 @@ class Devices(unittest.TestCase):
         Caller(device).start_up()
         device.write(self.folder / "script")
         words = [program_found(), "run", self.folder / "script"]
-        done = subprocess.run(words, capture_output=True, text=True, check=True, timeout=6000)
+        done = subprocess.run(words, capture_output=True, text=True, check=True, timeout=600)
         self.assertEqual(done.stdout, "80010000000a00000000\n")
 
     def test_another_kind_of_snapshot(self):

@@ -141,7 +141,7 @@ class Simulator(unittest.TestCase):
     def test_tools(self):
         where = "mssim:host=%s,port=%d" % self.address
         for words in ("tpm2_startup -c", "tpm2_getrandom -f --hex 8"):
-            done = subprocess.run([*words.split(), "-T", where], capture_output=True, timeout=6000)
+            done = subprocess.run([*words.split(), "-T", where], capture_output=True, timeout=600)
             self.assertEqual(done.returncode, 0, done.stderr)
         self.assertEqual(len(done.stdout), 16)
 
@@ -167,7 +167,7 @@ class Words(unittest.TestCase):
         ):
             with self.subTest(words=words):
                 done = subprocess.run(
-                    [SIMULATOR, *words], capture_output=True, text=True, timeout=6000
+                    [SIMULATOR, *words], capture_output=True, text=True, timeout=600
                 )
                 self.assertEqual((done.returncode, done.stdout), (status, ""))
                 self.assertTrue(done.stderr)

@@ -391,7 +391,7 @@ class Stored(unittest.TestCase):
             Caller(device).call("ReadClock")
             file.write_bytes(device.snapshot())
         words = sys.executable, "-c", OF_ANOTHER_PROCESS, file
-        done = subprocess.run(words, capture_output=True, text=True, check=True, timeout=6000)
+        done = subprocess.run(words, capture_output=True, text=True, check=True, timeout=600)
         self.assertEqual(done.stdout, "1234\n")
 
     @NEEDS_LIBRARY
