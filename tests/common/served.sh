@@ -26,9 +26,9 @@ begin() {
         2>"$room/error" &
 }
 
-# there: waits until the socket exists.
+# there: waits until the socket exists, or the program in the background has ended.
 there() {
-    until [ -S socket ]; do sleep 0.01; done
+    until [ -S socket ] || ! kill -0 "$!" 2>"$room/gone"; do sleep 0.01; done
 }
 
 # talk LABEL SIZE HEX..: connects to the socket, sends the bytes of the arguments HEX in pieces of SIZE bytes, and

@@ -7,7 +7,7 @@
 # at the processes of the current test. It ends the test, and writes the reason to the file NOTE,
 #
 # - after the processes used PROCESSOR_S seconds of processor time together: more than ten times what any test needs;
-# - after they only waited for IDLE_S seconds. At nine of ten looks, none ran, was ready to run, or read a disk.
+# - after they only waited for IDLE_S seconds. At three of four looks, none ran, was ready to run, or read a disk.
 #
 # A busy machine slows tests down, but does not increase their processor time. No limit is by the clock alone.
 set -u
@@ -108,7 +108,7 @@ reason() {
     if [ "$seconds" -ge "$processor_s" ]; then
         echo "ended: it used $seconds s of processor time, and the limit is $processor_s s"
         echo "Look for an endless loop. On a slow machine, set PROCESSOR_S to more seconds."
-    elif [ "$looks" -ge $((idle_s / look_s)) ] && [ $((ready * 10)) -le "$looks" ]; then
+    elif [ "$looks" -ge $((idle_s / look_s)) ] && [ $((ready * 4)) -le "$looks" ]; then
         echo "ended: it only waited for $idle_s s, and used $seconds s of processor time in all"
         echo "Look for what it waits for. To let it wait longer, set IDLE_S to more seconds."
     fi
