@@ -2,6 +2,7 @@
 # use a copy of the package, linked with the archive under test.
 # shellcheck shell=sh disable=SC2154 # cases.sh has `room` and `tests`, library.sh `dist`
 PATH=$PATH:${HOME:-/root}/.cargo/bin
+needs cc
 CARGO_TARGET_DIR=$room/target
 CARGO_NET_OFFLINE=true
 TPMSIM_LIB_DIR=$dist
