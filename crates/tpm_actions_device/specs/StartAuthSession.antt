@@ -1,6 +1,6 @@
 -- TPM2_StartAuthSession. TPM 2.0 Library, Part 3, section 11.1, and Part 1, section 19.6.
 use Rattle.tpm_types_common.specs.declared.action_check.ActionCheck.TheVariants as action
-use Rattle.std.specs.Prelude.{◌≡◌, ℕ, ◌==◌, not, Bool, false, List, length, take, Option, Some, None, if◌then◌else◌, Result, Ok, Err, ok_or, slice_set}
+use Rattle.std.specs.Prelude.{ℕ, ◌==◌, not, Bool, false, List, length, take, Option, Some, None, if◌then◌else◌, Result, Ok, ok_or, slice_set}
 use Rattle.tpm_bytes.specs.Reading.{◌>>=◌, refused_if}
 use Rattle.tpm_mac.specs.declared.algorithm.HashAlg.{HashAlg}
 use Rattle.tpm_containers.specs.Slots.{lowest_free}
