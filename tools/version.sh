@@ -10,11 +10,20 @@ case $program in
 esac
 cd "$(dirname "$0")/.." || exit 1
 
+# dotted NUMBER: prints a version that is given as six hex digits.
+dotted() {
+    rest=${1#??}
+    [ -z "$1" ] || echo "$((0x${1%????})).$((0x${rest%??})).$((0x${rest#??}))"
+}
+
 # of_header FILE: prints the version that a header defines as a number in hex.
 of_header() {
-    number=$(sed -n 's/^#define TPMSIM_VERSION_NUMBER 0x\([0-9a-f]\{6\}\)$/\1/p' "$1")
-    rest=${number#??}
-    [ -z "$number" ] || echo "$((0x${number%????})).$((0x${rest%??})).$((0x${rest#??}))"
+    dotted "$(sed -n 's/^#define TPMSIM_VERSION_NUMBER 0x\([0-9a-f]\{6\}\)$/\1/p' "$1")"
+}
+
+# of_journals FILE: prints the version that the heads of journals contain.
+of_journals() {
+    dotted "$(sed -n 's/^const LIBRARY_VERSION: u32 = 0x\(....\)_\(..\);$/\1\2/p' "$1")"
 }
 
 # Prints each version and the file that states it.
@@ -25,6 +34,7 @@ versions() {
         echo "$(of_header "$folder/tpmsim.h") $folder/tpmsim.h"
         echo "$(sed -n 's/^Version: //p' "$folder/tpmsim.pc") $folder/tpmsim.pc"
     done
+    echo "$(of_journals crates/tpm_journal_text/src/head.rt) crates/tpm_journal_text/src/head.rt"
     echo "$(sed -n 's/^version = "\(.*\)"$/\1/p' python/pyproject.toml) python/pyproject.toml"
     echo "$(sed -n 's/^  "version": "\(.*\)",$/\1/p' js/package.json) js/package.json"
     echo "$(sed -n 's/^version = "\(.*\)"$/\1/p' rust/Cargo.toml) rust/Cargo.toml"

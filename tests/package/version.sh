@@ -15,7 +15,7 @@ turn() {
     mkdir -p copy/tools copy/python/tpmsim copy/js copy/rust
     cp "$top/tools/version.sh" copy/tools/
     (cd "$top" && tar cf - CHANGELOG.md library dist/tpmsim.h dist/tpmsim.pc python/pyproject.toml \
-        python/tpmsim/__init__.py js/package.json rust/Cargo.toml) | tar xf - -C copy
+        crates/tpm_journal_text/src/head.rt python/tpmsim/__init__.py js/package.json rust/Cargo.toml) | tar xf - -C copy
     sed "s/$2/$3/" "copy/$1" >turned
     cmp -s turned "copy/$1" && echo "$1 is as it was"
     cp turned "copy/$1"
@@ -30,6 +30,7 @@ turn library/tpmsim.h 'NUMBER 0x00' 'NUMBER 0x09'
 turn library/tpmsim.pc '^Version: .*' 'Version: 1'
 turn dist/tpmsim.h 'NUMBER 0x' 'NUMBER '
 turn dist/tpmsim.pc '^Version: .*' ''
+turn crates/tpm_journal_text/src/head.rt 'VERSION: u32 = 0x00' 'VERSION: u32 = 0x09'
 turn python/pyproject.toml '^version = ".*"' 'version = "9.9.9"'
 turn js/package.json '"version": ".*"' '"version": "9.9.9"'
 turn python/tpmsim/__init__.py '"[0-9.]*"$' '"9.9.9"'

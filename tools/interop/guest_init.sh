@@ -67,7 +67,7 @@ is_held() {
     case $answer in
     ????????????00000000*) [ "$answer" != "$public" ] || { result ok "$1" && return; } ;;
     esac
-    result FAILED "$1: $answer $(tail -n 1 error)"
+    result FAILED "$1: $answer $(head -n 1 error)"
 }
 
 off() {

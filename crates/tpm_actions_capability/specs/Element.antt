@@ -1,6 +1,6 @@
 -- The elements that TPM2_GetCapability lists. TPM 2.0 Library, Part 3, section 30.2, and Part 2,
 -- section 10.10.2 (TPMS_CAPABILITY_DATA).
-use Rattle.std.specs.Prelude.{ℕ, ◌==◌, zero, suc, nat_lt, nat_le, min, Bool, List, [], ◌∷◌, ◌++◌, count_by, filter, take, map, if◌then◌else◌}
+use Rattle.std.specs.Prelude.{ℕ, nat_lt, nat_le, min, Bool, List, [], ◌∷◌, ◌++◌, count_by, filter, take, if◌then◌else◌}
 use Rattle.std.specs.Int.{w32, to_be_bytes}
 use Rattle.std.specs.List.{flat_map}
 use Rattle.tpm_actions_capability.specs.declared.element.Element.{Element}

@@ -2,7 +2,7 @@
 -- sections 6.12 (TPM_CAP), 6.13 (TPM_PT), 7.4 (TPM_RH) and 8.9 (TPMA_CC), and Part 3, section 30.2.
 use Rattle.tpm_types_common.specs.Limits.{object_limit, session_limit}
 use Rattle.tpm_bytes.specs.Numbers.{numbers_below}
-use Rattle.std.specs.Prelude.{ℕ, ◌+◌, ◌*◌, ◌^◌, Bool, true, false, List, [], ◌∷◌, ◌++◌, is_some, length, map, if◌then◌else◌}
+use Rattle.std.specs.Prelude.{ℕ, ◌+◌, ◌*◌, ◌^◌, List, [], ◌∷◌, is_some, length, map, if◌then◌else◌}
 use Rattle.std.specs.List.{flat_map}
 use Rattle.std.specs.Option.{option_map_or}
 use Rattle.tpm_lockout.specs.Lockout.{LockoutState}

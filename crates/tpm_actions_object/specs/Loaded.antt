@@ -2,7 +2,6 @@
 use Rattle.tpm_types_common.specs.declared.action_check.ActionCheck.{ActionCheck}
 use Rattle.tpm_types_common.specs.declared.action_check.ActionCheck.TheVariants as action
 use Rattle.std.specs.Prelude.{◌≡◌, ℕ, not, Bool, true, Result, Ok, Err, ok_or}
-use Rattle.std.specs.Borrow.{Bor}
 use Rattle.tpm_bytes.specs.Reading.{refused_if}
 use Rattle.tpm_object.specs.declared.object.Object.{Object}
 use Rattle.tpm_object.specs.Object.{is_storage_parent}

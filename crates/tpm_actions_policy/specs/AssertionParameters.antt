@@ -1,15 +1,11 @@
 -- Converts the parameters of an assertion, as the code represents them, to the assertion of the
 -- definitions.
-use Rattle.std.specs.Prelude.{◌≡◌, Result, Ok, Err}
 use Rattle.tpm_policy.specs.Assertion as assertion
 use Rattle.tpm_policy.specs.Assertion.{Assertion}
 use Rattle.tpm_session.specs.declared.session.Session.{Session}
-use Rattle.tpm_types_common.specs.declared.handle.Handle.{Handle}
 use Rattle.tpm_types_common.specs.DigestList.{digests_of}
 use Rattle.tpm_record.specs.Entity.{name_of}
 use Rattle.tpm_record.specs.Record.{Record}
-use Rattle.tpm_types_common.specs.declared.refused.Refused.{Refused}
-use Rattle.tpm_record.specs.declared.rows.target.Target.{Target}
 use Rattle.tpm_actions_policy.specs.PolicyNv.{Parameters as NvParameters, nv_parts_of}
 use Rattle.tpm_actions_policy.specs.PolicyPcr.{Parameters as PcrParameters, pcr_parts_of}
 use Rattle.tpm_actions_policy.specs.PolicySecret.{Parameters as SecretParameters, secret_of}

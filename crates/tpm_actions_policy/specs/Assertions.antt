@@ -2,7 +2,6 @@
 -- row, and the session and the assertion that each of these commands uses. TPM 2.0 Library, Part 3,
 -- section 23.
 use Rattle.std.specs.Prelude.{◌≡◌, Bool, true, false, List, [], Option, Result, Ok, Err, ok_or}
-use Rattle.std.specs.Borrow.{Bor}
 use Rattle.tpm_bytes.specs.Reading.{◌>>=◌}
 use Rattle.tpm_policy.specs.Assertion.{Assertion, asserted_policy}
 use Rattle.tpm_policy.specs.State.{Policy}

@@ -1,6 +1,6 @@
 -- TPM2_PolicyNV. TPM 2.0 Library, Part 3, section 23.9. The order of the checks is a choice of this
 -- implementation.
-use Rattle.std.specs.Prelude.{ℕ, List, length, Result, Ok, Err}
+use Rattle.std.specs.Prelude.{ℕ, List, length, Result, Ok}
 use Rattle.std.specs.Int.{w16}
 use Rattle.tpm_bytes.specs.Reading.{◌>>=◌, number_at, or_fault}
 use Rattle.tpm_nv.specs.Access.{read_at}

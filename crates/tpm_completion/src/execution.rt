@@ -116,7 +116,9 @@ fn hide_and_complete<K: Keep>(
         Some(place) => complete_hidden(
             machine, layer, buffer, place, locality, elapsed_ms, random, outcome,
         ),
-        None => complete(machine, layer, buffer, locality, elapsed_ms, random, outcome),
+        None => complete(
+            machine, layer, buffer, locality, elapsed_ms, random, outcome,
+        ),
     }
 }
 
@@ -143,7 +145,9 @@ fn complete_hidden<K: Keep>(
     let (command, _) = heard.split_at_mut(buffer.len());
     command.copy_from_slice(buffer);
     hide(command, place);
-    complete(machine, layer, command, locality, elapsed_ms, random, outcome);
+    complete(
+        machine, layer, command, locality, elapsed_ms, random, outcome,
+    );
 }
 
 /// Executes a command with the layer: the device executes it first, and the layer answers after it.

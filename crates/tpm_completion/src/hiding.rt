@@ -6,9 +6,7 @@ ghost use Rattle.std.specs.List.{find};
 ghost use Rattle.tpm_types_common.specs.Limits.{buffer_limit};
 ghost use Rattle.tpm_completion.specs.Hiding.{after_entry, entries_after, entry_places, handle_places, handles_of, hidden_at, is_saved_at, long_at, names_saved, place_if, places_before, saved_place, session_places, short_at};
 
-use crate::codes::{
-    EVENT_SEQUENCE_COMPLETE, HMAC_START, SEQUENCE_COMPLETE, SEQUENCE_UPDATE,
-};
+use crate::codes::{EVENT_SEQUENCE_COMPLETE, HMAC_START, SEQUENCE_COMPLETE, SEQUENCE_UPDATE};
 use crate::completion::Completion;
 use crate::saving::place_named;
 use arrayvec::ArrayVec;

@@ -289,7 +289,7 @@ refuses_another_owner c h b object is bound platform long other e =
     by : AreSame c (made_with h b object c) ⊎ CollidesFor h b c → CollidesFor h b c
     by (inl same) =
         let key : context_proof c.hierarchies hierarchy.Platform
-            ≡ context_proof h hierarchy.Platform =
+        ≡ context_proof h hierarchy.Platform =
         ap (context_proof c.hierarchies) (sym platform) ∙ same.key
         ∙ ap (λ (o : Object). context_proof h o.hierarchy) (sym same.object)
         ∙ ap (context_proof h) platform in

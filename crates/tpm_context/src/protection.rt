@@ -132,12 +132,7 @@ fn bound_text(binding: Binding, head: ContextHead) -> Sink<28>
 
 /// Returns the integrity value of the context with this head and this encrypted object.
 #[tactic(auto, unfolding(crate::specs::Protection::integrity_of))]
-pub(crate) fn integrity(
-    proof: &[u8],
-    binding: Binding,
-    head: ContextHead,
-    cipher: &[u8],
-) -> Digest
+pub(crate) fn integrity(proof: &[u8], binding: Binding, head: ContextHead, cipher: &[u8]) -> Digest
     ensures value { result.items ≡ integrity_of proof.now binding head cipher.now }
     ensures size { length result.items ≡ 32 }
 {

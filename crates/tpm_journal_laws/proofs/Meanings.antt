@@ -275,13 +275,13 @@ head_front State bytes sum =
         ),
       ),
     )
-
 head_front (Versioned version) bytes sum =
     mark_unbroken (head_word (Versioned version)) bytes sum
     (unbroken_joined (codes "# tpmsim v" ++ encode_lower (version_text version)) (32 ∷ [])
-    (unbroken_joined (codes "# tpmsim v") (encode_lower (version_text version))
-    (refl,
-    (refl, (refl, (refl, (refl, (refl, (refl, (refl, (refl, (refl, tt))))))))))
+    (unbroken_joined (codes "# tpmsim v") (encode_lower (version_text version)) (
+      refl,
+      (refl, (refl, (refl, (refl, (refl, (refl, (refl, (refl, (refl, tt))))))))),
+    )
     (hex_unbroken (version_text version)))
     (refl, tt))
 

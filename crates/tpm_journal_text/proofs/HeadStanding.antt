@@ -218,7 +218,7 @@ one_version version other x y small others same =
     ∙ ap (λ (l : List ℕ). from_be_bytes w32 l / 251) bytes
     ∙ version_read other others
 
--- the tenth byte of the word tells a version from other words
+-- the tenth byte of the word distinguishes a version from other words
 no_version : (version : ℕ) (word x y : List ℕ) → get_or (word ++ y) 9 0 ≡ 106
     → head_word (Versioned version) ++ x ≡ word ++ y → ⊥
 no_version version word x y other same =

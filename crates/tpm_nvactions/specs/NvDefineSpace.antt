@@ -1,6 +1,6 @@
 -- TPM2_NV_DefineSpace. TPM 2.0 Library, Part 3, section 31.3.
 use Rattle.tpm_types_common.specs.declared.action_check.ActionCheck.TheVariants as action
-use Rattle.std.specs.Prelude.{◌≡◌, ℕ, ◌==◌, not, List, length, is_some, Result, Ok, Err}
+use Rattle.std.specs.Prelude.{ℕ, ◌==◌, not, List, length, is_some, Result, Ok}
 use Rattle.tpm_bytes.specs.Reading.{◌>>=◌, refused_if}
 use Rattle.tpm_types_common.specs.AuthValue.{auth_value_at}
 use Rattle.tpm_types_common.specs.Handle.{platform_handle}

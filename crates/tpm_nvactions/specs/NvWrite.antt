@@ -1,6 +1,6 @@
 -- TPM2_NV_Write. TPM 2.0 Library, Part 3, section 31.7.
 use Rattle.tpm_types_common.specs.Limits.{data_limit}
-use Rattle.std.specs.Prelude.{◌≡◌, ℕ, List, Result, Ok, Err}
+use Rattle.std.specs.Prelude.{ℕ, List, Result, Ok}
 use Rattle.std.specs.Int.{w16}
 use Rattle.tpm_bytes.specs.Reading.{◌>>=◌, number_at, or_fault}
 use Rattle.tpm_types_common.specs.Buffer.{buffer_at}

@@ -1,8 +1,7 @@
 -- A mask that is applied to a parameter twice restores the parameter.
-use Rattle.std.proofs.Common.{◌≡◌, ◌≤◌, ℕ, List, [], ◌∷◌, ap, ap₂, arith, bit_xor, length, refl, sym, subst, ◌∙◌}
+use Rattle.std.proofs.Common.{◌≡◌, ◌≤◌, ℕ, List, [], ◌∷◌, ap, ap₂, arith, bit_xor, length, refl, ◌∙◌}
 use Rattle.std.specs.Int.Bits.{xor_assoc, xor_self, xor_zero_r}
 use Rattle.tpm_aes.specs.Cipher.{xor_of}
-use Rattle.tpm_mac.specs.Kdf.{kdfa_of}
 use Rattle.tpm_session.specs.Encryption.{mask_bytes, masked_parameter}
 use Rattle.tpm_session.specs.declared.session.Session.{Session}
 

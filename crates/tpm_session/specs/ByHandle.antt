@@ -2,7 +2,7 @@
 -- 19.6.5 (HMAC computation) and 21 (parameter encryption).
 use Rattle.tpm_types_common.specs.Limits.{buffer_limit}
 use Rattle.tpm_types_common.specs.Symmetric.{is_null}
-use Rattle.std.specs.Prelude.{ℕ, nat_lt, if◌then◌else◌, Bool, List, Option, Some, None, Result, Ok, Err}
+use Rattle.std.specs.Prelude.{ℕ, nat_lt, if◌then◌else◌, List, Option, Some, None, Result, Ok, Err}
 use Rattle.tpm_session.specs.Session.{Session}
 use Rattle.tpm_session.specs.declared.by_handle.ParameterFault.{ParameterFault}
 use Rattle.tpm_session.specs.declared.by_handle.ParameterFault.TheVariants.{Size, Symmetric}

@@ -31,6 +31,10 @@ The {scripts} scripts contain {commands} commands. {own} of these have different
 differ only because an earlier command did. {missing} cannot be compared: most because a stream cannot carry
 their size, and the others because they need a session or an object that only one TPM has.
 
+The scripts do not use [the completing layer](USING.md#what-the-completing-layer-answers). With this layer there is
+one more difference, in TPM2_ContextLoad of a session that was saved before a TPM Resume or a TPM Restart. tpmsim
+refuses it (HANDLE/p1), because [every session ends at a power cycle](USING.md#contexts). swtpm loads the session.
+
 | what differs | times | example | tpmsim | swtpm | our decision |
 |---|---|---|---|---|---|"""
 

@@ -11,7 +11,7 @@ from dataclasses import dataclass
 
 from tpmsim.model import sequence_commands
 from tpmsim.model.general import NUMBERED
-from tpmsim.standard import CC, frames
+from tpmsim.standard import frames
 
 # The number of handles of each command on sequence objects that has sessions.
 SEQUENCE_HANDLES = {

@@ -1,4 +1,4 @@
-use Rattle.std.proofs.Common.{rules, of_calls, Err, List, ℕ, [], ◌∷◌, ◌++◌, refl, ◌∙◌, arith, length-append}
+use Rattle.std.proofs.Common.{rules, of_calls, [], ◌∷◌, ◌++◌, refl, ◌∙◌, arith, length-append}
 use Rattle.std.proofs.KnownBytes.{Appends-nil}
 use Rattle.tpm_bytes.specs.Tap.{device_of, marks_of}
 use Rattle.tpm_machine.specs.State.{state_of}
