@@ -47,21 +47,28 @@ def leave_locks() -> None:
     holds a lock, the child would hold it too. Every owner of such a descriptor opens the lock file
     again in a child, or refuses to be used there.
     """
-    locks = set[Inode]()
-    for path in list(LOCKS.values()):
-        with contextlib.suppress(OSError):
-            locks.add(inode(os.lstat(path)))
+    locks = {inode_at(it) for it in list(LOCKS.values())}
     if locks:
         with contextlib.suppress(OSError), io.FileIO(os.devnull) as empty:
             for number in map(int, os.listdir("/proc/self/fd")):
                 replace(number, locks, empty.fileno())
 
 
-def replace(number: int, files: set[Inode], other: int) -> None:
+def inode_at(path: str) -> Inode | None:
+    """Returns what identifies the file at a path, or None if there is no file."""
+    try:
+        return inode(os.lstat(path))
+    except OSError:
+        return None
+
+
+def replace(number: int, files: set[Inode | None], other: int) -> None:
     """Replaces a descriptor by another one if it is one of these files."""
-    with contextlib.suppress(OSError):  # the descriptor that listed the folder is closed
+    try:
         if inode(os.fstat(number)) in files:
             os.dup2(other, number, inheritable=False)
+    except OSError:
+        pass  # the descriptor that listed the folder is closed
 
 
 in_each_child(leave_locks)
