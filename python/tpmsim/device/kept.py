@@ -137,10 +137,11 @@ class KeptDevice(LocatedDevice):
         self.process, self.lock = process(), threading.RLock()
         force = FORCE_POWER if forces else FORCE_NEVER
         self.options = Options(folder=path, keep=keep, force=force, cuts=cuts)
-        LOCKS[self] = os.path.join(self.path, LOCK_NAME)
+        whole = path if os.path.isabs(path) else os.path.join(os.getcwdb(), path)
+        LOCKS[self] = os.path.join(os.fsdecode(whole), LOCK_NAME)
         self.idle.append(self.opened())
-        self.place, self.options.is_there = inode(os.stat(self.path)), True
-        self.options.folder = os.fsencode(self.path)
+        self.options.folder, self.options.is_there = whole, True
+        self.place = inode(os.stat(whole))
 
     def opened(self) -> Handle:
         """Returns a new handle."""
@@ -153,7 +154,7 @@ class KeptDevice(LocatedDevice):
         DeviceEnded.
         """
         handle = self.opened()
-        if inode(os.stat(self.path)) != self.place:
+        if inode(os.stat(self.options.folder)) != self.place:
             raise DeviceEnded(f"{self.path}/journal is not there")
         return handle
 
@@ -171,8 +172,10 @@ class KeptDevice(LocatedDevice):
         """Takes an idle handle. If there is none, opens one: a call has ended without returning its
         handle, or this call interrupts another, or a child was forked during a call.
         """
-        with contextlib.suppress(IndexError):
+        try:
             return self.idle.pop()
+        except IndexError:
+            pass  # all handles are in use
         return self.opened_again()
 
     def told(self, call: Callable[..., int], *given: object) -> tuple[int, str]:
