@@ -17,7 +17,6 @@ import sys
 import threading
 import time
 import warnings
-from collections import Counter
 
 from tests.library.kept import extend, extended, started, value_of
 from tpmsim.device import DeviceEnded, KeptDevice, LibraryDevice
@@ -32,8 +31,8 @@ SECONDS = 60
 # The number of bytecodes that a forked child, or a call, runs at least.
 LEAST_BYTECODES = 100
 
-# In a loop, only the first executions of a bytecode are interrupted.
-EXECUTIONS = 2
+# The children that run at the same time.
+AT_ONCE = 16
 
 # The exit statuses of a child.
 GOOD, NOT_REACHED, WRONG = 0, 1, 2
@@ -41,12 +40,13 @@ GOOD, NOT_REACHED, WRONG = 0, 1, 2
 
 class Bytecodes:
     """Calls `act` before the bytecode with this number that the parent or the child runs: in a
-    function of the package, or in one that such a function calls.
+    function of the package, or in one that such a function calls. In a loop, only the first
+    execution of a bytecode counts.
     """
 
     def __init__(self, number, act, is_parents):
         self.left, self.act, self.is_parents = number, act, is_parents
-        self.parent, self.watched, self.executed = os.getpid(), set(), Counter()
+        self.parent, self.watched, self.executed = os.getpid(), set(), set()
 
     def __call__(self, frame, event, _):
         is_called = frame.f_back in self.watched
@@ -60,8 +60,8 @@ class Bytecodes:
 
     def count(self, frame):
         place = frame.f_code, frame.f_lasti
-        self.executed[place] += 1
-        if self.executed[place] <= EXECUTIONS:
+        if place not in self.executed:
+            self.executed.add(place)
             self.left -= 1
             if self.left == 0:
                 self.act()
@@ -137,7 +137,7 @@ class Devices:
             return WRONG
         except DeviceEnded:
             pass
-        return self.use() or in_thread(self.use)
+        return self.use()
 
     def forked(self):
         """Forks a child that uses the device, and returns its exit status."""
@@ -153,30 +153,48 @@ class Devices:
         assert in_thread(self.forked) == GOOD, "a child of a thread failed"
         self.count += 3
 
-    def interrupted(self, number, act, is_parents):
-        """Interrupts a fork at a bytecode. Returns whether that bytecode was reached."""
-        trace = Bytecodes(number, act, is_parents)
+    def begun(self, trace):
+        """Forks a child, which a bytecode may interrupt, and returns its number."""
         child = trace.during(os.fork)
         if not child:
             in_child(lambda: self.in_child() or (trace.left > 0 and NOT_REACHED))
-        status = ended(child)
-        assert status != WRONG, FAULT.read_text() if FAULT.exists() else "in the child"
-        self.count += 2
-        if is_parents:
-            self.in_parent()
-        return trace.left <= 0 if is_parents else status == GOOD
+        self.count += 1
+        return child
 
-    def everywhere(self, act, is_parents):
-        """Interrupts forks at each bytecode. Returns what is wrong, or how many there are."""
+    def interrupted_parent(self, number, act):
+        """Interrupts a fork at a bytecode of the parent. Returns whether it was reached."""
+        trace = Bytecodes(number, act, True)
+        assert ended(self.begun(trace)) != WRONG, FAULT.read_text()
+        self.in_parent()
+        return trace.left <= 0
+
+    def interrupted_children(self, number, act):
+        """Interrupts forks at the next bytecodes of children. Returns whether all were reached."""
+        numbers = range(number, number + AT_ONCE)
+        statuses = [ended(it) for it in [self.begun(Bytecodes(it, act, False)) for it in numbers]]
+        assert WRONG not in statuses, FAULT.read_text()
+        return NOT_REACHED not in statuses
+
+    def in_parents(self, act):
+        """Interrupts forks at each bytecode of the parent. Returns the result."""
         number = 1
         try:
-            while self.interrupted(number, act, is_parents):
+            while self.interrupted_parent(number, act):
                 number += 1
         except (AssertionError, DeviceEnded, OSError, ValueError) as fault:
             return f"at bytecode {number}: {type(fault).__name__} {fault}"
-        if is_parents:
-            return f"whole at each of {number - 1} bytecodes"
-        assert number > LEAST_BYTECODES, number
+        return f"whole at each of {number - 1} bytecodes"
+
+    def in_children(self, act):
+        """Interrupts forks at each bytecode of the child. Returns the result."""
+        number = 1
+        try:
+            while self.interrupted_children(number, act):
+                number += AT_ONCE
+            assert number > LEAST_BYTECODES, number
+            self.in_parent()
+        except (AssertionError, DeviceEnded, OSError, ValueError) as fault:
+            return f"from bytecode {number} on: {type(fault).__name__} {fault}"
         return "whole at each bytecode"
 
     def executed(self):
@@ -195,7 +213,7 @@ class Devices:
             await_lock(os.getpid(), "->")
             child = os.fork()
             if not child:
-                in_child(self.in_child)
+                in_child(lambda: self.in_child() or in_thread(self.use))
             fcntl.flock(lock, fcntl.LOCK_UN)
         thread.join(SECONDS)
         self.count += 1 + 2
@@ -288,12 +306,9 @@ OPENED, faults = [], []
 sys.unraisablehook = lambda fault: faults.append(type(fault.exc_value).__name__)
 warnings.filterwarnings("ignore", "This process .* is multi-threaded", DeprecationWarning)
 devices = Devices()
-for name, act, is_parents in (
-    ("a handler raises in the parent", interrupt, True),
-    ("a handler raises in the child", interrupt, False),
-    ("a thread opens a device", open_another, True),
-):
-    print(f"{name}: {devices.everywhere(act, is_parents)}", flush=True)
+print("a handler raises in the parent:", devices.in_parents(interrupt), flush=True)
+print("a handler raises in the child:", devices.in_children(interrupt), flush=True)
+print("a thread opens a device:", devices.in_parents(open_another), flush=True)
 print("a fork during a call:", devices.during_a_call(), flush=True)
 print("each command is executed once:", devices.executed(), flush=True)
 print("a handler forks:", devices.by_a_handler(), flush=True)
