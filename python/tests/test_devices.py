@@ -242,6 +242,24 @@ class Devices(unittest.TestCase):
             KeptDevice(self.folder, cuts=True).close()
         KeptDevice(self.folder).close()
 
+    def test_another_handle(self):
+        """A device that opens its folder again, for example in a forked child, opens the same
+        folder, and no other folder at its path.
+        """
+        with contextlib.chdir(self.folder):
+            device = KeptDevice("tpm")
+        Caller(device).start_up()
+        device.idle.clear()
+        self.assertRaisesRegex(Refused, "INITIALIZE", Caller(device).start_up)
+        path = self.folder / "tpm"
+        path.rename(self.folder / "moved")
+        self.assertRaisesRegex(Refused, "INITIALIZE", Caller(device).start_up)
+        device.idle.clear()
+        self.assertRaisesRegex(DeviceEnded, "cannot be looked at", device.execute, b"")
+        KeptDevice(path).close()
+        self.assertRaisesRegex(DeviceEnded, "is not there", device.execute, b"")
+        device.close()
+
     def test_written_script(self):
         device = ModelDevice(seed=SEED)
         Caller(device).start_up()

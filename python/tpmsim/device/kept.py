@@ -1,25 +1,27 @@
 """A device that is kept in a folder (docs/ATTACHED.md), through the C host in libtpmsim-kept.so.0.
 
 Python runs a signal handler only after a call of the host has returned, so an interrupt never
-leaves a call half done.
+leaves a call half done. A call takes a handle out of a list, and puts it back. So an interrupt or a
+fork leaves no handle in the list that a call has not finished with.
 """
 
+import contextlib
 import ctypes
 import functools
 import os
 import pathlib
 import threading
 import warnings
-import weakref
 from typing import Callable
 
 from tpmsim.device.base import Answered, BadImage, BadState, DeviceEnded, Executed, Snapshot
+from tpmsim.device.forks import inode, LOCKS, process
 from tpmsim.device.library import AnsweredInC, beside, CHECKS, IMAGE_FAULTS, library, LibraryDevice
 from tpmsim.device.library import NO_MEMORY, RESPONSE_BYTES, STATE_FAULTS, TEXT_BYTES
 from tpmsim.device.served import LocatedDevice
 from tpmsim.device.told import Path, RANDOM_BYTES
 
-NAME = "libtpmsim-kept.so.0"
+NAME, LOCK_NAME = "libtpmsim-kept.so.0", "lock"
 REASON_BYTES, MOST_KEPT = 4608, 99
 FORCE_NEVER, FORCE_POWER = 0, 1
 
@@ -66,6 +68,34 @@ def check(told: int, reason: str) -> None:
         raise DeviceEnded(reason)
 
 
+class Handle:
+    """A handle of the C host, which only one call at a time may use. It is closed when nothing
+    refers to it any more.
+    """
+
+    def __init__(self) -> None:
+        self.host, self.holder = host(), ctypes.c_void_p()
+        self.reason, self.notice = (ctypes.create_string_buffer(REASON_BYTES) for _ in range(2))
+        self.address = ctypes.addressof(self.holder)
+
+    def told(self, call: Callable[..., int], *given: object) -> tuple[int, str]:
+        """Calls the host, and returns its result and its message. Warns if it cut the journal."""
+        told = call(self.address, *given, self.reason)
+        self.host.tpmsim_kept_notice(self.address, self.notice)
+        reason, notice = os.fsdecode(self.reason.value), os.fsdecode(self.notice.value)
+        if notice:
+            warnings.warn(notice, RuntimeWarning)
+        return told, reason
+
+    def close(self) -> None:
+        """Closes the device of this handle, if there is one."""
+        self.host.tpmsim_kept_close(self.address)
+
+    def __del__(self) -> None:
+        if hasattr(self, "address"):
+            self.close()
+
+
 class KeptDevice(LocatedDevice):
     """The device that is kept in a folder. If the folder contains no device, a new one is made
     there. Several processes may use it at once: each executes the commands that the others added,
@@ -73,7 +103,7 @@ class KeptDevice(LocatedDevice):
     With `completes`, the completing layer of the library is above the device. The last `keep`
     replaced journals, 0 to 99, stay in the folder. With `cuts`, the rest of a journal from its
     first damage on is dropped; otherwise a damaged journal is refused. A forked child may use its
-    parent's device, and threads take turns.
+    parent's device, even if another thread was inside a call at the fork. Threads take turns.
 
     If a call fails, the message of DeviceEnded is a sentence of docs/ATTACHED.md. If the journal
     begins with bytes that are not an image or a state text, the exception is BadImage or BadState.
@@ -103,28 +133,69 @@ class KeptDevice(LocatedDevice):
             raise ValueError("embedded null byte")
         if keep not in range(MOST_KEPT + 1):
             raise ValueError(f"0 to {MOST_KEPT} journals are kept, and not {keep}")
-        self.host, self.holder, self.turn = host(), ctypes.c_void_p(), threading.RLock()
-        self.handle = ctypes.addressof(self.holder)
-        self.reason, self.notice = (ctypes.create_string_buffer(REASON_BYTES) for _ in range(2))
+        self.host, self.idle, self.is_closed = host(), list[Handle](), False
+        self.process, self.lock = process(), threading.RLock()
         force = FORCE_POWER if forces else FORCE_NEVER
-        options = Options(folder=path, keep=keep, force=force, cuts=cuts)
-        HELD.add(self)
-        check(*self.told(self.host.tpmsim_kept_open, ctypes.byref(options)))
+        self.options = Options(folder=path, keep=keep, force=force, cuts=cuts)
+        whole = path if os.path.isabs(path) else os.path.join(os.getcwdb(), path)
+        LOCKS[self] = os.path.join(os.fsdecode(whole), LOCK_NAME)
+        self.idle.append(self.opened())
+        self.options.folder, self.options.is_there = whole, True
+        self.place = inode(os.stat(whole))
+
+    def opened(self) -> Handle:
+        """Returns a new handle."""
+        handle = Handle()
+        check(*handle.told(self.host.tpmsim_kept_open, ctypes.byref(self.options)))
+        return handle
+
+    def opened_again(self) -> Handle:
+        """Returns another handle of this device. If another folder is now at the path, raises
+        DeviceEnded.
+        """
+        handle = self.opened()
+        if inode(os.stat(self.options.folder)) != self.place:
+            raise DeviceEnded(f"{self.path}/journal is not there")
+        return handle
+
+    @property
+    def turn(self) -> contextlib.AbstractContextManager[object]:
+        """The lock for which threads wait, so that all of them can use one handle. It is another
+        one in a forked child, where no thread may be left to release the lock.
+        """
+        if self.process != process():
+            self.lock = threading.RLock()
+            self.process = process()
+        return self.lock
+
+    def taken(self) -> Handle:
+        """Takes an idle handle. If there is none, opens one: a call has ended without returning its
+        handle, or this call interrupts another, or a child was forked during a call.
+        """
+        try:
+            return self.idle.pop()
+        except IndexError:
+            pass  # all handles are in use
+        return self.opened_again()
 
     def told(self, call: Callable[..., int], *given: object) -> tuple[int, str]:
         """Calls the host, and returns its result and its message."""
+        if self.is_closed:
+            raise ValueError("the device is closed")
         with self.turn:
-            told = call(self.handle, *given, self.reason)
-            self.host.tpmsim_kept_notice(self.handle, self.notice)
-            reason, notice = os.fsdecode(self.reason.value), os.fsdecode(self.notice.value)
-        if notice:
-            warnings.warn(notice, RuntimeWarning)
-        return told, reason
+            return self.in_turn(call, *given)
+
+    def in_turn(self, call: Callable[..., int], *given: object) -> tuple[int, str]:
+        """Calls the host with a handle that no other call uses."""
+        handle = self.taken()
+        try:
+            return handle.told(call, *given)
+        finally:
+            if not self.is_closed:
+                self.idle.append(handle)
 
     def ask(self, call: Callable[..., int], *given: object) -> None:
         """Calls the C host for this device; raises an exception if the call fails."""
-        if not self.holder:
-            raise ValueError("the device is closed")
         check(*self.told(call, *given))
 
     def execute(self, buffer: bytes) -> Answered:
@@ -170,8 +241,6 @@ class KeptDevice(LocatedDevice):
         snapshot. The completing layer starts again, so no earlier context can be loaded.
         """
         text = Snapshot.of(snapshot)
-        if not self.holder:
-            raise ValueError("the device is closed")
         told, reason = self.told(self.host.tpmsim_kept_restore, text, len(text))
         check(told, STATE_FAULTS.get(told, reason))
         self.events = list(text.events) if text.begun is None else []
@@ -183,32 +252,6 @@ class KeptDevice(LocatedDevice):
 
     def close(self) -> None:
         with self.turn:
-            self.host.tpmsim_kept_close(self.handle)
-
-    def __del__(self) -> None:
-        if hasattr(self, "handle"):
-            self.host.tpmsim_kept_close(self.handle)
-
-
-HELD: weakref.WeakSet[KeptDevice] = weakref.WeakSet()
-FORKS, stopped = threading.RLock(), list[list[KeptDevice]]()
-
-
-def stop_calls() -> None:
-    """Waits for the calls of other threads. A fork during a call would leave the call unfinished in
-    the child.
-    """
-    FORKS.acquire()
-    stopped.append(sorted(HELD, key=id))
-    for device in stopped[-1]:
-        device.turn.acquire()
-
-
-def go_on() -> None:
-    """Lets the other threads continue after a fork."""
-    for device in stopped.pop():
-        device.turn.release()
-    FORKS.release()
-
-
-os.register_at_fork(before=stop_calls, after_in_parent=go_on, after_in_child=go_on)
+            self.is_closed = True
+            while self.idle:
+                self.idle.pop().close()

@@ -12,6 +12,7 @@ from typing import Callable
 
 import tpmsim
 from tpmsim.device.base import BadImage, BadState, DeviceEnded, Executed
+from tpmsim.device.forks import in_each_child, LOCKS, process
 from tpmsim.device.shipped import shipped
 from tpmsim.device.told import Device, NothingReplaced, Path, RANDOM_BYTES
 from tpmsim.model.image import BODY_AT, DIGEST_AT_END, HIERARCHIES
@@ -49,8 +50,9 @@ class ImageFile:
     is_left = False
 
     def __init__(self, path: str | os.PathLike[str]) -> None:
-        self.path, self.kept, self.process = pathlib.Path(path), b"", os.getpid()
+        self.path, self.kept, self.process = pathlib.Path(path), b"", process()
         flags = os.O_RDWR | os.O_CREAT | os.O_CLOEXEC | os.O_NOFOLLOW
+        LOCKS[self] = os.path.abspath(f"{self.path}.lock")
         self.lock = opened(f"{self.path}.lock", flags)
         HELD.add(self)
         if os.fstat(self.lock.fileno()).st_uid == os.geteuid():
@@ -64,7 +66,7 @@ class ImageFile:
     @property
     def is_here(self) -> bool:
         """Whether this process writes the file."""
-        return not self.is_left and self.process == os.getpid()
+        return not self.is_left and self.process == process()
 
     def read(self) -> bytes:
         """Returns the image, or no bytes if there is no file."""
@@ -108,8 +110,8 @@ class ImageFile:
 
     def leave(self) -> None:
         """Releases the lock without writing the file. A forked child may share the lock."""
-        is_here, self.is_left = self.is_here, True
-        if is_here:
+        self.is_left = True
+        if self.process == process() and not self.lock.closed:
             fcntl.flock(self.lock, fcntl.LOCK_UN)
         self.lock.close()
 
@@ -123,16 +125,12 @@ HELD: weakref.WeakSet[ImageFile] = weakref.WeakSet()
 
 
 def give_up_all() -> None:
-    """Leaves all files and locks to the parent of a forked child. The child shares the locks, and
-    would hold them even after the parent has ended. Python calls this in the child when it forks
-    itself. After a fork by a library in C, only a different process number identifies the child,
-    and in another namespace the number may be the same.
-    """
+    """Leaves all files and locks to the parent of a forked child."""
     for file in list(HELD):
         file.give_up()
 
 
-os.register_at_fork(after_in_child=give_up_all)
+in_each_child(give_up_all)
 
 
 NAME = "libtpmsim.so.0"
