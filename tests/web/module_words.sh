@@ -3,6 +3,8 @@
 tests=$(cd "$(dirname "$0")/.." && pwd -P)
 . "$tests/common/cases.sh"
 needs node python3
+node -e 'process.exit([].toSpliced ? 0 : 1)' ||
+    skip 'there is no node from 20.16 on'
 top=${tests%/*}
 module=$top/dist/tpmsim.wasm
 codes='0 1e 100 12f 14a 901 921 922 98e 9a2 18b 28b 1c4 2d5 4d4 a95 b84 1000 ffff'

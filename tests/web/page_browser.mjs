@@ -2,6 +2,7 @@
 // condition, and the status is 1 if a condition does not hold.
 
 import fs from "node:fs";
+import zlib from "node:zlib";
 import { ALT, Browser, CTRL, sleep } from "./browser.mjs";
 
 const address = process.argv[2];
@@ -132,19 +133,27 @@ async function names(page) {
   say(!nameless.length, "all that can be used has a name", nameless.map(role).join(" "));
 }
 
+/** Returns the text of a row in a section of docs/table. */
+function rowOf(file, heading, row) {
+  const table = fs.readFileSync(new URL(`../../docs/table/${file}`, import.meta.url), "utf8");
+  return row.exec(table.slice(table.indexOf(`\n## ${heading}\n`)))[1];
+}
+
 async function refusal(page) {
   await page.write("do Startup 0\ndo NV_DefineSpace OWNER pw:- - 01000001000b0002000200000008\ndo NV_Read OWNER 01000001 pw:- 8 0");
   const text = await page.text("detail");
   const link = await page.value("document.querySelector('#detail .why a').getAttribute('href')");
-  say(text.includes("Refused by check A3.") && text.includes("nvIndex has no WRITTEN"), "a refusal has its check and its sentence", text.slice(0, 200));
+  const sentence = rowOf("nv.md", "Checks of a read", /^3\. (.*)$/m);
+  say(text.includes("Refused by check A3.") && text.includes(sentence), "a refusal has its check and its sentence", `${sentence}; ${text.slice(0, 400)}`);
   say(text.includes("AUTHWRITE, AUTHREAD") || text.includes("OWNERWRITE"), "and the attributes of the index", text.slice(0, 300));
   say(link === "../docs/table/nv.md#checks-of-a-read", "and a link to its row", link);
   await page.value("document.querySelector('.why summary').click()");
   const rows = await page.text("detail");
-  say(rows.includes("The checks of NV_Read in the table") && rows.includes("Offset and size are together over dataSize"), "the checks of its command open", rows.slice(0, 400));
+  say(rows.includes("The checks of NV_Read in the table") && rows.includes(rowOf("nv_commands.md", "TPM2_NV_Read (14E)", /^- A5\. (.*)$/m)), "the checks of its command open", rows.slice(0, 400));
   await page.write("do Startup 0\ndo HierarchyChangeAuth OWNER pw:- 61\ndo HierarchyChangeAuth OWNER pw:62 -\n# end");
   const wrong = await page.text("detail");
-  const isFirst = wrong.indexOf("password given") < wrong.indexOf("Entry 1 is wrong: its password");
+  const refused = rowOf("order_of_refusals.md", "G9: entries that authorize", /^\| (.*) \| BAD_AUTH/m).replace("entry N", "Entry 1");
+  const isFirst = wrong.indexOf("password given") < wrong.indexOf(`${refused}: its password`);
   say(isFirst && !wrong.includes("policy session"), "a wrong password is shown first, with its own sentence", wrong.slice(0, 400));
   await click(page, "refusal");
   const note = await page.text("note");
@@ -321,6 +330,56 @@ async function links() {
   say(!wrong.length && (await two.text("counter")).includes(" of "), "bent fragments do no harm", wrong.join(" "));
 }
 
+/** Drops a file on the page whose bytes an expression gives, and then runs more code in the page. */
+const dropMade = (page, name, bytes, more = "") => page.value(`(async () => {
+  const data = new DataTransfer();
+  data.items.add(new File([${bytes}], ${JSON.stringify(name)}));
+  document.dispatchEvent(new DragEvent("drop", { dataTransfer: data, bubbles: true, cancelable: true }));
+  ${more}
+})()`);
+
+const noteBegins = (words) => `document.getElementById("note").textContent.startsWith(${JSON.stringify(words)})`;
+const TIMES = "for (let left = 200; left > 0; left -= 1) await new Promise((go) => setTimeout(go));";
+
+/** Checks that no link, file or pasted text makes the page wait, or lay out a text that is too long. */
+async function bounds() {
+  const fragment = `#s=${zlib.deflateRawSync("\n".repeat(1000000)).toString("base64url")}`;
+  const page = await open({}, fragment);
+  const note = await page.text("note");
+  say(note.startsWith("The script of this link has 1,000,000 lines. The page takes up to 50,000 lines"), "a link with a million lines is refused", note);
+  say((await script(page)).split("\n").length < 100, "and an example is shown instead");
+  await page.write("do Startup 0");
+  const text = await script(page);
+  await dropMade(page, "newlines", "new Uint8Array(2 ** 24).fill(10)");
+  await page.until(noteBegins("newlines has more than 8 MiB of text."));
+  await dropMade(page, "hex", '"80010000000c000001440000".repeat(600000)');
+  await page.until(noteBegins("hex has 600,000 commands and responses."));
+  say((await script(page)) === text, "files that are too long are refused, and the script stays");
+  const type = 'const area = document.getElementById("text"); area.value = "power"; area.dispatchEvent(new Event("input"));';
+  await dropMade(page, "hex", '"80010000000c000001440000".repeat(600000)', `await new Promise((go) => setTimeout(go)); ${type} ${TIMES}`);
+  say((await page.text("note")).startsWith("1 step, 0 refused"), "who types gives up the file that is being opened", await page.text("note"));
+  await dropMade(page, "hex.txt", '"80010000000c000001440000".repeat(2000)');
+  await page.until("document.documentElement.dataset.played === '2000'");
+  say((await script(page)) === "cmd 80010000000c000001440000\n".repeat(2000), "a capture of 2,000 commands in one line is opened");
+  await pastes(page);
+}
+
+/** Checks long texts that are pasted. The browser would insert them line by line. */
+async function pastes(page) {
+  await page.write("# before");
+  await page.key("Home");
+  await page.value("(globalThis.inserted = [], globalThis.command = document.execCommand, document.execCommand = (...words) => (inserted.push(words[0]), command.apply(document, words)))");
+  await paste(page, "80010000000c000001440000\n".repeat(300));
+  const wanted = `${"cmd 80010000000c000001440000\n".repeat(300)}# before`;
+  say((await script(page)) === wanted && (await page.value("inserted.join()")) === "insertHTML", "300 buffers are pasted at once", await page.value("inserted.join()"));
+  await page.value("document.execCommand('undo')");
+  say((await script(page)) === "# before", "and the browser can undo it", (await script(page)).slice(0, 100));
+  await paste(page, "\n".repeat(50001));
+  say((await script(page)) === "# before" && (await page.text("note")).startsWith("With the pasted text the script has 50,002 lines."), "a text of too many lines is not pasted", await page.text("note"));
+  await page.value("document.execCommand = command");
+  await page.write("do Startup 0");
+}
+
 const HOSTILE = "</script><script>globalThis.harm = 1</script><img src=x onerror=globalThis.harm=1>";
 
 async function hostile(page) {
@@ -457,6 +516,7 @@ async function all() {
   await hostile(page);
   await files(page);
   await links();
+  await bounds();
   await explained();
   await sizes();
   await speed();

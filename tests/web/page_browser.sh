@@ -1,6 +1,6 @@
 # Tests the page in a headless browser: examples, faults, keys, names for screen readers, lessons, a hostile
-# log, files, links, an explained log, sizes and times. The program plays the files that are downloaded from
-# the page.
+# log, files, links, texts that are too long, an explained log, sizes and times. The program plays the files
+# that are downloaded from the page.
 tests=$(cd "$(dirname "$0")/.." && pwd -P)
 . "$tests/common/cases.sh"
 needs chromium node python3

@@ -21,17 +21,19 @@ const WORDS = [
 ];
 const MOST_ENTRIES = 3;
 const MOST_CHOICES = 60;
+/** No command in words is longer. */
+const MOST_WORDS = 1 << 16;
 const FIRST_BYTES = { index: 0x01, hmac: 0x02, policy: 0x03 };
 
 /**
- * Returns the tokens of a command in words, each with its field.
+ * Returns the tokens of a command in words, each with its field. A text that is too long for a command is one token.
  * @param {string} words
  */
 export function tokensOf(words) {
   /** @type {Token[]} */
   const tokens = [];
   let at = 0;
-  for (const text of words.split(" ")) {
+  for (const text of words.length > MOST_WORDS ? [words] : words.split(" ")) {
     tokens.push({ text, at, sort: "parameter", field: -1 });
     at += text.length + 1;
   }

@@ -2,23 +2,31 @@
 // read before elements are changed, because the first read after a change makes the browser compute
 // the layout again.
 
+import { refusal, tooMuch } from "./bounds.js";
 import { faultPlace, faultWords } from "./coloured.js";
 import { byId, cut, make } from "./dom.js";
 import { formShown } from "./form.js";
 import { completionOf, tokensOf } from "./completion.js";
-import { pastedText } from "./pasted.js";
+import { countWords, pastedText } from "./pasted.js";
 import { ROW, Rows, TOP } from "./rows.js";
+import { forAWhile, inTurns } from "./turns.js";
 
 /**
  * @typedef {import("./rows.js").Told & {
- *   stateAtLine: (line: number) => import("./state.js").State, edited: () => void, moved: (line: number) => void,
+ *   stateAtLine: (line: number) => import("./state.js").State | null, edited: () => void,
+ *   moved: (line: number) => void, newText: () => () => boolean, refused: (words: string) => void,
  * }} Told what the editor asks the page for, and what it reports to the page
+ * @typedef {import("./pasted.js").Found} Found
  */
 
 const FAULT_WIDTH = 220;
 const CHOICES = { width: 440, height: 208, row: 24, edges: 10 };
 const EDGE = 8;
 const PAUSE = 700;
+const SLICE = 16;
+const PASTE_PART = "Paste a part of it.";
+/** Chromium inserts each line on its own, so that a thousand lines take a second. */
+const MOST_INSERTED = 50;
 
 export class Editor {
   /** @param {import("./device.js").Chip} chip @param {Told} told */
@@ -113,16 +121,43 @@ export class Editor {
   }
 
   /**
-   * Turns pasted buffers in hex into commands, if they are pasted at the start of a line or after its `cmd`.
+   * Turns pasted buffers in hex into commands, if they are pasted at the start of a line or after its `cmd`. The
+   * browser pastes any other text.
    * @param {ClipboardEvent} event
    */
   #paste(event) {
     const { line, column } = this.caret();
     const text = event.clipboardData?.getData("text") ?? "";
-    const found = pastedText(this.lines[line].slice(0, column), text);
-    if (found === null || found === text) return;
+    const work = pastedText(this.lines[line].slice(0, column), text);
+    const found = forAWhile(work, SLICE);
+    if (found.done && found.value.text === text && !this.#refuses(found.value)) return;
     event.preventDefault();
-    insertText(this.area, found);
+    if (found.done) this.#put(found.value);
+    else this.#putLater(work);
+  }
+
+  /** @param {Generator<void, Found>} work */
+  async #putLater(work) {
+    const found = await inTurns(work, this.told.newText());
+    if (found) this.#put(found);
+  }
+
+  /** @param {Found} found */
+  #put(found) {
+    if (!this.#refuses(found)) insertText(this.area, found.text);
+  }
+
+  /**
+   * Returns whether the script would be too long with a pasted text. If so, says it.
+   * @param {Found} found
+   */
+  #refuses({ text, count }) {
+    const { value, selectionStart, selectionEnd } = this.area;
+    const whole = value.slice(0, selectionStart) + text + value.slice(selectionEnd);
+    const fault = !text && count ? refusal("The pasted text has", countWords(count), PASTE_PART)
+      : tooMuch("With the pasted text the script has", whole, PASTE_PART);
+    if (fault) this.told.refused(fault);
+    return fault !== "";
   }
 
   #caretMoved() {
@@ -230,7 +265,8 @@ export class Editor {
     const text = this.lines[line] ?? "";
     const isAtEnd = column === text.length;
     const isOpened = isAsked || (isAtEnd && text.length > 0);
-    const found = isOpened && isAtEnd ? completionOf(this.chip, text, this.told.stateAtLine(line)) : null;
+    const state = isOpened && isAtEnd ? this.told.stateAtLine(line) : null;
+    const found = state ? completionOf(this.chip, text, state) : null;
     const typed = found ? text.slice(found.from) : "";
     const isSaid = found?.choices.some((it) => it.text === typed) && !isAsked;
     if (!found || !found.choices.length || isSaid) return this.closeChoices();
@@ -310,10 +346,23 @@ export class Editor {
  */
 function insertText(area, text) {
   area.focus();
-  if (document.execCommand("insertText", false, text)) return;
+  const { value, selectionStart, selectionEnd } = area;
+  if (isLong(text) && document.execCommand("insertHTML", false, escaped(text))) {
+    if (area.value === value.slice(0, selectionStart) + text + value.slice(selectionEnd)) return;
+    area.value = value;
+    area.setSelectionRange(selectionStart, selectionEnd);
+  } else if (document.execCommand("insertText", false, text)) {
+    return;
+  }
   area.setRangeText(text, area.selectionStart, area.selectionEnd, "end");
   area.dispatchEvent(new Event("input"));
 }
+
+/** @param {string} text */
+const isLong = (text) => text.split("\n", MOST_INSERTED).length === MOST_INSERTED;
+
+/** @param {string} text */
+const escaped = (text) => text.replace(/&/g, "&amp;").replace(/</g, "&lt;").replace(/>/g, "&gt;");
 
 /**
  * Returns whether the command in this line lacks words.

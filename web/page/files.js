@@ -1,15 +1,35 @@
 // Makes and reads links that contain a script, opens files, and downloads files.
 
+import { MOST_TEXT, OVER, refusal, tooMuch } from "./bounds.js";
 import { decoded, encoded, hexOf } from "./bytes.js";
 import { make } from "./dom.js";
-import { scriptOfBuffers } from "./pasted.js";
+import { countWords, MOST_BUFFER, scriptOfBuffers, scriptOfBytes } from "./pasted.js";
 import { onDevice } from "./script.js";
+import { inTurns } from "./turns.js";
+import { grouped } from "./words.js";
 
 const MOST_LINK = 60000;
+const LINK_FRONT = "#s=";
+/** The size of the compressed script in the longest link: four characters encode three bytes. */
+const MOST_PACKED = Math.floor(((MOST_LINK - LINK_FRONT.length) * 3) / 4);
 const MOST_FILE = 16 * 1024 * 1024;
-const MOST_SCRIPT = 4 * 1024 * 1024;
+const MOST_DEVICE = 1024 * 1024;
 /** The first byte of a command; no text begins with it. */
 const BINARY = 0x80;
+const CARRIAGE_RETURN = 0x0d;
+const NEWLINE = 0x0a;
+const PART = 1 << 16;
+/** A text has at most one control character in so many bytes. */
+const LEAST_BETWEEN_CONTROLS = 16;
+const NO_SCRIPT = "The link holds no script.";
+const OF_LINK = "The script of this link has";
+const ASK_FOR_FILE = "Ask for it as a file, and play it with tpmsim run.";
+const OPEN_PART = "Open a part of the file";
+
+/**
+ * @typedef {{text: string, note: string, isBad: boolean}} Opened the script in a file, and a message; if
+ *   `isBad`, the message says why the file is refused
+ */
 const FRAGMENT = /^#s=([\w-]+)(?:&n=(\d{1,7}))?$/;
 
 // TypeScript in Debian does not declare these two classes.
@@ -53,23 +73,29 @@ export const inflated = (bytes, most) => through(bytes, new DecompressionStream(
  * @param {string} text
  */
 export async function fragmentOf(text) {
-  const bytes = await through(encoded(text), new CompressionStream("deflate-raw"), MOST_SCRIPT);
-  const found = `#s=${packed(bytes)}`;
-  return found.length > MOST_LINK ? "" : found;
+  if (tooMuch("", text, "")) return "";
+  try {
+    return `${LINK_FRONT}${packed(await through(encoded(text), new CompressionStream("deflate-raw"), MOST_PACKED))}`;
+  } catch (error) {
+    if (error instanceof RangeError) return "";
+    throw error;
+  }
 }
 
 /**
- * Returns the script in a fragment, null if the fragment is empty, or "" if it contains no script.
+ * Returns the script in a fragment, or a sentence that says why the page does not take it; null if the fragment is
+ * empty.
  * @param {string} fragment
  */
 export async function scriptOf(fragment) {
   if (fragment.length < 2) return null;
   const found = FRAGMENT.exec(fragment);
-  if (!found) return "";
   try {
-    return decoded(await inflated(unpacked(found[1]), MOST_SCRIPT));
-  } catch {
-    return "";
+    const text = found ? decoded(await inflated(unpacked(found[1]), MOST_TEXT)) : "";
+    return { text, fault: text ? tooMuch(OF_LINK, text, ASK_FOR_FILE) : NO_SCRIPT };
+  } catch (error) {
+    const isLong = error instanceof RangeError;
+    return { text: "", fault: isLong ? refusal(OF_LINK, OVER, ASK_FOR_FILE) : NO_SCRIPT };
   }
 }
 
@@ -86,23 +112,95 @@ export function download(name, parts) {
   setTimeout(() => URL.revokeObjectURL(url), 10000);
 }
 
+/** @param {string} note @returns {Opened} */
+const refused = (note) => ({ text: "", note, isBad: true });
+
 /**
  * Returns the script in a file. For an image or a state text, returns the current script with the
- * device in that text.
- * @param {File} file @param {string} present
- * @returns {Promise<{text: string, note: string, isBad: boolean}>}
+ * device in that text. Returns null as soon as the script is not needed any more.
+ * @param {File} file @param {string} present @param {() => boolean} isNeeded
  */
-export async function opened(file, present) {
-  if (file.size > MOST_FILE) return { text: "", note: `${file.name} has more than 16 MiB.`, isBad: true };
+export async function opened(file, present, isNeeded) {
+  if (file.size > MOST_FILE) return refused(`${file.name} has more than 16 MiB.`);
   const bytes = new Uint8Array(await file.arrayBuffer());
-  const magic = decoded(bytes.subarray(0, 4));
-  if (magic === "TPMI") return onTop(present, "image", bytes, `The script begins on the device of the image ${file.name}.`);
-  if (magic === "TPMS") return onTop(present, "state", bytes, `The script goes on with the device of the state text ${file.name}.`);
-  if (bytes[0] === BINARY) return { text: scriptOfBuffers(hexOf(bytes)) ?? `cmd ${hexOf(bytes)}\n`, note: `${file.name} is open.`, isBad: false };
-  const text = decoded(bytes).replace(/\r\n?/g, "\n").replace(/\0+$/, "");
-  return { text: scriptOfBuffers(text) ?? text, note: `${file.name} is open.`, isBad: false };
+  return isNeeded() ? inTurns(scriptOfFile(file.name, bytes, present), isNeeded) : null;
 }
 
-/** @param {string} present @param {string} word @param {Uint8Array} bytes @param {string} note */
-const onTop = (present, word, bytes, note) =>
-  ({ text: onDevice(present, `# ${word} ${hexOf(bytes)}`), note, isBad: false });
+/**
+ * @param {string} name @param {Uint8Array} bytes @param {string} present
+ * @returns {Generator<void, Opened>}
+ */
+export function* scriptOfFile(name, bytes, present) {
+  const magic = decoded(bytes.subarray(0, 4));
+  if (magic === "TPMI") return onTop(present, "image", bytes, name, `The script begins on the device of the image ${name}.`);
+  if (magic === "TPMS") return onTop(present, "state", bytes, name, `The script goes on with the device of the state text ${name}.`);
+  if (bytes[0] === BINARY) return yield* scriptOfBinary(name, bytes);
+  const text = yield* textIn(bytes);
+  if (text === null) return refused(`${name} is neither a text nor an image, a state text or commands in binary.`);
+  if (!text && bytes.length) return refused(`${name} has only zeros.`);
+  const buffers = yield* scriptOfBuffers(text);
+  return buffers ? ofBuffers(name, buffers) : ofText(name, text, tooMuch(`${name} has`, text, `${OPEN_PART}, or play it with tpmsim run.`));
+}
+
+/** @param {string} name @param {string} text @param {string} fault @returns {Opened} */
+const ofText = (name, text, fault) => (fault ? refused(fault) : { text, note: `${name} is open.`, isBad: false });
+
+/** @param {string} name @param {import("./pasted.js").Found} found */
+const ofBuffers = (name, { text, count }) =>
+  ofText(name, text, text ? "" : refusal(`${name} has`, countWords(count), `${OPEN_PART}.`));
+
+/**
+ * Returns the script of a file that begins like a command in binary.
+ * @param {string} name @param {Uint8Array} bytes @returns {Generator<void, Opened>}
+ */
+function* scriptOfBinary(name, bytes) {
+  const { found, end } = yield* scriptOfBytes(bytes);
+  if (found) return ofBuffers(name, found);
+  if (bytes.length <= MOST_BUFFER) return ofText(name, `cmd ${hexOf(bytes)}\n`, "");
+  return refused(`${name} is no list of commands and responses: none begins at its offset ${grouped(end)}.`);
+}
+
+/**
+ * Returns the text that bytes encode, without zeros at its end, and with a newline at the end of each line.
+ * Returns null if too many of the bytes are control characters.
+ * @param {Uint8Array} bytes @returns {Generator<void, string | null>}
+ */
+function* textIn(bytes) {
+  const size = yield* sizeWithoutZeros(bytes);
+  const text = new Uint8Array(size);
+  let end = 0;
+  let controls = 0;
+  for (let at = 0; at < size; at += 1) {
+    if (at % PART === PART - 1) yield;
+    const byte = bytes[at];
+    if (byte === CARRIAGE_RETURN && bytes[at + 1] === NEWLINE) continue;
+    if (isControl(byte)) controls += 1;
+    text[end] = byte === CARRIAGE_RETURN ? NEWLINE : byte;
+    end += 1;
+  }
+  return controls * LEAST_BETWEEN_CONTROLS > size ? null : decoded(text.subarray(0, end));
+}
+
+/**
+ * Returns whether no text has this byte: it is neither printable nor white space nor an escape.
+ * @param {number} byte
+ */
+const isControl = (byte) => byte === 0x7f || (byte < 0x20 && byte !== 0x1b && (byte < 0x09 || byte > CARRIAGE_RETURN));
+
+/** @param {Uint8Array} bytes @returns {Generator<void, number>} */
+function* sizeWithoutZeros(bytes) {
+  let size = bytes.length;
+  for (; size > 0 && bytes[size - 1] === 0; size -= 1) if (size % PART === 0) yield;
+  return size;
+}
+
+/**
+ * @param {string} present @param {string} word @param {Uint8Array} bytes @param {string} name @param {string} note
+ * @returns {Opened}
+ */
+function onTop(present, word, bytes, name, note) {
+  if (bytes.length > MOST_DEVICE) return refused(`${name} is no ${word}: it has more than 1 MiB.`);
+  const text = onDevice(present, `# ${word} ${hexOf(bytes)}`);
+  const fault = tooMuch("With this device the script has", text, "Shorten the script first.");
+  return fault ? refused(fault) : { text, note, isBad: false };
+}

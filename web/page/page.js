@@ -1,5 +1,6 @@
 // The page: a script, the chosen step, and the device after that step.
 
+import { tooMuch } from "./bounds.js";
 import { areSame, hexNumber, hexOf } from "./bytes.js";
 import { faultName } from "./coloured.js";
 import { showDevice } from "./device_pane.js";
@@ -10,10 +11,11 @@ import { commandNumber, responseCode } from "./fields.js";
 import { download, fragmentOf, opened, scriptOf, stepOf } from "./files.js";
 import { plainCommand, plainResponse, responseOf } from "./plain.js";
 import { Run } from "./run.js";
-import { isAnswer, logOf, onDevice, readScript } from "./script.js";
+import { isAnswer, logOf, onDevice, readingOf, readScript } from "./script.js";
 import { measureStep, showNothing, showStep } from "./step_pane.js";
 import { drawMarks, showSteps } from "./timeline.js";
 import { Told } from "./told.js";
+import { forAWhile } from "./turns.js";
 import { Tutorial } from "./tutorial.js";
 import { usesShown } from "./uses.js";
 import { grouped, plural } from "./words.js";
@@ -21,7 +23,7 @@ import { grouped, plural } from "./words.js";
 /** @typedef {import("./device.js").Chip} Chip */
 
 const FIRST_EXAMPLE = "measured_boot";
-const SLICE = { first: 3, next: 16 };
+const SLICE = { read: 30, first: 30, edit: 3, next: 16 };
 const LINK_WAIT = 400;
 const OF_FILE = location.protocol === "file:" ? "This is a file of this computer: who opens the link needs tpmsim.html too. " : "";
 const LINK_WORDS = `${OF_FILE}The link holds all that the script shows, passwords too.`;
@@ -35,12 +37,18 @@ export class Page {
     this.run = new Run(chip);
     this.chosen = -1;
     this.script = readScript(chip, [""]);
-    this.told = new Told(JSON.parse(byId("log").textContent));
+    /** Whether `script` is the text of the editor, all of whose lines are read. */
+    this.isRead = true;
+    /** Whether the chosen step is not shown yet, because it is not played yet. */
+    this.isAwaited = false;
     /**
-     * The steps for which the script's recorded response differs from this device's.
-     * @type {number[]}
+     * What is done as soon as all events are played, unless the user does something else before.
+     * @type {(() => void) | null}
      */
-    this.parted = [];
+    this.later = null;
+    /** The number of texts that were loaded, opened or typed: work for an earlier text is given up. */
+    this.texts = 0;
+    this.told = new Told(JSON.parse(byId("log").textContent));
     /**
      * The current contents of the panes of the step and of the device.
      * @type {unknown[]}
@@ -65,7 +73,9 @@ export class Page {
       fault: (line) => this.script.faults.get(line),
       outcome: (line) => this.outcome(line),
       isChosen: (line) => this.script.steps[this.chosen]?.line === line,
-      stateAtLine: (line) => this.run.stateAt(this.countBefore(line)),
+      stateAtLine: (line) => this.stateAtLine(line),
+      newText: () => this.newText(),
+      refused: (words) => this.sayShortly(words, true),
       edited: () => this.edited(),
       moved: (line) => this.moved(line),
     });
@@ -74,11 +84,11 @@ export class Page {
     this.tutorial = new Tutorial(JSON.parse(byId("lessons").textContent), {
       load: (text, line) => {
         this.isOwn = false;
-        this.load(text, line);
+        this.load(text, { line });
       },
       outcomes: () => this.outcomes(),
       text: () => this.editor.text,
-      edit: (text, line) => this.load(text, line),
+      edit: (text, line) => this.load(text, { line }),
       onImage: () => onDevice(this.editor.text, `# image ${hexOf(this.run.imageAt(this.chosen + 1))}`),
     });
   }
@@ -101,14 +111,37 @@ export class Page {
     return low;
   }
 
-  /** @param {string} text @param {number} [line] the line to begin at @param {string} [opened] a message */
-  load(text, line = -1, opened = "") {
+  /**
+   * Gives up the work for an earlier text. Returns a function that says whether the work for the new text is still
+   * needed.
+   */
+  newText() {
+    this.texts += 1;
+    const { texts } = this;
+    return () => texts === this.texts;
+  }
+
+  /**
+   * Returns the device before a line; null if that line is not read or played yet.
+   * @param {number} line
+   */
+  stateAtLine(line) {
+    const count = this.countBefore(line);
+    return this.isRead && this.run.reaches(count, SLICE.first) ? this.run.stateAt(count) : null;
+  }
+
+  /**
+   * @param {string} text @param {{line?: number, step?: number}} first the line or the step to begin at
+   * @param {string} opened a message
+   */
+  load(text, { line, step } = {}, opened = "") {
+    this.newText();
     this.opened = opened;
     this.editor.text = text;
-    this.take();
-    const at = line < 0 ? 0 : this.countBefore(line + 1) - 1;
-    this.place(Math.max(0, at), true);
-    this.playOn();
+    this.take(() => {
+      this.place(step ?? Math.max(0, line === undefined ? 0 : this.countBefore(line + 1) - 1), true);
+      this.playOn();
+    });
   }
 
   /**
@@ -139,12 +172,34 @@ export class Page {
     byId("text").focus();
   }
 
-  /** Reads the text, and plays it up to the chosen event. */
-  take() {
-    this.script = readScript(this.chip, this.editor.lines);
-    this.told.complete(this.script.steps);
-    this.parted = [];
-    this.run.take(this.script.steps);
+  /**
+   * Reads the text, in slices if it is long, and then does what follows.
+   * @param {() => void} then
+   */
+  take(then) {
+    clearTimeout(this.slice);
+    this.later = null;
+    this.isRead = false;
+    this.script = { lines: this.editor.lines, steps: [], faults: new Map() };
+    const fault = tooMuch("The script has", this.editor.text, "Undo, or delete lines.");
+    if (!fault) return this.readOn(readingOf(this.chip, this.editor.lines), then);
+    this.say(fault, true);
+    return this.editor.paint();
+  }
+
+  /** @param {ReturnType<typeof readingOf>} reading @param {() => void} then */
+  readOn(reading, then) {
+    const read = forAWhile(reading, SLICE.read);
+    if (read.done) {
+      this.isRead = true;
+      this.script = read.value;
+      this.told.complete(this.script.steps);
+      this.run.take(this.script.steps);
+      return then();
+    }
+    this.editor.paint();
+    this.slice = setTimeout(() => this.readOn(reading, then));
+    return undefined;
   }
 
   /** Discards the explained log, and the device with which the log began. */
@@ -155,23 +210,27 @@ export class Page {
   }
 
   edited() {
+    this.newText();
     this.leaveLog();
     this.opened = "";
     this.isOwn = true;
     if (!this.tutorial.isOpen) this.loseFormer();
-    this.take();
-    this.chosen = this.nearest(this.editor.caret().line);
-    this.run.play(this.chosen, SLICE.first);
-    this.editor.paint();
-    this.editor.showForm();
-    this.show();
-    this.playOn();
-    this.keepLink();
+    this.take(() => {
+      this.chosen = this.nearest(this.editor.caret().line);
+      this.run.reaches(this.chosen + 1, SLICE.first);
+      this.run.play(-1, SLICE.edit);
+      this.editor.paint();
+      this.editor.showForm();
+      this.show();
+      this.playOn();
+      this.keepLink();
+    });
   }
 
   /** Plays the remaining events in slices, so that the page responds in between. */
   playOn() {
     clearTimeout(this.slice);
+    if (this.isAwaited && this.run.compared > this.chosen) this.show();
     if (this.run.isPlayed) return this.played();
     this.sayCount();
     this.slice = setTimeout(() => {
@@ -182,13 +241,23 @@ export class Page {
   }
 
   played() {
-    const { steps } = this.script;
-    this.parted = steps.flatMap(({ answers }, at) => (answers.some((given) => !isAnswer(given, this.run.answers[at])) ? [at] : []));
+    const { later } = this;
+    this.later = null;
     this.sayCount();
     this.editor.paint();
-    drawMarks(steps, this.notable());
+    drawMarks(this.script.steps, this.notable());
     this.tutorial.look();
     document.documentElement.dataset.played = String(this.script.steps.length);
+    later?.();
+  }
+
+  /**
+   * Does something as soon as all events are played.
+   * @param {() => void} act
+   */
+  whenPlayed(act) {
+    if (this.isRead && this.run.isPlayed) act();
+    else this.later = act;
   }
 
   /**
@@ -202,7 +271,7 @@ export class Page {
   /** @param {number} line */
   moved(line) {
     const step = this.nearest(line);
-    if (step === this.chosen) return;
+    if (!this.isRead || step === this.chosen) return;
     this.chosen = step;
     this.show();
     this.editor.paint();
@@ -213,6 +282,8 @@ export class Page {
 
   /** @param {number} step @param {boolean} isRevealed whether the editor goes there */
   choose(step, isRevealed) {
+    if (!this.isRead) return;
+    this.later = null;
     this.place(step, isRevealed);
     this.stepped();
   }
@@ -229,7 +300,6 @@ export class Page {
   /** @param {number} step @param {boolean} isRevealed whether the editor goes there */
   place(step, isRevealed) {
     this.chosen = Math.max(-1, Math.min(step, this.script.steps.length - 1));
-    if (this.chosen >= 0) this.run.play(this.chosen, 0);
     this.show();
     const line = this.script.steps[this.chosen]?.line;
     if (isRevealed && line !== undefined) this.editor.goTo(line);
@@ -245,13 +315,17 @@ export class Page {
 
   /** Returns the steps that are refused, or whose recorded response differs from this device's. */
   notable() {
-    return this.parted.length ? [...new Set([...this.run.refusals, ...this.parted])].sort((one, other) => one - other) : this.run.refusals;
+    const { refusals, parted } = this.run;
+    return parted.length ? [...new Set([...refusals, ...parted])].sort((one, other) => one - other) : refusals;
   }
 
-  /** Shows the chosen step and the device after it, unless they are already shown. */
+  /** Shows the chosen step and the device after it, unless they are already shown or not played yet. */
   show() {
     const { chosen, run, script, chip } = this;
+    if (!this.isRead) return;
     const step = script.steps[chosen];
+    this.isAwaited = !run.reaches(chosen + 1, SLICE.first);
+    if (this.isAwaited) return this.showAwaited();
     showSteps(script.steps, chosen, step ? this.outcome(step.line)?.text ?? "" : "");
     const before = run.stateAt(Math.max(0, chosen));
     const after = run.stateAt(chosen + 1);
@@ -266,6 +340,14 @@ export class Page {
     if (!step) return showNothing("The script has no command yet. Type one, such as do Startup 0, or open an example.");
     const uses = usesShown(run, chosen, (it) => this.choose(it, true));
     showStep(chip, { step, answer, line, before, after, uses, told, ...this.plainOf(chosen) });
+  }
+
+  /** Says that the chosen step is not played yet. */
+  showAwaited() {
+    const { chosen, script } = this;
+    this.shown = [];
+    showSteps(script.steps, chosen, "not played yet");
+    showNothing(`The page plays the ${plural(chosen, "step")} before this one.`);
   }
 
   /**
@@ -312,10 +394,10 @@ export class Page {
     const refused = run.refusals.length;
     const parts = [plural(script.steps.length, "step"), `${grouped(refused)} refused`];
     if (!run.isPlayed) parts.push(`playing, at ${grouped(run.answers.length)}`);
-    if (this.parted.length) parts.push(`${grouped(this.parted.length)} answered otherwise`);
+    if (run.parted.length) parts.push(`${grouped(run.parted.length)} answered otherwise`);
     const bad = script.faults.size;
     if (bad) parts.push(`${plural(bad, "line")} that cannot be read, left out`);
-    byId("refusal").disabled = !refused && !this.parted.length;
+    byId("refusal").disabled = !refused && !run.parted.length;
     this.say(`${this.opened} ${parts.join(", ")}`.trim(), false);
     if (!this.opened) byId("note").setAttribute("aria-live", "off");
   }
@@ -344,12 +426,15 @@ export class Page {
     this.choose(Math.max(0, this.chosen + by), true);
   }
 
-  /** @param {number} by */
+  /**
+   * Chooses the next refusal, or the previous one; if necessary, as soon as all events are played.
+   * @param {number} by @returns {void}
+   */
   goToRefusal(by) {
-    this.run.play(this.script.steps.length, 0);
-    const refusals = this.notable();
+    const refusals = this.isAwaited ? [] : this.notable();
     const found = by > 0 ? refusals.find((it) => it > this.chosen) : refusals.filter((it) => it < this.chosen).at(-1);
     if (found !== undefined) return this.choose(found, true);
+    if (!this.isRead || !this.run.isPlayed) return this.whenPlayed(() => this.goToRefusal(by));
     return this.sayShortly(by > 0 ? "No refusal comes after this step." : "No refusal comes before this step.");
   }
 
@@ -360,14 +445,12 @@ export class Page {
 
   // Files and links.
 
-  /** Shows the initial script of the page. */
+  /** Shows the initial script of the page, and keeps a message about the link, if there is one. */
   greet() {
-    const isBad = byId("note").classList.contains("bad");
-    this.load(exampleOf(FIRST_EXAMPLE), 0);
-    this.run.play(this.script.steps.length, 0);
-    this.playOn();
-    if (isBad) this.say("The link holds no script.", true);
-    else this.say("A proved TPM 2.0, in this page. New to it? Take the tutorial.", false);
+    const fault = byId("note").classList.contains("bad") ? byId("note").textContent : "";
+    this.load(exampleOf(FIRST_EXAMPLE), { line: 0 });
+    this.playAll();
+    this.whenPlayed(() => this.say(fault || "A proved TPM 2.0, in this page. New to it? Take the tutorial.", fault !== ""));
   }
 
   /**
@@ -375,12 +458,20 @@ export class Page {
    * @param {import("./told.js").Log} log
    */
   openLog(log) {
-    if (this.told.start) this.run.begin(this.told.start);
     document.title = `${log.name}, explained`;
-    this.load(log.script, log.line - 1);
-    this.run.play(this.script.steps.length, 0);
+    const fault = tooMuch("The log has", log.script, "Run tools/explain.py without --html, or on a part of the log.");
+    if (fault) return this.say(fault, true);
+    if (this.told.start) this.run.begin(this.told.start);
+    this.load(log.script, { line: log.line - 1 });
+    this.playAll();
+    return this.whenPlayed(() => this.say(log.summary, false));
+  }
+
+  /** Plays a short script at once, and begins with a long one. */
+  playAll() {
+    if (!this.isRead) return;
+    this.run.reaches(this.script.steps.length, SLICE.first);
     this.playOn();
-    this.say(log.summary, false);
   }
 
   keepLink() {
@@ -412,43 +503,53 @@ export class Page {
     }
   }
 
+  /** Opens the script in the address. Returns whether there is one, or another script was opened meanwhile. */
   async openLink() {
-    const text = await scriptOf(location.hash);
-    if (text === "") this.say("The link holds no script.", true);
-    if (!text) return false;
+    const isNeeded = this.newText();
+    const found = await scriptOf(location.hash);
+    if (!isNeeded()) return true;
+    if (found?.fault) this.say(found.fault, true);
+    if (!found || found.fault) return false;
     const step = stepOf(location.hash);
-    if (text !== this.editor.text) {
+    if (found.text !== this.editor.text) {
       this.keepFormer();
       this.isOwn = true;
-      this.load(text);
+      this.load(found.text, { step: Math.max(0, step) });
+    } else if (step >= 0) {
+      this.place(step, true);
     }
-    if (step >= 0) this.place(step, true);
     return true;
   }
 
   /** @param {File | undefined} file */
   async open(file) {
     if (!file) return;
-    const { text, note, isBad } = await opened(file, this.editor.text);
-    if (!isBad) {
-      this.tutorial.close();
-      this.leaveLog();
-      this.keepFormer();
-      this.isOwn = true;
-      this.load(text, -1, note);
-      this.keepLink();
-    }
-    if (isBad) this.say(note, isBad);
+    const isNeeded = this.newText();
+    this.sayShortly(`The page opens ${file.name}.`);
+    const found = await opened(file, this.editor.text, isNeeded);
+    if (!found) return;
+    const { text, note, isBad } = found;
+    if (isBad) return this.say(note, true);
+    this.tutorial.close();
+    this.leaveLog();
+    this.keepFormer();
+    this.isOwn = true;
+    this.load(text, {}, note);
+    this.keepLink();
   }
 
   /** @param {string} what */
   download(what) {
-    const { run, script, chosen } = this;
     if (what === "script") return download("script.tpm", [this.editor.text]);
     if (what === "report") return this.report();
+    return this.whenPlayed(() => this.save(what));
+  }
+
+  /** @param {string} what */
+  save(what) {
+    const { run, script, chosen } = this;
     if (what === "image") return download("tpm.image", [run.imageAt(chosen + 1)]);
     if (what === "state") return download("tpm.state", [run.textAt(chosen + 1)]);
-    run.play(script.steps.length, 0);
     if (what === "journal") return download("journal", run.journal());
     return download("log.tpm", [logOf(script, run.answers)]);
   }

@@ -4,7 +4,7 @@
 
 import { decoded } from "./bytes.js";
 import { responseCode } from "./fields.js";
-import { FIRST_RANDOM, isSameStep } from "./script.js";
+import { FIRST_RANDOM, isAnswer, isSameStep } from "./script.js";
 import { readState } from "./state.js";
 
 /**
@@ -15,6 +15,7 @@ import { readState } from "./state.js";
  */
 
 const EVERY = 64;
+const LEAST = 64;
 const MOST_STATES = 256;
 const PLAYED = 0;
 const SHOWN = 1;
@@ -37,6 +38,13 @@ export class Run {
      */
     this.refusals = [];
     /**
+     * The numbers of the events whose response the script records otherwise.
+     * @type {number[]}
+     */
+    this.parted = [];
+    /** The number of events that are played, and whose recorded responses are compared. */
+    this.compared = 0;
+    /**
      * The state text before each 64th event.
      * @type {Uint8Array[]}
      */
@@ -58,6 +66,8 @@ export class Run {
     this.steps = [];
     this.answers = [];
     this.refusals = [];
+    this.parted = [];
+    this.compared = 0;
     this.kept = [this.chip.snapshot(PLAYED)];
     this.chip.restore(SHOWN, this.kept[0]);
     this.shown = 0;
@@ -65,7 +75,7 @@ export class Run {
   }
 
   get isPlayed() {
-    return this.answers.length === this.steps.length;
+    return this.compared === this.steps.length;
   }
 
   /**
@@ -75,11 +85,16 @@ export class Run {
   take(steps) {
     const most = Math.min(this.answers.length, steps.length);
     let same = 0;
-    while (same < most && isSameStep(this.steps[same], steps[same])) same += 1;
+    let recorded = 0;
+    for (; same < most && isSameStep(this.steps[same], steps[same]); same += 1) {
+      if (recorded === same && hasSameAnswers(this.steps[same], steps[same])) recorded += 1;
+    }
     this.steps = steps;
+    this.compared = Math.min(this.compared, recorded);
+    cutFrom(this.parted, this.compared);
     if (same === this.answers.length) return;
     this.answers.length = same;
-    while ((this.refusals.at(-1) ?? -1) >= same) this.refusals.pop();
+    cutFrom(this.refusals, same);
     const from = Math.floor(same / EVERY);
     this.kept.length = from + 1;
     this.chip.restore(PLAYED, this.kept[from]);
@@ -89,19 +104,37 @@ export class Run {
   }
 
   /**
-   * Plays up to the event `least`, and then continues for at most this many milliseconds.
-   * @param {number} least @param {number} milliseconds
+   * Plays up to the event `least`, and then continues for at most this many milliseconds, until `most` events are
+   * played.
+   * @param {number} least @param {number} milliseconds @param {number} [most]
    */
-  play(least, milliseconds) {
+  play(least, milliseconds, most = this.steps.length) {
     const end = performance.now() + milliseconds;
-    while (!this.isPlayed) {
-      const at = this.answers.length;
+    while (this.compared < most) {
+      const at = this.compared;
       if (at > least && at % 16 === 0 && performance.now() > end) return;
-      if (at % EVERY === 0 && at) this.kept[at / EVERY] = this.chip.snapshot(PLAYED);
-      const answer = this.#execute(PLAYED, this.steps[at]);
-      if (responseCode(answer.response)) this.refusals.push(at);
-      this.answers.push(answer);
+      if (at === this.answers.length) this.#answer(at);
+      if (this.steps[at].answers.some((given) => !isAnswer(given, this.answers[at]))) this.parted.push(at);
+      this.compared += 1;
     }
+  }
+
+  /** @param {number} at the first event that is not played */
+  #answer(at) {
+    if (at % EVERY === 0 && at) this.kept[at / EVERY] = this.chip.snapshot(PLAYED);
+    const answer = this.#execute(PLAYED, this.steps[at]);
+    if (responseCode(answer.response)) this.refusals.push(at);
+    this.answers.push(answer);
+  }
+
+  /**
+   * Plays until `count` events are played, but only some events and then for at most this many milliseconds. Returns
+   * whether `count` events are played.
+   * @param {number} count @param {number} milliseconds
+   */
+  reaches(count, milliseconds) {
+    this.play(Math.min(count, this.compared + LEAST) - 1, milliseconds, count);
+    return this.compared >= count;
   }
 
   /** @param {number} device @param {Step} step @returns {Answer} */
@@ -181,4 +214,19 @@ export class Run {
     this.shown = -1;
     return parts;
   }
+}
+
+/**
+ * Returns whether a script records the same responses to two events.
+ * @param {Step} one @param {Step} other
+ */
+const hasSameAnswers = (one, other) =>
+  one.answers.length === other.answers.length && one.answers.every((it, at) => it === other.answers[at]);
+
+/**
+ * Removes the numbers from `least` on at the end of a rising list.
+ * @param {number[]} numbers @param {number} least
+ */
+function cutFrom(numbers, least) {
+  while ((numbers.at(-1) ?? -1) >= least) numbers.pop();
 }

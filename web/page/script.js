@@ -1,7 +1,9 @@
 // Reads the lines of a script: the meaning of each line, and the resulting events.
 
+import { MOST_LINES } from "./bounds.js";
 import { areSame, bytesOf, hexNumber, hexOf } from "./bytes.js";
 import { RANDOM_BYTES } from "./device.js";
+import { atOnce } from "./turns.js";
 
 /**
  * An event: the start of a device, a power cycle, or a command with the time that elapsed before it.
@@ -16,7 +18,10 @@ import { RANDOM_BYTES } from "./device.js";
  * @typedef {import("./device.js").ReadLine} ReadLine
  */
 
-const MOST_KEPT = 50000;
+const MOST_KEPT = 2 * MOST_LINES;
+const PART = 1 << 9;
+/** A longer comment contains no response: a response has at most 4,096 bytes. */
+const MOST_ANSWER = 1 << 14;
 const NOTHING = new Uint8Array(0);
 const ZEROS = new Uint8Array(RANDOM_BYTES);
 
@@ -62,6 +67,12 @@ function lineOf(chip, text, waited) {
 }
 
 /**
+ * Returns the response, the trace or the response code that a comment records, or null.
+ * @param {string} line
+ */
+const givenIn = (line) => (line.length > MOST_ANSWER ? null : GIVEN.exec(line)?.[1] ?? null);
+
+/**
  * Returns whether the responses precede their commands. If they do, the first response precedes all
  * commands.
  * @param {string[]} lines
@@ -69,7 +80,7 @@ function lineOf(chip, text, waited) {
 function answersComeFirst(lines) {
   for (const line of lines) {
     if (line.startsWith("cmd") || line.startsWith("do ")) return false;
-    if (GIVEN.test(line)) return true;
+    if (givenIn(line) !== null) return true;
   }
   return false;
 }
@@ -103,11 +114,11 @@ class Reading {
     const mark = MARK.exec(line);
     if (mark) this.mark(mark[1]);
     if (line === COMPLETED) this.completes = true;
-    const given = head || mark ? null : GIVEN.exec(line);
-    if (!given) return;
+    const given = head || mark ? null : givenIn(line);
+    if (given === null) return;
     const last = this.steps[this.steps.length - 1];
-    if (this.isBefore) this.said.push(given[1]);
-    else if (last?.kind === "command") last.answers.push(given[1]);
+    if (this.isBefore) this.said.push(given);
+    else if (last?.kind === "command") last.answers.push(given);
   }
 
   /**
@@ -159,12 +170,21 @@ class Reading {
   }
 }
 
-/** @param {import("./device.js").Chip} chip @param {string[]} lines @returns {Script} */
-export function readScript(chip, lines) {
+/**
+ * Reads a script in parts of a few hundred lines.
+ * @param {import("./device.js").Chip} chip @param {string[]} lines @returns {Generator<void, Script>}
+ */
+export function* readingOf(chip, lines) {
   const reading = new Reading(chip, lines);
-  for (let at = 0; at < lines.length; at += 1) reading.take(at);
+  for (let at = 0; at < lines.length; at += 1) {
+    if (at % PART === PART - 1) yield;
+    reading.take(at);
+  }
   return { lines, steps: reading.steps, faults: reading.faults };
 }
+
+/** @param {import("./device.js").Chip} chip @param {string[]} lines */
+export const readScript = (chip, lines) => atOnce(readingOf(chip, lines));
 
 /**
  * Returns whether two events are the same, except for their positions in the script.
@@ -176,16 +196,21 @@ export function isSameStep(one, other) {
     && areSame(one.buffer, other.buffer) && areSame(one.random, other.random);
 }
 
-const FNV = { basis: 0xcbf29ce484222325n, prime: 0x100000001b3n, bits: 64 };
+const FNV = { high: 0xcbf29ce4, low: 0x84222325, primeLow: 0x1b3, primeHigh: 0x100, half: 2 ** 32 };
 
 /**
- * Returns the checksum with which a journal records a response: 64-bit FNV-1a.
+ * Returns the checksum with which a journal records a response: 64-bit FNV-1a, computed in two halves.
  * @param {Uint8Array} bytes
  */
 function sumOf(bytes) {
-  let sum = FNV.basis;
-  for (const byte of bytes) sum = BigInt.asUintN(FNV.bits, (sum ^ BigInt(byte)) * FNV.prime);
-  return sum.toString(16).padStart(16, "0");
+  let { high, low } = FNV;
+  for (const byte of bytes) {
+    const mixed = (low ^ byte) >>> 0;
+    const product = mixed * FNV.primeLow;
+    high = (high * FNV.primeLow + mixed * FNV.primeHigh + Math.floor(product / FNV.half)) >>> 0;
+    low = product >>> 0;
+  }
+  return hexNumber(high, 8) + hexNumber(low, 8);
 }
 
 /**
@@ -207,7 +232,7 @@ export function logOf(script, answers) {
   const of = new Map(script.steps.map((step, at) => [step.line, answers[at]]));
   const found = [];
   for (const [at, line] of script.lines.entries()) {
-    if (GIVEN.test(line) || MARK.test(line) || script.faults.has(at)) continue;
+    if (givenIn(line) !== null || MARK.test(line) || script.faults.has(at)) continue;
     found.push(line);
     const answer = of.get(at);
     if (answer && answer.response.length) found.push(`# ${hexOf(answer.response)}`);
