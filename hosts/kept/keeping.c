@@ -206,10 +206,10 @@ static bool refuse_otherwise(struct keeping *keeping, struct reason *reason) {
     char by[WRITTEN_ROOM], said[512];
     written_by(keeping->buffer, keeping->read, by);
     snprintf(said, sizeof said,
-             "was written by %s of the library, which answers otherwise than this one, and stays "
-             "as it is: power-cycle the device with the tpmsim-power of that version, or drop all "
-             "%zu commands since the last power cycle or checkpoint with tpmsim-power --cut",
-             by, commands_after_head(keeping));
+             "%s %s of the library, which answers otherwise than this one, and stays as it is: "
+             "power-cycle the device with the tpmsim-power of that version, or drop all %zu "
+             "commands since the last power cycle or checkpoint with tpmsim-power --cut",
+             "was written by", by, commands_after_head(keeping));
     refuse(reason, keeping->folder.path, JOURNAL_NAME, said, 0);
     reason->told = TPMSIM_OTHERWISE;
     return false;

@@ -62,11 +62,17 @@ static inline void fold_opens(const uint8_t *head, size_t size) {
          "a head is not opened");
 }
 
-/* Writes the head of a checkpoint, which contains the device's whole state, and returns its
- * size. */
+/* The factor of the numbers that encode versions in heads. */
+enum { VERSION_FACTOR = 251 };
+
+/* Writes the head that a keeper writes for the device, which contains its whole state, and returns
+ * its size. The head of a checkpoint has another word at its start, of the same size. */
 static inline size_t fold_shows(void) {
+    char word[sizeof "# tpmsim journal 2 "];
     size_t size = tpmsim_journal_checkpoint(&fold.device, 0, head_text, sizeof head_text);
     must(size <= sizeof head_text, "a head's size");
+    snprintf(word, sizeof word, "# tpmsim v%08x ", VERSION_FACTOR * TPMSIM_VERSION_NUMBER);
+    memcpy(head_text, word, sizeof word - 1);
     return size;
 }
 

@@ -18,7 +18,8 @@ for turn in range(3):
     left.write(b"turn %3d" % turn)
     print("the bound session authorizes, and its answer has the right HMAC")
     if turn < 2:
-        succeeded(device, left.loads[turn])
+        # The context of the unbound session comes first: a saved session cannot be used.
+        succeeded(device, left.loads[1 - turn])
         print("a context is loaded")
     print(left.tpm.send(left.tpm.reading(0x01000001, 8, left.free))["data"])
 print(left.tpm.send(left.tpm.unsealing(left.data, left.judged))["outData"])
