@@ -15,7 +15,7 @@ fi
 # unit_tests PATTERN FILE: runs the unit tests in the files that match PATTERN, and writes their output to
 # FILE.
 unit_tests() {
-    TPMSIM=$program python3 -W error::ResourceWarning -m unittest discover -v -s "${tests%/*}/python/tests" \
+    TPMSIM=$program python3 -W error::ResourceWarning -m unittest discover --verbose -s "${tests%/*}/python/tests" \
         -t "${tests%/*}/python/tests" -p "$1" 2>"$2"
 }
 
@@ -34,6 +34,6 @@ if [ "$status" -ne 0 ]; then
 fi
 # If a tool is missing, the unit tests that use it are skipped. Then this whole test counts as skipped.
 needs cc nm openssl swtpm tpm2_getrandom
-cat "$room/error" "$room/error_first" | sed -n "s/.*[.][.][.] skipped/skipped:/p" | grep -v "'there is no pytest'$" |
-    grep -v "'there is no cryptography'$" | sort | uniq -c
+cat "$room/error" "$room/error_first" | sed -n "s/.*[.][.][.] skipped 'there is no/missing:/p" |
+    grep -v -e " pytest'$" -e " cryptography'$" | sort -u
 echo 'all unit tests pass'
