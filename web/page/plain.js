@@ -73,10 +73,14 @@ export const plainCommand = (run, at) => new Decryption(run, 0).command(at);
 export const plainResponse = (run, at) => new Decryption(run, 0).response(at);
 
 class Decryption {
-  /** @param {Run} run @param {number} starts the number of nested session starts */
-  constructor(run, starts) {
+  /**
+   * @param {Run} run @param {number} starts the number of nested session starts
+   * @param {Map<number, Session>} known the sessions that were computed already, by the step that starts them
+   */
+  constructor(run, starts, known = new Map()) {
     this.run = run;
     this.starts = starts;
+    this.known = known;
   }
 
   /** @param {number} at @returns {Plain | null} */
@@ -229,8 +233,15 @@ class Decryption {
    * @param {number} step @returns {Session}
    */
   #started(step) {
+    const found = this.known.get(step) ?? this.#computed(step);
+    this.known.set(step, found);
+    return found;
+  }
+
+  /** @param {number} step @returns {Session} */
+  #computed(step) {
     need(this.starts < MOST_STARTS, "too many sessions were started by others");
-    const inner = new Decryption(this.run, this.starts + 1);
+    const inner = new Decryption(this.run, this.starts + 1, this.known);
     const asked = namedFields(bytesIn(inner.command(step), this.run.steps[step].buffer), fieldsOfCommand);
     const answered = namedFields(bytesIn(inner.response(step), responseOf(this.run, step)), (it) => fieldsOfResponse(commandNumber(this.run.steps[step].buffer), it, String));
     const hashNumber = numberOf(asked("authHash"));
