@@ -1,6 +1,6 @@
 # Runs tools/release.sh in a copy of the repository whose dist/ appears to be built from its sources. Checks
 # what prevents a release, and which files a release consists of. The copy contains only the two crates from
-# which dist/ is built.
+# which dist/ is built, and the file that contains the version in the heads of journals.
 tests=$(cd "$(dirname "$0")/.." && pwd -P)
 . "$tests/common/cases.sh"
 needs git dpkg-deb python3
@@ -11,6 +11,7 @@ printf '#!/bin/sh\nexit 1\n' >none/cc
 chmod +x none/cc
 (cd "$top" && tar cf - --exclude=out --exclude=must-fail --exclude=__pycache__ CHANGELOG.md Makefile \
     README.md HANDLES crates/tpmsim crates/tpmsim_library crates.txt hosts dist \
+    crates/tpm_journal_text/src/head.rt \
     docs examples library packaging python/packing python/pyproject.toml python/tpmsim \
     js/package.json rust/Cargo.toml tools tpmsim .gitignore) |
     tar xf - -C copy
