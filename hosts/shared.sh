@@ -26,7 +26,7 @@ fail() {
 # Compiles and links the object in the folder of the sources, so that no absolute path gets into the result.
 compile() (
     beside=$PWD/$distribution
-    cd hosts/kept && "$compiler" -std=c11 -O2 -fPIC -Wall -Wextra -Werror -Wconversion -I../../library \
+    cd hosts/kept && "$compiler" -std=c11 -O2 -fPIC -Wall -Wextra -Werror -Wconversion -I../../clients/c \
         -shared -Wl,-soname,libtpmsim-kept.so.0 -Wl,--version-script=tpmsim_kept.map \
         -Wl,--build-id=none -Wl,-z,defs -Wl,-z,relro -Wl,-z,now "-Wl,-rpath,\$ORIGIN" -o "$made" ./*.c \
         "$beside/libtpmsim.so.0" && "$strip" --strip-unneeded "$made" && chmod 644 "$made"

@@ -33,9 +33,9 @@ compile_here() {
         verdict=$(grep -x "logic=proved .* target=$target .*" "$log") && echo "$1: $verdict"
 }
 
-# Compiles the nine functions of glue/, which the kit contains only for x86-64.
+# Compiles the nine functions of tools/glue/, which the kit contains only for x86-64.
 compile_glue() {
-    for source in glue/*.c; do
+    for source in tools/glue/*.c; do
         # shellcheck disable=SC2086 # word splitting is intended
         "${prefix}gcc" $flags -c "$source" -o "$work/$(basename "$source" .c).o" >>"$log" 2>&1 ||
             return 1
@@ -52,7 +52,7 @@ link_library() (
     mkdir "$work/objects" && cd "$work/objects" && "${prefix}ar" x ../exports.a && cp ../heap.o . &&
         "${prefix}ar" rcsD ../libtpmsim.a ./*.o &&
         "${prefix}gcc" -shared -nostartfiles -Wl,-soname,libtpmsim.so.0 -Wl,--build-id=none \
-            -Wl,-z,defs -Wl,-z,relro -Wl,-z,now "-Wl,--version-script=$top/library/tpmsim.map" \
+            -Wl,-z,defs -Wl,-z,relro -Wl,-z,now "-Wl,--version-script=$top/clients/c/tpmsim.map" \
             -o ../libtpmsim.so.0 ./*.o && "${prefix}strip" --strip-unneeded ../libtpmsim.so.0 &&
         chmod 644 ../libtpmsim.*
 ) >>"$log" 2>&1
@@ -71,7 +71,7 @@ tell_proved() {
 # Moves all files to dist/aarch64.
 deliver() {
     mkdir -p "$folder" && mv "$work/tpmsim" "$work/libtpmsim.a" "$work/libtpmsim.so.0" "$folder/" &&
-        cp library/tpmsim.h library/tpmsim.hpp library/tpmsim.pc "$folder/" && tell_proved >"$folder/PROVED"
+        cp clients/c/tpmsim.h clients/c/tpmsim.hpp clients/c/tpmsim.pc "$folder/" && tell_proved >"$folder/PROVED"
 }
 
 for tool in rt rattle "${prefix}gcc" "${prefix}ar" "${prefix}strip"; do

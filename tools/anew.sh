@@ -24,8 +24,8 @@ if [ "$write" ] && [ "$write" != --write ]; then
 fi
 work=$(mktemp -d) || exit 1
 trap 'rm -rf "$work"' EXIT
-mkdir "$work/tools" && cp -R "$top/tests" "$top/examples" "$top/python" "$work" &&
-    cp "$top/tools/python.sh" "$work/tools" || exit 1
+mkdir "$work/tools" "$work/clients" && cp -R "$top/tests" "$top/examples" "$work" &&
+    cp -R "$top/clients/python" "$work/clients" && cp "$top/tools/python.sh" "$work/tools" || exit 1
 export PYTHONPYCACHEPREFIX="$work/compiled"
 cd "$work" || exit 1
 

@@ -64,7 +64,7 @@ shell_scripts() {
 
 read_shell() {
     shell_scripts | xargs -P "$(getconf _NPROCESSORS_ONLN)" -n 12 shellcheck -s sh &&
-        shellcheck -s bash packaging/tpmsim.bash
+        shellcheck -s bash tools/packaging/tpmsim.bash
 }
 
 read_python() {

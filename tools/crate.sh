@@ -22,7 +22,7 @@ command -v cargo >"$work/found" || fail 'there is no cargo'
 # Cargo writes files next to those that it reads. Therefore it runs in a copy of the package, which contains the
 # library for each machine.
 mkdir -p "$work/rust/native/x86_64" "$work/rust/native/aarch64" || fail 'there is no folder for a copy'
-{ (cd rust && cp -r Cargo.toml README.md build.rs examples src tests "$work/rust/") &&
+{ (cd clients/rust && cp -r Cargo.toml README.md build.rs examples src tests "$work/rust/") &&
     cp dist/libtpmsim.a "$work/rust/native/x86_64/" &&
     cp dist/aarch64/libtpmsim.a "$work/rust/native/aarch64/"; } || fail 'the package is not copied'
 unset TPMSIM_LIB_DIR

@@ -31,28 +31,28 @@ size() {
     find "$root/usr" -type f -printf '%s\n' | awk '{ sum += int(($1 + 1023) / 1024) } END { print sum }'
 }
 
-# Prints packaging/control with its placeholders replaced with the data of this package.
+# Prints tools/packaging/control with its placeholders replaced with the data of this package.
 control() {
     sed -e "s|@VERSION@|$version|" -e "s|@MAINTAINER@|$maintainer|" -e "s|@SIZE@|$(size)|" \
-        -e "s|@PURPOSE@|$purpose|" -e "s|@ARCHITECTURE@|$architecture|" packaging/control
+        -e "s|@PURPOSE@|$purpose|" -e "s|@ARCHITECTURE@|$architecture|" tools/packaging/control
 }
 
 # Adds the files that Debian requires in every package.
 describe() {
     documents=$root/usr/share/doc/tpmsim
     mkdir "$root/DEBIAN" || return 1
-    install -D -m 644 packaging/copyright "$documents/copyright"
+    install -D -m 644 tools/packaging/copyright "$documents/copyright"
     printf 'tpmsim (%s) unstable; urgency=low\n\n  * As CHANGELOG.md says.\n\n -- %s  %s\n' \
         "$version" "$maintainer" "$(LC_ALL=C date -u -R -d "@$SOURCE_DATE_EPOCH")" |
         gzip -9n >"$documents/changelog.gz"
     control >"$root/DEBIAN/control" || return 1
-    install -m 755 packaging/postinst packaging/prerm "$root/DEBIAN/" || return 1
+    install -m 755 tools/packaging/postinst tools/packaging/prerm "$root/DEBIAN/" || return 1
     echo 'activate-noawait ldconfig' >"$root/DEBIAN/triggers"
     for library in libtpmsim libtpmsim-kept libtss2-tcti-tpmsim; do
         [ ! -e "$root/usr/lib/$multiarch/$library.so.0" ] ||
             echo "$library 0 tpmsim (>= $version)" >>"$root/DEBIAN/shlibs"
     done
-    install -D -m 644 packaging/lintian "$root/usr/share/lintian/overrides/tpmsim"
+    install -D -m 644 tools/packaging/lintian "$root/usr/share/lintian/overrides/tpmsim"
     (cd "$root" && find usr -type f -print0 | LC_ALL=C sort -z | xargs -0 md5sum) \
         >"$root/DEBIAN/md5sums"
 }

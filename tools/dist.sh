@@ -51,7 +51,7 @@ faults_of_library() {
     is_proved 'library shared object' "$(checksum <"$shared")" ||
         echo "$shared is not the shared object that $proved names"
     for file in tpmsim.h tpmsim.hpp tpmsim.pc; do
-        cmp -s "library/$file" "dist/$file" || echo "dist/$file has other bytes than library/$file"
+        cmp -s "clients/c/$file" "dist/$file" || echo "dist/$file has other bytes than clients/c/$file"
     done
 }
 
@@ -70,8 +70,8 @@ faults_of_aarch64() (
         echo "$shared is not what $proved names"
     faults_of_kept
     for file in tpmsim.h tpmsim.hpp tpmsim.pc; do
-        cmp -s "library/$file" "$distribution/$file" ||
-            echo "$distribution/$file has other bytes than library/$file"
+        cmp -s "clients/c/$file" "$distribution/$file" ||
+            echo "$distribution/$file has other bytes than clients/c/$file"
     done
 )
 

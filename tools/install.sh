@@ -60,7 +60,7 @@ has_header() {
 put_program() {
     is_proved program "$(checksum <"$shipped")" || fail "$shipped is not the program of $proved"
     put 755 "$shipped" bin/tpmsim
-    python3 packaging/python.py "$root" "$packages" bin || fail 'the Python package is not written'
+    python3 tools/packaging/python.py "$root" "$packages" bin || fail 'the Python package is not written'
 }
 
 put_library() {
@@ -142,15 +142,15 @@ put_documents() {
         gzip -9n "$page" || fail "$page is not packed"
         put 644 "$page.gz" "share/man/man${page##*.}/${page##*/}.gz"
     done
-    put 644 packaging/tpmsim.bash share/bash-completion/completions/tpmsim
+    put 644 tools/packaging/tpmsim.bash share/bash-completion/completions/tpmsim
     for tool in audit compare explain script simulator; do
         link tpmsim "share/bash-completion/completions/tpmsim-$tool"
     done
-    put 644 packaging/_tpmsim "$functions/_tpmsim"
+    put 644 tools/packaging/_tpmsim "$functions/_tpmsim"
     put 644 "$proved" share/doc/tpmsim/PROVED
     tools/man/documents.py "${DESTDIR:-}" "$prefix/share/doc/tpmsim" \
         "dist/PROVED=$prefix/share/doc/tpmsim/PROVED" "dist/tpmsim.h=$prefix/include/tpmsim.h" \
-        "library/tpmsim.h=$prefix/include/tpmsim.h" "dist/tpmsim.hpp=$prefix/include/tpmsim.hpp" \
+        "clients/c/tpmsim.h=$prefix/include/tpmsim.h" "dist/tpmsim.hpp=$prefix/include/tpmsim.hpp" \
         "dist/tpmsim.pc=$prefix/$libraries/pkgconfig/tpmsim.pc" || fail 'the documents are not written'
 }
 

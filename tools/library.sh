@@ -48,7 +48,7 @@ link() (
     mkdir "$work/objects" && cd "$work/objects" && ar x "$work/exports.a" &&
         ar x "$kit/c/liblibc_c.a" heap.pic.o && ar rcsD "$work/libtpmsim.a" ./*.o &&
         cc -shared -nostartfiles -Wl,-soname,libtpmsim.so.0 -Wl,--build-id=none -Wl,-z,defs \
-            -Wl,-z,relro -Wl,-z,now "-Wl,--version-script=$top/library/tpmsim.map" \
+            -Wl,-z,relro -Wl,-z,now "-Wl,--version-script=$top/clients/c/tpmsim.map" \
             -o "$work/libtpmsim.so.0" ./*.o && strip --strip-unneeded "$work/libtpmsim.so.0" &&
         chmod 644 "$work"/libtpmsim.*
 ) >>"$log" 2>&1
@@ -68,7 +68,7 @@ tell_proved() {
 # Moves all files to dist/.
 deliver() {
     mkdir -p dist && mv "$work/libtpmsim.a" "$archive" && mv "$work/libtpmsim.so.0" "$shared" &&
-        cp library/tpmsim.h library/tpmsim.hpp library/tpmsim.pc dist/ && tell_proved
+        cp clients/c/tpmsim.h clients/c/tpmsim.hpp clients/c/tpmsim.pc dist/ && tell_proved
 }
 
 for tool in rt rattle git cc ar strip; do

@@ -1,23 +1,23 @@
 #!/bin/sh
-# Checks the package in python/: its types with strict mypy, its names with pyflakes, its formatting with black,
+# Checks the package in clients/python/: its types with strict mypy, its names with pyflakes, its formatting with black,
 # and its unit tests with pytest and the package's plugin. Also checks names and formatting of the programs in
-# tests/, examples/ and bench/. It is not part of the gate, and needs Debian's packages mypy, pyflakes3, black
+# tests/, examples/ and tools/bench/. It is not part of the gate, and needs Debian's packages mypy, pyflakes3, black
 # and python3-pytest. The status is 1 if a check fails.
 set -u
 
 top=$(CDPATH='' cd "$(dirname "$0")/.." && pwd -P) || exit 1
-cd "$top/python" || exit 1
+cd "$top/clients/python" || exit 1
 for tool in mypy pyflakes3 black pytest-3; do
     command -v "$tool" >/dev/null || { echo "there is no $tool" >&2; exit 77; }
 done
 work=$(mktemp -d) || exit 1
 trap 'rm -rf "$work"' EXIT
-PYTHONPATH=$top/python
+PYTHONPATH=$top/clients/python
 PYTHONDONTWRITEBYTECODE=1
 export PYTHONPATH PYTHONDONTWRITEBYTECODE
 status=0
 mypy --cache-dir "$work/mypy" || status=1
-pyflakes3 tpmsim tests "$top/tests" "$top/examples" "$top/bench" || status=1
+pyflakes3 tpmsim tests "$top/tests" "$top/examples" "$top/tools/bench" || status=1
 /usr/bin/black --quiet --check . || status=1
 # The programs of the tests must be formatted like the package.
 /usr/bin/black --quiet --check --config pyproject.toml "$top/tests" "$top/examples" || status=1

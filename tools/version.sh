@@ -30,15 +30,15 @@ of_journals() {
 versions() {
     echo "$("$program" --version | sed -n 's/^tpmsim //p') the program"
     echo "$(sed -n '/^## /{s/^## \(Unreleased (\)\{0,1\}\([0-9.]*\).*/\2/p;q;}' CHANGELOG.md) CHANGELOG.md"
-    for folder in library dist; do
+    for folder in clients/c dist; do
         echo "$(of_header "$folder/tpmsim.h") $folder/tpmsim.h"
         echo "$(sed -n 's/^Version: //p' "$folder/tpmsim.pc") $folder/tpmsim.pc"
     done
     echo "$(of_journals crates/tpm_journal_text/src/head.rt) crates/tpm_journal_text/src/head.rt"
-    echo "$(sed -n 's/^version = "\(.*\)"$/\1/p' python/pyproject.toml) python/pyproject.toml"
-    echo "$(sed -n 's/^  "version": "\(.*\)",$/\1/p' js/package.json) js/package.json"
-    echo "$(sed -n 's/^version = "\(.*\)"$/\1/p' rust/Cargo.toml) rust/Cargo.toml"
-    echo "$(sed -n 's/^__version__ = "\(.*\)"$/\1/p' python/tpmsim/__init__.py) tpmsim.__version__"
+    echo "$(sed -n 's/^version = "\(.*\)"$/\1/p' clients/python/pyproject.toml) clients/python/pyproject.toml"
+    echo "$(sed -n 's/^  "version": "\(.*\)",$/\1/p' clients/js/package.json) clients/js/package.json"
+    echo "$(sed -n 's/^version = "\(.*\)"$/\1/p' clients/rust/Cargo.toml) clients/rust/Cargo.toml"
+    echo "$(sed -n 's/^__version__ = "\(.*\)"$/\1/p' clients/python/tpmsim/__init__.py) tpmsim.__version__"
 }
 
 told=$(versions)

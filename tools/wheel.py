@@ -17,7 +17,7 @@ import sys
 # Python must write no bytecode into the repository.
 sys.dont_write_bytecode = sys.pycache_prefix is None
 TOP = pathlib.Path(__file__).resolve().parents[1]
-sys.path.insert(0, str(TOP / "python" / "packing"))
+sys.path.insert(0, str(TOP / "clients" / "python" / "packing"))
 
 import tpmsim_wheel  # noqa: E402
 

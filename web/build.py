@@ -23,7 +23,7 @@ from dataclasses import dataclass
 
 HERE = pathlib.Path(__file__).resolve().parent
 TOP = HERE.parent
-sys.path.insert(0, str(TOP / "python"))
+sys.path.insert(0, str(TOP / "clients" / "python"))
 
 from tpmsim.explain import dissection, words  # noqa: E402
 from tpmsim.standard import CC, handle_kinds, lines, nv, objects  # noqa: E402
@@ -80,13 +80,13 @@ def handle_kind_value(form: handle_kinds.HandleForm) -> Value:
 
 
 def rules_value() -> Value:
-    text = (TOP / "python" / "tpmsim" / "explain" / "rules.json").read_text("utf-8")
+    text = (TOP / "clients" / "python" / "tpmsim" / "explain" / "rules.json").read_text("utf-8")
     rules: Value = json.loads(text)
     return rules
 
 
 def version() -> str:
-    text = (TOP / "python" / "pyproject.toml").read_text("utf-8")
+    text = (TOP / "clients" / "python" / "pyproject.toml").read_text("utf-8")
     found = re.search(r'^version = "([^"]+)"$', text, re.MULTILINE)
     return found[1] if found else ""
 

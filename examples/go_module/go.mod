@@ -4,4 +4,4 @@ go 1.19
 
 require tpmsim v0.1.0
 
-replace tpmsim => ../../go
+replace tpmsim => ../../clients/go

@@ -2,7 +2,7 @@
 # For each case, the test runs the program in a temporary folder, and prints a line with the result.
 LC_ALL=C
 # shellcheck disable=SC2154 # a test names its folder before it reads this file
-PYTHONPATH=${tests%/*}/python:${tests%/*}
+PYTHONPATH=${tests%/*}/clients/python:${tests%/*}
 export LC_ALL PYTHONPATH
 # tools/scripts.sh sets PYTHONPYCACHEPREFIX to one folder for the Python bytecode of all tests. Python then
 # writes bytecode there, even if the environment forbids it. Without that variable, no bytecode is written.

@@ -1,4 +1,4 @@
-"""Compares the description of the commands, python/tpmsim/standard/commands.py, with the program:
+"""Compares the description of the commands, clients/python/tpmsim/standard/commands.py, with the program:
 
     tools/python.sh tests/common/described_commands.py PROGRAM
 

@@ -1,7 +1,7 @@
 # Functions for the tests of the JavaScript package, which read this file after cases.sh.
 # shellcheck shell=sh disable=SC2034,SC2154 # cases.sh has `tests`
 top=${tests%/*}
-package=$top/js
+package=$top/clients/js
 { has_tool node && node -e 'process.exit(process.getBuiltinModule ? 0 : 1)'; } ||
     skip 'there is no node from 20.16 on, which Debian 12 does not have'
 (cd "$top" && . tools/lib/proved.sh && ship x86_64 && [ -f dist/tpmsim.wasm ] &&

@@ -6,7 +6,7 @@ tests=$(cd "$(dirname "$0")/.." && pwd -P)
 . "$tests/common/cpp.sh"
 needs g++
 
-cmp "$tests/../library/tpmsim.hpp" "$dist/tpmsim.hpp" && echo 'the header is that of the sources'
+cmp "$tests/../clients/c/tpmsim.hpp" "$dist/tpmsim.hpp" && echo 'the header is that of the sources'
 play_header g++
 
 echo '== docs/LIBRARY.md'

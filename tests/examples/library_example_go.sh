@@ -6,7 +6,7 @@ tests=$(cd "$(dirname "$0")/.." && pwd -P)
 needs go cc
 copy_module
 cp -r "$tests/../examples/go_module" project
-sed -i 's|=> ../../go|=> ../module|' project/go.mod
+sed -i 's|=> ../../clients/go|=> ../module|' project/go.mod
 
 (cd project && go vet ./... && go test -v ./... >../said 2>&1) || cat said
 grep -c '^--- PASS' said

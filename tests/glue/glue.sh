@@ -1,12 +1,12 @@
 # Tests the glue: nine functions in C that proved code calls. Rattle's kit contains a compiled version for
-# x86-64, and glue/ contains a version for other machines. For the same calls, both versions must produce the
-# same output on this machine. glue_aarch64.sh tests the version in glue/ on ARM64.
+# x86-64, and tools/glue/ contains a version for other machines. For the same calls, both versions must produce the
+# same output on this machine. glue_aarch64.sh tests the version in tools/glue/ on ARM64.
 tests=$(cd "$(dirname "$0")/.." && pwd -P)
 . "$tests/common/cases.sh"
 needs cc
 rattle=$(readlink -f "$(command -v rattle)") || skip "there is no rattle, whose glue ours is compared with"
 kit=${rattle%/bin/*}
-glue=${tests%/*}/glue
+glue=${tests%/*}/tools/glue
 flags='-std=c11 -O2 -Wall -Wextra -Werror -Wconversion'
 
 # play NAME SOURCES..: compiles glue_calls.c with one version of the glue, runs it, and stores its output. The

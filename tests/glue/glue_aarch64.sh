@@ -1,10 +1,10 @@
-# Tests the glue of glue/ on ARM64, in qemu. It must print the lines of glue.out, which the glue of Rattle's kit
+# Tests the glue of tools/glue/ on ARM64, in qemu. It must print the lines of glue.out, which the glue of Rattle's kit
 # prints on x86-64.
 tests=$(cd "$(dirname "$0")/.." && pwd -P)
 . "$tests/common/cases.sh"
 needs aarch64-linux-gnu-gcc /usr/aarch64-linux-gnu/include/stdlib.h
 needs qemu-aarch64 /usr/aarch64-linux-gnu/lib/libc.so.6
-glue=${tests%/*}/glue
+glue=${tests%/*}/tools/glue
 
 aarch64-linux-gnu-gcc -std=c11 -O2 -Wall -Wextra -Werror -Wconversion -I"$glue" -o calls \
     "$tests/glue/glue_calls.c" "$glue"/*.c || exit 1

@@ -1,5 +1,5 @@
 /* Calls each function of the glue, and prints the results. The functions of Rattle's kit and those
-   in glue/ must produce the same output. */
+   in tools/glue/ must produce the same output. */
 #define _GNU_SOURCE
 #include "glue.h"
 #include <errno.h>

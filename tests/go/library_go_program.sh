@@ -1,4 +1,4 @@
-# Runs README's example in a program that uses the folder go/ as the module. The device that is made from a seed,
+# Runs README's example in a program that uses the folder clients/go/ as the module. The device that is made from a seed,
 # the names of response codes and the names of commands must be the same as in Python.
 tests=$(cd "$(dirname "$0")/.." && pwd -P)
 . "$tests/common/cases.sh"
@@ -9,9 +9,9 @@ unset CGO_LDFLAGS
 top=${tests%/*}
 
 mkdir program && cd program || exit 1
-awk '/^```/ { shown = $0 == "```go" && !blocks++; next } shown' "$top/go/README.md" >main.go
+awk '/^```/ { shown = $0 == "```go" && !blocks++; next } shown' "$top/clients/go/README.md" >main.go
 printf 'module program\n\ngo 1.19\n' >go.mod
-sh -c "$(sed -n "s|^go mod edit.*PATH/tpmsim|&|; s|PATH/tpmsim|$top|p" "$top/go/README.md")"
+sh -c "$(sed -n "s|^go mod edit.*PATH/tpmsim|&|; s|PATH/tpmsim|$top|p" "$top/clients/go/README.md")"
 go run . | sed 's/\(.\{24\}\)[0-9a-f]*/\1../'
 
 cat >main.go <<'END'
@@ -48,7 +48,7 @@ with LibraryDevice(seed=b"the same") as device:
 END
 cmp go_told python && echo "the same in $(wc -l <go_told) lines"
 
-sed -n 's/^	0x\([0-9a-f]*\): *"\(.*\)",$/\1 \2/p' "$top/go/names.go" >go_told
+sed -n 's/^	0x\([0-9a-f]*\): *"\(.*\)",$/\1 \2/p' "$top/clients/go/names.go" >go_told
 python3 - >python <<'END'
 from tpmsim.standard.commands import NUMBERED
 from tpmsim.standard.frames import CODES

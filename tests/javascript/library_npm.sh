@@ -9,12 +9,12 @@ HOME=$room/home
 npm_config_offline=true npm_config_audit=false npm_config_fund=false npm_config_update_notifier=false
 export HOME npm_config_offline npm_config_audit npm_config_fund npm_config_update_notifier
 mkdir "$HOME" "$room/clone" "$room/project"
-(cd "$top" && tar cf - js dist/tpmsim.wasm) | (cd "$room/clone" && tar xf -)
+(cd "$top" && tar cf - clients/js dist/tpmsim.wasm) | (cd "$room/clone" && tar xf -)
 
 echo '== it is packed'
-(cd "$room/clone/js" && find . -type f | sort) >before
-(cd "$room/clone/js" && npm pack --silent --pack-destination "$room") | sed 's/[0-9][0-9.]*tgz/VERSION.tgz/'
-(cd "$room/clone/js" && find . -type f | sort) | diff before - && echo 'the folder is as it was'
+(cd "$room/clone/clients/js" && find . -type f | sort) >before
+(cd "$room/clone/clients/js" && npm pack --silent --pack-destination "$room") | sed 's/[0-9][0-9.]*tgz/VERSION.tgz/'
+(cd "$room/clone/clients/js" && find . -type f | sort) | diff before - && echo 'the folder is as it was'
 tar tzf "$room"/tpmsim-*.tgz | sort
 tar xzf "$room"/tpmsim-*.tgz -O package/tpmsim.wasm | cmp - "$top/dist/tpmsim.wasm" && echo 'it has the module'
 

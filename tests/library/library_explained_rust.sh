@@ -14,7 +14,7 @@ python3 "$tests/../tools/explain.py" log
 
 echo '== the package'
 CARGO_PKG_VERSION='' rustc --edition 2021 --crate-name tpmsim --crate-type rlib -L "$dist" -l static=tpmsim \
-    --out-dir "$room" "$tests/../rust/src/lib.rs" &&
+    --out-dir "$room" "$tests/../clients/rust/src/lib.rs" &&
     rustc --edition 2021 -D warnings --extern "tpmsim=$room/libtpmsim.rlib" -L "$dist" -o "$room/logged" \
         "$sources/logged.rs" && "$room/logged" >logged
 grep -c '^# completed$' logged

@@ -23,8 +23,8 @@ printf '#include "tpmsim.h"\n#include "tpmsim.h"\n' >header.c
 cc -std=c11 -Wall -Wextra -Wpedantic -Werror -I"$dist" -c header.c && echo 'the header is C'
 g++ -x c++ -std=c++11 -Wall -Wextra -Wpedantic -Werror -I"$dist" -c header.c &&
     echo 'the header is C++'
-cmp "$tests/../library/tpmsim.h" "$dist/tpmsim.h" && echo 'the header is that of the sources'
-cmp "$tests/../library/tpmsim.pc" "$dist/tpmsim.pc" && cat "$dist/tpmsim.pc"
+cmp "$tests/../clients/c/tpmsim.h" "$dist/tpmsim.h" && echo 'the header is that of the sources'
+cmp "$tests/../clients/c/tpmsim.pc" "$dist/tpmsim.pc" && cat "$dist/tpmsim.pc"
 cat >version.c <<'PROGRAM'
 #include "tpmsim.h"
 #include <stdio.h>

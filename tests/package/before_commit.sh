@@ -26,11 +26,11 @@ chmod +x rt_there/rt linters_there/ruff
 
 mkdir repository
 cd repository || exit 1
-mkdir -p crates/tpm_one/src crates/tpm_two/src tests/common packaging tools docs
+mkdir -p crates/tpm_one/src crates/tpm_two/src tests/common tools/packaging docs
 cp "$tests/common/links.py" tests/common/
 cp "$top/tools/words.py" tools/
 cp "$top/docs/STYLE.md" docs/
-cp "$top/packaging/tpmsim.bash" packaging/
+cp "$top/tools/packaging/tpmsim.bash" tools/packaging/
 printf '# Head\n[itself](#head)\n' >README.md
 echo '# Words' >docs/WORDS.md
 printf '#!/bin/sh\necho good\n' >good

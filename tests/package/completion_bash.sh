@@ -20,7 +20,7 @@ while IFS='|' read -r -a COMP_WORDS; do
     echo "${COMP_WORDS[*]}: ${COMPREPLY[*]}"
 done
 CODE
-    PATH="$1:$PATH" bash complete.bash "$top/packaging/tpmsim.bash"
+    PATH="$1:$PATH" bash complete.bash "$top/tools/packaging/tpmsim.bash"
 }
 
 mkdir bin coming files files/deep

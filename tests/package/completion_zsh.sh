@@ -19,7 +19,7 @@ while IFS='|' read -rA words; do
     _tpmsim
 done
 CODE
-    PATH="$1:$PATH" FPATH=$top/packaging zsh -f complete.zsh
+    PATH="$1:$PATH" FPATH=$top/tools/packaging zsh -f complete.zsh
 }
 
 mkdir bin coming

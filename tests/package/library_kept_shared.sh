@@ -20,7 +20,7 @@ objdump -h "$kept" | grep -c ' [.]note[.]gnu[.]build-id ' | sed 's/^/build ids: 
 
 echo '== in other folders'
 mkdir copy
-(cd "$top" && tar cf - hosts library tools crates.txt dist/PROVED dist/libtpmsim.so.0) | tar xf - -C copy
+(cd "$top" && tar cf - hosts clients/c tools crates.txt dist/PROVED dist/libtpmsim.so.0) | tar xf - -C copy
 copy/hosts/shared.sh && mv copy/dist/libtpmsim-kept.so.0 first && mv copy 'another copy' &&
     'another copy/hosts/shared.sh' && cmp first 'another copy/dist/libtpmsim-kept.so.0' &&
     echo 'the same bytes'

@@ -12,8 +12,8 @@ chmod +x none/cc
 (cd "$top" && tar cf - --exclude=out --exclude=must-fail --exclude=__pycache__ CHANGELOG.md Makefile \
     README.md HANDLES crates/tpmsim crates/tpmsim_library crates.txt hosts dist \
     crates/tpm_journal_text/src/head.rt \
-    docs examples library packaging python/packing python/pyproject.toml python/tpmsim \
-    js/package.json rust/Cargo.toml tools tpmsim .gitignore) |
+    docs examples clients/c clients/python/packing clients/python/pyproject.toml clients/python/tpmsim \
+    clients/js/package.json clients/rust/Cargo.toml tools tpmsim .gitignore) |
     tar xf - -C copy
 cd copy || exit 1
 version=$(dist/tpmsim --version | sed 's/.* //')

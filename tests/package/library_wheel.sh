@@ -1,5 +1,5 @@
 # Tests the wheel that tools/wheel.py makes, which contains the library. Without a network, pip installs it in a
-# new venv. pip also installs the folder python/, without changing it. The first example of python/README.md and
+# new venv. pip also installs the folder python/, without changing it. The first example of clients/python/README.md and
 # the program tpmsim must run.
 tests=$(cd "$(dirname "$0")/.." && pwd -P)
 . "$tests/common/cases.sh"
@@ -24,7 +24,7 @@ remove() {
     "$venv/bin/pip" uninstall -q -y tpmsim && find venv \( -name 'tpmsim*' -o -name 'libtpmsim*' \)
 }
 
-awk '/^```/ { shown = $0 == "```python" && !blocks++; next } shown' "$top/python/README.md" >example.py
+awk '/^```/ { shown = $0 == "```python" && !blocks++; next } shown' "$top/clients/python/README.md" >example.py
 cat >found.py <<'END'
 import importlib.metadata
 import pathlib
@@ -49,7 +49,7 @@ END
 
 echo '== a wheel'
 wheel=$("$top/tools/wheel.py" made) || echo "status $?"
-version=$(sed -n 's/^version = "\(.*\)"/\1/p' "$top/python/pyproject.toml")
+version=$(sed -n 's/^version = "\(.*\)"/\1/p' "$top/clients/python/pyproject.toml")
 [ "$wheel" = "made/tpmsim-$version-py3-none-manylinux_2_34_$(uname -m).whl" ] && echo 'it has its name'
 "$top/tools/wheel.py" again >said && cmp "$wheel" again/*.whl && echo 'it has the same bytes each time'
 try "$wheel"
@@ -63,16 +63,17 @@ wheel=$("$top/tools/wheel.py" --machine aarch64 made) && python3 -m zipfile -e "
     sed -n 's/^Tag: //p' arm/*.dist-info/WHEEL
 
 echo '== the folder'
-mkdir copy && cp -r "$top/python" "$top/dist" copy/ && find copy -name __pycache__ -prune -exec rm -r {} +
+mkdir -p copy/clients && cp -r "$top/clients/python" copy/clients/ && cp -r "$top/dist" copy/ &&
+    find copy -name __pycache__ -prune -exec rm -r {} +
 find copy | LC_ALL=C sort >before
-try ./copy/python
+try ./copy/clients/python
 remove
 find copy -name __pycache__ -prune -o -print | LC_ALL=C sort >after
 cmp before after && echo 'nothing is left there'
 
 echo '== the folder, without dist/'
 rm -r copy/dist
-venv/bin/pip install -q ./copy/python && venv/bin/python -c '
+venv/bin/pip install -q ./copy/clients/python && venv/bin/python -c '
 from tpmsim.device import ModelDevice
 print(ModelDevice().execute(b"").check)'
 "$top/tools/wheel.py" /dev/null 2>said

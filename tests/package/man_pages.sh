@@ -34,7 +34,7 @@ done
 "$program" lines | sed 's/^ */ /' | while read -r line; do
     grep -qF -e "$line" tpmsim-script.5.txt || echo "$line"
 done
-sed -n 's/^[a-z].* \**\(tpmsim_[a-z_]*\)(.*/\1/p' "$top/library/tpmsim.h" | while read -r call; do
+sed -n 's/^[a-z].* \**\(tpmsim_[a-z_]*\)(.*/\1/p' "$top/clients/c/tpmsim.h" | while read -r call; do
     grep -q "$call(" libtpmsim.3.txt || echo "$call"
 done
 
@@ -46,10 +46,10 @@ shown coming_pages/tpmsim.1 | awk '
     told && NF'
 
 echo '== a section that is not there, and a program that is not'
-mkdir -p copy/packaging copy/tools
+mkdir -p copy/tools/packaging
 cp -r "$top/tools/man" copy/tools/
-for name in docs library; do ln -s "$top/$name" "copy/$name"; done
-sed 's/#who-may-use-it/#whom/' "$top/packaging/pages.toml" >copy/packaging/pages.toml
+for name in docs clients; do ln -s "$top/$name" "copy/$name"; done
+sed 's/#who-may-use-it/#whom/' "$top/tools/packaging/pages.toml" >copy/tools/packaging/pages.toml
 python3 copy/tools/man/pages.py none --program "$program" 2>&1
 echo "status $?"
 python3 "$make" none --program ./none 2>&1 | sed "s|$room|ROOM|g"

@@ -12,10 +12,11 @@ echo "status $?"
 # turn FILE FROM TO: replaces FROM with TO in this file of a copy of the repository, and checks the copy.
 turn() {
     rm -rf copy
-    mkdir -p copy/tools copy/python/tpmsim copy/js copy/rust
+    mkdir -p copy/tools copy/clients
     cp "$top/tools/version.sh" copy/tools/
-    (cd "$top" && tar cf - CHANGELOG.md library dist/tpmsim.h dist/tpmsim.pc python/pyproject.toml \
-        crates/tpm_journal_text/src/head.rt python/tpmsim/__init__.py js/package.json rust/Cargo.toml) | tar xf - -C copy
+    (cd "$top" && tar cf - CHANGELOG.md clients/c dist/tpmsim.h dist/tpmsim.pc clients/python/pyproject.toml \
+        crates/tpm_journal_text/src/head.rt clients/python/tpmsim/__init__.py clients/js/package.json \
+        clients/rust/Cargo.toml) | tar xf - -C copy
     sed "s/$2/$3/" "copy/$1" >turned
     cmp -s turned "copy/$1" && echo "$1 is as it was"
     cp turned "copy/$1"
@@ -26,12 +27,12 @@ turn() {
 echo '== one of them turned'
 version=$("$program" --version | sed 's/.* //')
 turn CHANGELOG.md "$version" 9.9.9
-turn library/tpmsim.h 'NUMBER 0x00' 'NUMBER 0x09'
-turn library/tpmsim.pc '^Version: .*' 'Version: 1'
+turn clients/c/tpmsim.h 'NUMBER 0x00' 'NUMBER 0x09'
+turn clients/c/tpmsim.pc '^Version: .*' 'Version: 1'
 turn dist/tpmsim.h 'NUMBER 0x' 'NUMBER '
 turn dist/tpmsim.pc '^Version: .*' ''
 turn crates/tpm_journal_text/src/head.rt 'VERSION: u32 = 0x00' 'VERSION: u32 = 0x09'
-turn python/pyproject.toml '^version = ".*"' 'version = "9.9.9"'
-turn js/package.json '"version": ".*"' '"version": "9.9.9"'
-turn python/tpmsim/__init__.py '"[0-9.]*"$' '"9.9.9"'
-turn rust/Cargo.toml '^version = ".*"' 'version = "9.9.9"'
+turn clients/python/pyproject.toml '^version = ".*"' 'version = "9.9.9"'
+turn clients/js/package.json '"version": ".*"' '"version": "9.9.9"'
+turn clients/python/tpmsim/__init__.py '"[0-9.]*"$' '"9.9.9"'
+turn clients/rust/Cargo.toml '^version = ".*"' 'version = "9.9.9"'

@@ -18,7 +18,7 @@ python3 "$tests/package/steps.py" copy
 echo "status $?"
 
 echo '== the packages that they install'
-LC_ALL=C sort -c "$top/packaging/debian_packages" && grep -c . "$top/packaging/debian_packages"
+LC_ALL=C sort -c "$top/tools/packaging/debian_packages" && grep -c . "$top/tools/packaging/debian_packages"
 
 # Each package that a skipped test may name is in the list, unless each Debian has it, or it is npm: Debian 12 has
 # no node for which npm would help.
@@ -33,6 +33,6 @@ mkdir "$room/nothing"
 needed | while read -r name; do (PATH=$room/nothing && package_of "$name"); done | sed 's/, /\n/g' |
     LC_ALL=C sort -u >named
 echo 'not in the list:'
-LC_ALL=C comm -23 named "$top/packaging/debian_packages"
+LC_ALL=C comm -23 named "$top/tools/packaging/debian_packages"
 echo 'in the list only for the tools:'
-LC_ALL=C comm -13 named "$top/packaging/debian_packages"
+LC_ALL=C comm -13 named "$top/tools/packaging/debian_packages"

@@ -70,12 +70,12 @@ ship_library() (
     PATH=$room/rt:$room/tools
     cd "$copy" || exit 1
     . tools/lib/proved.sh
-    mkdir library
-    for file in library/tpmsim.h library/tpmsim.hpp library/tpmsim.pc "$archive" "$shared" "$kept_shared" \
+    mkdir -p clients/c
+    for file in clients/c/tpmsim.h clients/c/tpmsim.hpp clients/c/tpmsim.pc "$archive" "$shared" "$kept_shared" \
         "$module"; do
         echo "a stand-in for $file" >"$file"
     done
-    cp library/* dist/
+    cp clients/c/* dist/
     {
         echo "library sources: $(sources_checksum tpmsim_library)"
         echo "library archive: $(checksum <"$archive")"

@@ -6,5 +6,5 @@ tests=$(cd "$(dirname "$0")/.." && pwd -P)
 needs python3
 ln -s "$program" tpmsim
 ln -s "${tests%/*}/tools" tools
-ln -s "${tests%/*}/python" python
+ln -s "${tests%/*}/clients" clients
 type_lines "${tests%/*}/docs/TUTORIAL.md"

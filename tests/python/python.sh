@@ -1,4 +1,4 @@
-# Runs the unit tests of the package in python/. Tests that need a program run the program under test.
+# Runs the unit tests of the package in clients/python/. Tests that need a program run the program under test.
 # python_tools.sh runs those that need pytest or cryptography, which Python does not find without its site
 # packages. tools/python_types.sh checks the package's types: that needs mypy, and is not part of this test.
 tests=$(cd "$(dirname "$0")/.." && pwd -P)
@@ -15,8 +15,8 @@ fi
 # unit_tests PATTERN FILE: runs the unit tests in the files that match PATTERN, and writes their output to
 # FILE.
 unit_tests() {
-    TPMSIM=$program python3 -W error::ResourceWarning -m unittest discover --verbose -s "${tests%/*}/python/tests" \
-        -t "${tests%/*}/python/tests" -p "$1" 2>"$2"
+    TPMSIM=$program python3 -W error::ResourceWarning -m unittest discover --verbose \
+        -s "${tests%/*}/clients/python/tests" -t "${tests%/*}/clients/python/tests" -p "$1" 2>"$2"
 }
 
 # The tests run in two processes at the same time; one process alone would take three minutes.

@@ -1,10 +1,10 @@
-# Runs the unit tests of the package in python/ that need pytest or cryptography, with the Python that pytest-3
+# Runs the unit tests of the package in clients/python/ that need pytest or cryptography, with the Python that pytest-3
 # uses. None of them may be skipped. python.sh runs the other unit tests.
 tests=$(cd "$(dirname "$0")/.." && pwd -P)
 . "$tests/common/cases.sh"
 needs pytest-3 cryptography openssl
 
-cd "${tests%/*}/python" || exit 1
+cd "${tests%/*}/clients/python" || exit 1
 TPMSIM=$program PYTHONDONTWRITEBYTECODE=1 pytest-3 -q -rs -p no:cacheprovider tests/test_plugin.py tests/test_aes.py \
     >"$room/said" 2>&1
 status=$?

@@ -10,9 +10,9 @@ top=${tests%/*}
 
 "$top/tools/crate.sh" "$room/made" >said 2>&1 || cat said
 crate=$(tail -n 1 said)
-version=$(sed -n 's/^version = "\(.*\)"/\1/p' "$top/rust/Cargo.toml")
+version=$(sed -n 's/^version = "\(.*\)"/\1/p' "$top/clients/rust/Cargo.toml")
 tar xzf "$crate" && [ "${crate##*/}" = "tpmsim-$version.crate" ] && echo 'it is made'
-[ ! -e "$top/rust/target" ] && [ ! -e "$top/rust/Cargo.lock" ] && echo 'nothing is left'
+[ ! -e "$top/clients/rust/target" ] && [ ! -e "$top/clients/rust/Cargo.lock" ] && echo 'nothing is left'
 for machine in x86_64 aarch64; do
     [ "$machine" = x86_64 ] && at=$top/dist || at=$top/dist/$machine
     cmp "$at/libtpmsim.a" "tpmsim-$version/native/$machine/libtpmsim.a" && echo "its library for $machine"
@@ -27,6 +27,6 @@ edition = "2021"
 [dependencies]
 tpmsim = { path = "../tpmsim-$version" }
 END
-awk '/^```/ { shown = $0 == "```rust"; next } shown' "$top/rust/README.md" >program/src/main.rs
+awk '/^```/ { shown = $0 == "```rust"; next } shown' "$top/clients/rust/README.md" >program/src/main.rs
 cd program && cargo run --quiet >"$room/ran" 2>&1
 sed 's/[0-9a-f][0-9a-f]/HH/g' "$room/ran"

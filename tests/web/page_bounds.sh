@@ -6,7 +6,7 @@ needs node python3
 
 top=${tests%/*}
 python3 "$top/web/build.py" --facts >facts.json || exit 1
-mkdir -p web js && cp -R "$top/web/page" web/page && cp -R "$top/js/src" js/src || exit 1
+mkdir -p web clients/js && cp -R "$top/web/page" web/page && cp -R "$top/clients/js/src" clients/js/src || exit 1
 echo '{ "type": "module" }' >package.json
 node "$tests/web/page_bounds.mjs" kinds web/page facts.json "$top/dist/tpmsim.wasm"
 node --no-opt --no-flush-bytecode "$tests/web/page_bounds.mjs" steps web/page facts.json "$top/dist/tpmsim.wasm"

@@ -8,6 +8,6 @@ top=${tests%/*}
 python3 "$top/web/build.py" --facts >facts.json || exit 1
 make_scripts
 python3 "$tests/web/page_plain.py" >cases || exit 1
-mkdir -p web js && cp -R "$top/web/page" web/page && cp -R "$top/js/src" js/src || exit 1
+mkdir -p web clients/js && cp -R "$top/web/page" web/page && cp -R "$top/clients/js/src" clients/js/src || exit 1
 echo '{ "type": "module" }' >package.json
 node "$tests/web/page_plain.mjs" web/page facts.json "$top/dist/tpmsim.wasm" cases

@@ -130,7 +130,7 @@ for kind in (LibraryDevice, ChildDevice, lambda: KeptDevice(sys.argv[1])):
         assert len(tpm.call("GetRandom", bytesRequested=4)["randomBytes"]) == 4
 END
 check 'Python: the installed package' python3 devices.py by-package
-check 'Python: that of the repository' env PYTHONPATH="$top/python" python3 devices.py by-repository
+check 'Python: that of the repository' env PYTHONPATH="$top/clients/python" python3 devices.py by-repository
 check 'the first command of the README' starts "$top/tpmsim" run
 check 'the second one, of a few tests' "$top/tools/scripts.sh" pcr_read disk_pin
 [ "$failed" -eq 0 ]

@@ -98,7 +98,7 @@ sources_checksum() {
 # kept_sources_checksum: prints the checksum of the sources of libtpmsim-kept.so.0, the C host as a shared
 # object.
 kept_sources_checksum() {
-    checksum_of hosts/kept hosts/shared.sh library/tpmsim.h
+    checksum_of hosts/kept hosts/shared.sh clients/c/tpmsim.h
 }
 
 # checksum_of PATH..: prints the SHA-256 of the lines that sha256sum prints for these files, and for the files

@@ -6,7 +6,7 @@
 Each file is installed below ROOT in FOLDER, with its path in the repository. PATH is a file of the
 repository that is installed elsewhere: at the path PLACE below ROOT. Links between documents lead
 to installed files; any other link is replaced with its text. The names of programs are replaced
-with their installed names, which packaging/pages.toml lists, except in README.md, which is about
+with their installed names, which tools/packaging/pages.toml lists, except in README.md, which is about
 the sources. Documents for developers are not installed. The name of the program that wrote a script
 is removed from the script, because that program is not installed. Needs only python3.
 """
@@ -23,7 +23,7 @@ sys.dont_write_bytecode = sys.pycache_prefix is None
 
 from sources import TOP, installed  # noqa: E402
 
-DOCUMENTS = "*.md", "docs/*.md", "docs/table/*.md", "python/README.md"
+DOCUMENTS = "*.md", "docs/*.md", "docs/table/*.md", "clients/python/README.md"
 FOR_DEVELOPERS = set("CONTRIBUTING ADDING_A_COMMAND BENCH CALLS DESIGN GATE MAP".split())
 COPIED = (
     *("docs/*.png", "examples/*.out", "examples/*.trace", "examples/words/*.tpms"),

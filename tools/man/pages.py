@@ -3,7 +3,7 @@
 
     tools/man/pages.py FOLDER [--program PROGRAM]
 
-packaging/pages.toml lists the sources of each page. The pages, such as tpmsim.1, are written to
+tools/packaging/pages.toml lists the sources of each page. The pages, such as tpmsim.1, are written to
 FOLDER. The program is dist/tpmsim, or PROGRAM. The status is 1, with a line on standard error, if a
 section or a program is missing. Needs only python3.
 """
@@ -34,7 +34,7 @@ FLAGS = "cc PROGRAM.c $(pkg-config --cflags --libs tpmsim)"
 
 @dataclass
 class Page:
-    """The entry in packaging/pages.toml for a page."""
+    """The entry in tools/packaging/pages.toml for a page."""
 
     name: str
     section: int

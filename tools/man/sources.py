@@ -21,8 +21,8 @@ class Missing(Exception):
 
 @functools.cache
 def pages_told() -> dict[str, Any]:
-    """Returns the content of packaging/pages.toml."""
-    with open(TOP / "packaging" / "pages.toml", "rb") as file:
+    """Returns the content of tools/packaging/pages.toml."""
+    with open(TOP / "tools" / "packaging" / "pages.toml", "rb") as file:
         return tomllib.load(file)
 
 

@@ -1,5 +1,5 @@
 """Explains journals of random commands with the completing layer, as
-python/tests/test_completion.py does in the gate, and compares the library's responses with those of
+clients/python/tests/test_completion.py does in the gate, and compares the library's responses with those of
 the layer in Python.
 
     tools/python.sh tools/soak/completed.py SECONDS [SEED]
@@ -13,7 +13,7 @@ import pathlib
 import sys
 import time
 
-sys.path.insert(0, str(pathlib.Path(__file__).resolve().parents[2] / "python" / "tests"))
+sys.path.insert(0, str(pathlib.Path(__file__).resolve().parents[2] / "clients" / "python" / "tests"))
 
 from test_completion import recorded, wrong  # noqa: E402
 from tpmsim.explain.play import Play  # noqa: E402

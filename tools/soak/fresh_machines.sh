@@ -1,6 +1,6 @@
 #!/bin/sh
 # Runs tools/scripts.sh of the last commit in new Debian systems: one with git and python3, others also with a C
-# compiler, with python3-minimal, or with all packages that packaging/debian_packages lists, and one without git
+# compiler, with python3-minimal, or with all packages that tools/packaging/debian_packages lists, and one without git
 # and python3. No test may fail there. If the tests name packages with which more tests could run, it installs
 # them, and runs the tests again, which must then name no package. It takes half an hour or more, and is not part
 # of the gate.
@@ -23,7 +23,7 @@ compiler  64m  root  git python3 gcc libc6-dev
 user      4g   user  git python3 gcc libc6-dev
 minimal   4g   root  git python3-minimal
 nothing   4g   root
-all       4g   root  git $(tr '\n' ' ' <"$top/packaging/debian_packages")
+all       4g   root  git $(tr '\n' ' ' <"$top/tools/packaging/debian_packages")
 "
 
 # fail REASON: ends the script with a message.

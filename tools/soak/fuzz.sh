@@ -1,6 +1,6 @@
 #!/bin/sh
 # Plays random events, and compares the program's responses with those of the device in plain Python under
-# python/tpmsim/model. Needs python3. A round consists of a random script; of a script in which bytes of
+# clients/python/tpmsim/model. Needs python3. A round consists of a random script; of a script in which bytes of
 # commands, lines and letters are altered; and of a stream. A stream consists of connections to `tpmsim serve`,
 # in several runs with the same image. Some of the buffers in it are incomplete or have wrong sizes, and some
 # images are altered. A round depends only on its seed.

@@ -1,6 +1,6 @@
 #!/bin/sh
 # Opens damaged images with a program, and compares its responses with those of the device in plain Python under
-# python/tpmsim/model. The images are: every prefix of the largest image of each version; the largest image of
+# clients/python/tpmsim/model. The images are: every prefix of the largest image of each version; the largest image of
 # version 2 with each byte changed in at least three ways; and images of a full device with randomly altered
 # bodies, but with the correct length and digest. If a device can be opened from such an image, the program also
 # saves it again. This script is not part of the gate, but tests/images/images.sh is. Needs cc and python3, and

@@ -6,7 +6,7 @@
 #            everything again.
 #   wheel    pip installs it in a plain venv without a network, and README's first example in Python runs.
 #   crate    Debian's cargo tests the unpacked crate, and README's example in Rust runs.
-#   module   Debian's go tests the folder go/ of a clone, and README's example in Go runs.
+#   module   Debian's go tests the folder clients/go/ of a clone, and README's example in Go runs.
 #
 #   tools/soak/installed_machines.sh           all four packages
 #   tools/soak/installed_machines.sh NAME..    only these
@@ -101,7 +101,7 @@ wheel() {
     made=$("$top/tools/wheel.py" "$work/made") || fail 'there is no wheel'
     cp "$made" "$machine/root/"
     apt install python3-venv
-    block python "$top/python/README.md" | script example.py
+    block python "$top/clients/python/README.md" | script example.py
     script install <<'END'
 cd /root && python3 -m venv venv && venv/bin/pip install --no-index ./*.whl
 cd / && /root/venv/bin/python /root/example.py | grep -x '[0-9a-f]\{8\}'
@@ -115,7 +115,7 @@ crate() {
     apt install cargo
     tar xzf "$made" -C "$machine/root" && mv "$machine"/root/tpmsim-* "$machine/root/tpmsim"
     mkdir -p "$machine/root/program/src"
-    block rust "$top/rust/README.md" | script program/src/main.rs
+    block rust "$top/clients/rust/README.md" | script program/src/main.rs
     printf '[package]\nname = "program"\nversion = "0.0.0"\nedition = "2021"\n[dependencies]\n%s\n' \
         'tpmsim = { path = "../tpmsim" }' | script program/Cargo.toml
     check "README's example runs" sh -ec 'cd /root/program && cargo run --offline | grep "^\[.*\]$"'
@@ -127,13 +127,13 @@ module() {
     apt install golang-go gcc libc6-dev
     mkdir "$machine/root/program"
     git clone -q "$top" "$machine/root/tpmsim" || fail 'the repository is not copied'
-    block go "$top/go/README.md" | script program/main.go
+    block go "$top/clients/go/README.md" | script program/main.go
     printf 'module program\n\ngo 1.19\n' | script program/go.mod
     script run <<'END'
 export GOPROXY=off GOFLAGS=-buildvcs=false
-cd /root/program && go mod edit -require=tpmsim@v0.1.0 -replace=tpmsim=/root/tpmsim/go
+cd /root/program && go mod edit -require=tpmsim@v0.1.0 -replace=tpmsim=/root/tpmsim/clients/go
 go run . | grep '^80010000001000000000.* <nil>$'
-cd /root/tpmsim/go && go test ./... && go run ./examples/encrypted_session
+cd /root/tpmsim/clients/go && go test ./... && go run ./examples/encrypted_session
 END
     check "README's example runs, and go tests it" sh -e /root/run
 }

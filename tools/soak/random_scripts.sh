@@ -1,6 +1,6 @@
 #!/bin/sh
 # Writes random scripts, runs them, and compares the program's responses with those of the device in plain
-# Python under python/tpmsim/model. It is not part of the gate. Needs python3.
+# Python under clients/python/tpmsim/model. It is not part of the gate. Needs python3.
 #
 #   tools/soak/random_scripts.sh                 the scripts with the seeds 1 to 20, with 1,000 commands each
 #   tools/soak/random_scripts.sh 7               the script with seed 7

@@ -1,5 +1,5 @@
 #!/bin/sh
-# Tries the patches under wrong/turned. Each patch changes the code of a command and, in the same way, its row (the
+# Tries the patches under tests/wrong/turned. Each patch changes the code of a command and, in the same way, its row (the
 # definition of the command's behaviour) and the proofs that repeat the row. The device then behaves wrongly,
 # although all crates below tpm_step can still be proved. However, the history of the device determines a
 # different behaviour. Therefore a law of tpm_step, or of another crate with laws, must fail. All patches are
@@ -23,7 +23,7 @@ top=$PWD
 . tools/lib/proved.sh
 . tools/lib/proving.sh
 if [ "$#" -eq 0 ]; then
-    for patch in wrong/turned/*.patch; do
+    for patch in tests/wrong/turned/*.patch; do
         name=${patch##*/}
         set -- "$@" "${name%.patch}"
     done
@@ -38,7 +38,7 @@ said() {
 
 # patch_of NAME: prints the path of a patch.
 patch_of() {
-    echo "wrong/turned/$1.patch"
+    echo "tests/wrong/turned/$1.patch"
 }
 
 # crate_of NAME: prints the crate that contains the law named in a patch.

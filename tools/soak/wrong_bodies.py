@@ -1,10 +1,10 @@
 #!/usr/bin/env python3
-"""Tries the wrong bodies (mutants) under wrong/. Each wrong body changes the meaning of one
+"""Tries the wrong bodies (mutants) under tests/wrong/. Each wrong body changes the meaning of one
 function or definition, and the prover must refuse it. The gate tries only the wrong bodies in the
-must-fail/ folders of crates. Those under wrong/ are tried before a piece of work is declared done;
+must-fail/ folders of crates. Those under tests/wrong/ are tried before a piece of work is declared done;
 docs/gate.json names the commit at which they were last tried.
 
-    tools/soak/wrong_bodies.py                       all wrong bodies under wrong/
+    tools/soak/wrong_bodies.py                       all wrong bodies under tests/wrong/
     tools/soak/wrong_bodies.py tpm_pcr               the wrong bodies of one crate, or of several
     tools/soak/wrong_bodies.py --apply [CRATE..]     only checks whether each applies; needs no rt
 
@@ -127,7 +127,7 @@ class Edit:
 
 def edits_of(crate: str) -> list[Edit]:
     """Returns the wrong bodies of a crate."""
-    path = TOP / "wrong" / f"{crate}.edits"
+    path = TOP / "tests" / "wrong" / f"{crate}.edits"
     if not path.exists():
         return []
     _, *parts = HEADING.split(path.read_text(encoding="utf-8"))
@@ -575,7 +575,7 @@ def files_in_memory(number: int) -> Iterator[None]:
 
 
 def parsed() -> argparse.Namespace:
-    parser = argparse.ArgumentParser(description="Tries the wrong bodies under wrong/.")
+    parser = argparse.ArgumentParser(description="Tries the wrong bodies under tests/wrong/.")
     parser.add_argument("--apply", action="store_true")
     parser.add_argument("crates", nargs="*", metavar="CRATE")
     return parser.parse_args()

@@ -1,13 +1,13 @@
 // The devices of the page: two devices of the proved module. Each call takes the number of a
-// device. Only js/src uses the exports of the module.
+// device. Only clients/js/src uses the exports of the module.
 
-import { BadImage, BadState } from "../../js/src/errors.js";
-import { Module } from "../../js/src/module.js";
+import { BadImage, BadState } from "../../clients/js/src/errors.js";
+import { Module } from "../../clients/js/src/module.js";
 
 /**
- * @typedef {import("../../js/src/chip.js").Answer} Answer
- * @typedef {import("../../js/src/module.js").Kind} LineKind
- * @typedef {{name: string, kind: import("../../js/src/module.js").Place, number: number}} Meaning
+ * @typedef {import("../../clients/js/src/chip.js").Answer} Answer
+ * @typedef {import("../../clients/js/src/module.js").Kind} LineKind
+ * @typedef {{name: string, kind: import("../../clients/js/src/module.js").Place, number: number}} Meaning
  * @typedef {{name: string, column: number, wanted: string}} LineFault
  * @typedef {{
  *   kind: LineKind, bytes: Uint8Array, number: number, waited: number, fault: LineFault | null,
