@@ -151,6 +151,7 @@ put_documents() {
     tools/man/documents.py "${DESTDIR:-}" "$prefix/share/doc/tpmsim" \
         "dist/PROVED=$prefix/share/doc/tpmsim/PROVED" "dist/tpmsim.h=$prefix/include/tpmsim.h" \
         "clients/c/tpmsim.h=$prefix/include/tpmsim.h" "dist/tpmsim.hpp=$prefix/include/tpmsim.hpp" \
+        "clients/c/tpmsim.hpp=$prefix/include/tpmsim.hpp" \
         "dist/tpmsim.pc=$prefix/$libraries/pkgconfig/tpmsim.pc" || fail 'the documents are not written'
 }
 

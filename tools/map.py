@@ -1,5 +1,6 @@
 #!/usr/bin/env python3
-"""Makes the list of crates in docs/MAP.md, from the first clause of each crate's root file.
+"""Makes the list of crates in docs/ARCHITECTURE.md, from the first clause of each crate's root
+file. Crates of tests are not listed.
 
 `tools/map.py` makes the list again, and its status is 1 if the one in the document differs;
 `tools/map.py --write` writes the list into the document.
@@ -10,7 +11,7 @@ import sys
 from pathlib import Path
 
 TOP = Path(__file__).resolve().parent.parent
-PAGE = TOP / "docs" / "MAP.md"
+PAGE = TOP / "docs" / "ARCHITECTURE.md"
 BEGIN, END = "<!-- crates -->\n", "<!-- end of crates -->\n"
 
 
@@ -39,8 +40,9 @@ def in_order(names: list[str]) -> list[str]:
 
 
 def listed() -> str:
-    """Returns the list of all crates."""
-    crates = {path.name: path for path in (TOP / "crates").iterdir() if (path / "src").is_dir()}
+    """Returns the list of all crates, except those that contain only tests."""
+    folders = [path for path in (TOP / "crates").iterdir() if (path / "src").is_dir()]
+    crates = {path.name: path for path in folders if not path.name.endswith("_tests")}
     return "".join(f"- {name}: {first_clause(crates[name])}\n" for name in in_order(list(crates)))
 
 
@@ -53,7 +55,7 @@ def main() -> int:
     if sys.argv[1:] == ["--write"]:
         PAGE.write_text(made)
     elif page != made:
-        print("docs/MAP.md: its list of crates is another than tools/map.py --write makes")
+        print("docs/ARCHITECTURE.md: its list of crates is another than tools/map.py --write makes")
         return 1
     return 0
 

@@ -2,8 +2,8 @@
 """Reports the words that docs/STYLE.md asks to avoid, in documents and in comments. Each word is
 reported with its line and a suggested replacement.
 
-    tools/words.py              all documents of the repository, and all code
-    tools/words.py docs/MAP.md  only these files
+    tools/words.py                all documents of the repository, and all code
+    tools/words.py docs/STYLE.md  only these files
 
 Skips code, links and the examples in docs/STYLE.md. The status is 1 if a word is found.
 """

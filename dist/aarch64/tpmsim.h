@@ -284,7 +284,7 @@ uint8_t tpmsim_journal_execute(tpmsim *device, const uint8_t *buffer, size_t siz
    A keeper decides how a host keeps a device in a folder, which several processes may use: what to lock,
    read, write, sync to the disk and rename, and when to release the response. After any kill, failure
    or crash the device is still the one that executed the answered commands. A keeper itself does no
-   input or output. docs/LIBRARY.md shows a host's loop, and the encodings of commands and seeds.
+   input or output. clients/c/README.md shows a host's loop, and the encodings of commands and seeds.
 
    Use a handle of a keeper like one of a device: initialize it with zeros, `tpmsim_keeper keeper = {0};`.
    It then has no keeper. */

@@ -2,7 +2,7 @@
 
    The record of each command is in the folder's journal before the command's response is returned.
    Therefore no answered command is lost, even if a process is killed at any moment.
-   docs/ATTACHED.md describes what may be lost if the host crashes.
+   docs/SERVE.md describes what may be lost if the host crashes.
 
    tpmsim_kept_device kept = {0};
    tpmsim_kept_options options = {.folder = "state", .force = TPMSIM_FORCE_POWER};

@@ -1,4 +1,4 @@
-"""Compares a list of requested public functions with the crates, and with docs/DECISIONS.md:
+"""Compares a list of requested public functions with the crates, and with docs/REQUIREMENTS.md:
 
     python3 tests/common/public_calls.py ASKED PAGE FOLDER
 

@@ -1,35 +1,29 @@
-# A function for the tests that execute the shell lines of a document. The tests read this file after cases.sh,
-# which sets `room`.
+# A function for the tests that execute the shell blocks of a document that its reader is meant to copy. The tests
+# read this file after cases.sh, which sets `room`.
 # shellcheck shell=sh disable=SC2154 # cases.sh has `room`
 
-# type_lines PAGE: executes the shell lines of a document that its reader is meant to type. Each line must print
-# the output that the page shows below it. A line begins with `$ `, and the following lines that begin with `> `
-# continue it. At the end the function prints the number of lines.
-type_lines() {
-    # The file `N.typed` contains line number N, and `N.wanted` its expected output.
+# type_blocks PAGE: executes the shell blocks of a document, those that begin with ```sh, each in its own shell. Each
+# must print the block that begins with ```text, if one follows it before the next shell block, or else nothing. At
+# the end the function prints the number of shell blocks.
+type_blocks() {
+    # The file `N.typed` contains block number N, and `N.wanted` its expected output.
     awk -v room="$room" '
-        /^```/ { shown = !shown; typed = ""; next }
-        !shown { next }
-        /^\$ / {
-            typed = room "/" ++lines
-            print substr($0, 3) >(typed ".typed")
-            printf "" >(typed ".wanted")
-            next
-        }
-        typed == "" { next }
-        /^>( |$)/ { print substr($0, 3) >(typed ".typed"); next }
-        { print >(typed ".wanted") }
+        /^```/ && part { part = ""; next }
+        /^```sh$/ { part = room "/" ++blocks ".typed"; printf "" >(room "/" blocks ".wanted"); next }
+        /^```text$/ { part = room "/" blocks ".wanted"; next }
+        /^```/ { part = "none"; next }
+        part && part != "none" { print >part }
     ' "$1"
 
-    lines=0
+    blocks=0
     wrong=0
-    while [ -e "$room/$((lines + 1)).typed" ]; do
-        lines=$((lines + 1))
-        timeout 600 sh "$room/$lines.typed" >"$room/output" 2>&1 </dev/null
-        cmp -s "$room/$lines.wanted" "$room/output" && continue
+    while [ -e "$room/$((blocks + 1)).typed" ]; do
+        blocks=$((blocks + 1))
+        timeout 600 sh "$room/$blocks.typed" >"$room/output" 2>&1 </dev/null
+        cmp -s "$room/$blocks.wanted" "$room/output" && continue
         wrong=$((wrong + 1))
-        printf 'wrong: %s\n' "$(head -n 1 "$room/$lines.typed")"
-        diff "$room/$lines.wanted" "$room/output"
+        printf 'wrong: %s\n' "$(head -n 1 "$room/$blocks.typed")"
+        diff "$room/$blocks.wanted" "$room/output"
     done
-    echo "$lines lines typed, $wrong wrong"
+    echo "$blocks blocks typed, $wrong wrong"
 }

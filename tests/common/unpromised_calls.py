@@ -1,13 +1,13 @@
-"""Compares the public functions that have no `ensures` clause with the list of such functions in
-docs/THEOREMS.md:
+"""Compares the public functions that have no `ensures` clause with a list of such functions:
 
-    python3 tests/common/unpromised_calls.py DOCUMENT FOLDER
+    python3 tests/common/unpromised_calls.py LIST FOLDER
 
-FOLDER contains the crates. The list is the table after the words "These public functions promise
-nothing". Each row names a crate, the files of its src/ that contain public functions without
-`ensures` clauses, and the reason. The test prints a line for each difference, and then the number
-of functions. Then it removes one file from the list, and adds a wrong one; it must find both
-mistakes. The status is 1 if there is a difference, or if a mistake is not found.
+FOLDER contains the crates. LIST is tests/program/unpromised_calls.txt: each block has a reason, and
+then indented lines that name a crate and the files of its src/ that contain public functions
+without `ensures` clauses. Each file is listed once, with a reason. The test prints a line for each
+difference, and then the number of functions. Then it removes one file of each crate from the list,
+and adds a wrong one; it must find both mistakes. The status is 1 if there is a difference, or if a
+mistake is not found.
 """
 
 import collections
@@ -15,7 +15,6 @@ import pathlib
 import re
 import sys
 
-BEGIN = "These public functions promise nothing"
 PUBLIC = re.compile(r"^\s*pub (?:extern \"C\" )?fn (\w+)", re.M)
 # A signature with clauses ends with a line that contains only a brace. A signature without clauses
 # ends with a brace at the end of its last line.
@@ -23,7 +22,6 @@ BODY = re.compile(r"^\s*\{\}?$", re.M)
 LAST_BRACE = re.compile(r" \{\}?$", re.M)
 CLAUSE = re.compile(r"^\s*ensures\b", re.M)
 Found = dict[str, dict[str, list[str]]]
-CODE = re.compile(r"`([^`]+)`")
 
 
 def signatures(text: str) -> list[tuple[str, str]]:
@@ -54,11 +52,22 @@ def without_promise(crates: pathlib.Path) -> Found:
     return found
 
 
-def listed(document: str) -> dict[str, set[str]]:
-    """Returns the files in the table's rows, by crate."""
-    section = document.partition(BEGIN)[2].partition("\n## ")[0]
-    rows = (line.strip("|").split("|") for line in section.splitlines() if line.startswith("| `"))
-    return {CODE.findall(row[0])[0]: set(CODE.findall(row[1])) for row in rows}
+def listed(text: str) -> tuple[dict[str, set[str]], list[str]]:
+    """Returns the listed files, by crate; and the faults of the list's own form."""
+    rows: dict[str, set[str]] = collections.defaultdict(set)
+    faults, reason = [], ""
+    for line in text.splitlines():
+        if not line.startswith(" "):
+            reason = "" if line.startswith("#") else line.strip()
+            continue
+        crate, _, names = line.strip().partition(": ")
+        for name in names.split():
+            if not reason:
+                faults.append(f"{crate}/src/{name} has no reason")
+            elif name in rows[crate]:
+                faults.append(f"{crate}/src/{name} is listed twice")
+            rows[crate].add(name)
+    return dict(rows), faults
 
 
 def differences(found: Found, rows: dict[str, set[str]]) -> list[str]:
@@ -85,9 +94,10 @@ def are_found(found: Found, rows: dict[str, set[str]]) -> bool:
 
 
 def main(words: list[str]) -> int:
-    document, folder = map(pathlib.Path, words)
-    found, rows = without_promise(folder), listed(document.read_text("utf-8"))
-    faults = differences(found, rows)
+    list_path, folder = map(pathlib.Path, words)
+    found = without_promise(folder)
+    rows, faults = listed(list_path.read_text("utf-8"))
+    faults += differences(found, rows)
     if not rows or not are_found(found, rows):
         faults.append("a file that the list lacks, or has too many, is not found")
     print(*faults, sep="\n", end="\n" if faults else "")

@@ -20,8 +20,8 @@ for example in "$tests"/../examples/words/*.tpms; do
     grep -E '^# let (read|measured|replayed|first|second) = ' plain.tpm | sed 's/\(.\{90\}\).*/\1../'
 done
 
-echo '== docs/LAYERED_SCRIPTS.md'
-page=$tests/../docs/LAYERED_SCRIPTS.md
+echo '== docs/SCRIPTS.md'
+page=$tests/../docs/SCRIPTS.md
 awk '/^[$] PYTHONPATH/ { exit } shown; /^[$] cat/ { shown = 1 }' "$page" >secret.tpms
 layered secret.tpms >secret.tpm && "$dist/tpmsim" run --trace secret.tpm | grep -v '^[0-9a-f]*$'
 

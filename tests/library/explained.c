@@ -1,4 +1,4 @@
-/* Executes commands and logs them with the functions that docs/LIBRARY.md
+/* Executes commands and logs them with the functions that clients/c/README.md
  * shows:
 
        explained LOG

@@ -1,5 +1,4 @@
-// A caller in Go that logs what it executes, with the function that
-// docs/LIBRARY.md shows:
+// A caller in Go that calls the C library, and logs what it executes:
 //
 //	explained LOG
 //
@@ -12,10 +11,23 @@ import "C"
 import (
 	"encoding/hex"
 	"fmt"
+	"io"
 	"os"
 	"strings"
 	"unsafe"
 )
+
+// logCommand adds a command, which tpmsim_complete executed if completes is true: the random bytes that it
+// drew, the command, and its response.
+func logCommand(log io.Writer, completes bool, buffer, drawn, response []byte) {
+	if completes {
+		fmt.Fprintln(log, "# completed")
+	}
+	if len(drawn) > 0 {
+		fmt.Fprintf(log, "entropy %x\n", drawn)
+	}
+	fmt.Fprintf(log, "cmd %x\n# %x\n", buffer, response)
+}
 
 func bytes(text string) []byte {
 	found, err := hex.DecodeString(strings.ReplaceAll(text, " ", ""))

@@ -1,5 +1,4 @@
-//! A caller in Rust that logs what it executes, with the function that
-//! docs/LIBRARY.md shows:
+//! A caller in Rust that calls the C library, and logs what it executes:
 //!
 //!     explained LOG
 //!
@@ -9,7 +8,24 @@ use std::fs::File;
 use std::io::{self, Write};
 use std::ptr::null_mut;
 
-include!(concat!(env!("FOLDER"), "/log_in_rust.rs"));
+/// Adds a command, which tpmsim_complete executed if `completes` is true: the random bytes that it drew, the
+/// command, and its response.
+fn log_command(
+    log: &mut impl Write,
+    completes: bool,
+    buffer: &[u8],
+    drawn: &[u8],
+    response: &[u8],
+) -> io::Result<()> {
+    if completes {
+        writeln!(log, "# completed")?;
+    }
+    let hex = |bytes: &[u8]| bytes.iter().map(|it| format!("{it:02x}")).collect::<String>();
+    if !drawn.is_empty() {
+        writeln!(log, "entropy {}", hex(drawn))?;
+    }
+    writeln!(log, "cmd {}\n# {}", hex(buffer), hex(response))
+}
 
 #[repr(C)]
 #[derive(Default)]

@@ -1,6 +1,6 @@
-# A program in Go logs its commands with the function that docs/LIBRARY.md shows, and another one with the Go
-# module. From these logs, tools/explain.py explains why a command was refused. The answers of the completing
-# layer are no refusals.
+# A program in Go logs its commands, which it executes with the C library, and another one with the Go module. From
+# these logs, tools/explain.py explains why a command was refused. The answers of the completing layer are no
+# refusals.
 tests=$(cd "$(dirname "$0")/.." && pwd -P)
 . "$tests/common/cases.sh"
 . "$tests/common/library.sh"
@@ -9,12 +9,8 @@ needs go python3
 copy_module
 
 export CGO_CFLAGS="-I$dist"
-{
-    printf 'package main\n\nimport (\n\t"fmt"\n\t"io"\n)\n\n'
-    awk '/^```/ { shown = $0 == "```go"; next } shown' "$tests/../docs/LIBRARY.md"
-} >log_in_go.go
-cp "$sources/explained.go" . && go vet explained.go log_in_go.go &&
-    CGO_LDFLAGS="$CGO_LDFLAGS -l:libtpmsim.a" go build -o "$room/caller" explained.go log_in_go.go &&
+cp "$sources/explained.go" . && go vet explained.go &&
+    CGO_LDFLAGS="$CGO_LDFLAGS -l:libtpmsim.a" go build -o "$room/caller" explained.go &&
     "$room/caller" log
 python3 "$tests/../tools/explain.py" log
 

@@ -1,4 +1,4 @@
-# A program in Rust logs its commands with the function that docs/LIBRARY.md shows, and another one with the Rust
+# A program in Rust logs its commands, which it executes with the C library, and another one with the Rust
 # package. From these logs, tools/explain.py explains why a command was refused. The answers of the completing
 # layer are no refusals.
 tests=$(cd "$(dirname "$0")/.." && pwd -P)
@@ -7,8 +7,7 @@ tests=$(cd "$(dirname "$0")/.." && pwd -P)
 PATH=$PATH:${HOME:-/root}/.cargo/bin
 needs cc python3 rustc
 
-awk '/^```/ { shown = $0 == "```rust"; next } shown' "$tests/../docs/LIBRARY.md" >log_in_rust.rs
-FOLDER=$PWD rustc --edition 2021 -D warnings -L "$dist" -o "$room/caller" "$sources/explained.rs" &&
+rustc --edition 2021 -D warnings -L "$dist" -o "$room/caller" "$sources/explained.rs" &&
     "$room/caller" log
 python3 "$tests/../tools/explain.py" log
 

@@ -32,7 +32,7 @@ cp "$top/tools/words.py" tools/
 cp "$top/docs/STYLE.md" docs/
 cp "$top/tools/packaging/tpmsim.bash" tools/packaging/
 printf '# Head\n[itself](#head)\n' >README.md
-echo '# Words' >docs/WORDS.md
+echo '# Words' >docs/ARCHITECTURE.md
 printf '#!/bin/sh\necho good\n' >good
 printf 'import sys\nprint(sys.path)\n' >good.py
 echo 'fn one() {}' | tee crates/tpm_one/src/lib.rt >crates/tpm_two/src/lib.rt

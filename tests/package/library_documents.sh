@@ -24,7 +24,7 @@ follow() {
 
 echo '== links'
 follow
-echo '[a test](../tests/README.md), [a heading](LINES.md#none)' >>"$documents/docs/SCRIPTS.md"
+echo '[a test](../tests/README.md), [a heading](EXPLAIN.md#none)' >>"$documents/docs/SCRIPTS.md"
 follow
 
 echo '== examples'
@@ -38,12 +38,13 @@ done
 for script in words/*.tpms; do
     tpmsim-script "$script" | tpmsim run - >"$room/told" || echo "$script: status $?"
 done
-grep -l '[a-z]\.py' ./*.* | sed 's/^/it names a program: /'
+grep -l '[a-z]\.py' ./*.tpm ./*.out ./*.trace | sed 's/^/it names a program: /'
 [ "$(find . -name '*.tpm*' | grep -c .)" -ge 15 ] && echo 'at least 15 run'
 
 echo '== names'
 cd "$documents" || exit 1
-grep -rlE --exclude=README.md '(^|[^a-z/.])(\./tpmsim|tools/(explain|audit)\.py)' . | sed 's/^/it names a program of the sources: /'
+find . -type f ! -path ./README.md -exec grep -lE '(^|[^a-z/.])(\./tpmsim|tools/(explain|audit)\.py)' {} + |
+    sed 's/^/it names a program of the sources: /'
 sed -n 3p README.md
 for page in "$pages"/man*/*.gz; do
     gzip -dc "$page" | sed 's/\\f[BIR]//g' >"$room/page"

@@ -49,7 +49,7 @@ echo '== a section that is not there, and a program that is not'
 mkdir -p copy/tools/packaging
 cp -r "$top/tools/man" copy/tools/
 for name in docs clients; do ln -s "$top/$name" "copy/$name"; done
-sed 's/#who-may-use-it/#whom/' "$top/tools/packaging/pages.toml" >copy/tools/packaging/pages.toml
+sed 's/#microsofts-protocol/#whom/' "$top/tools/packaging/pages.toml" >copy/tools/packaging/pages.toml
 python3 copy/tools/man/pages.py none --program "$program" 2>&1
 echo "status $?"
 python3 "$make" none --program ./none 2>&1 | sed "s|$room|ROOM|g"

@@ -1,5 +1,5 @@
 # Checks the output of `tpmsim check` for scripts: the number of each invalid line, its fault and column, and
-# what is expected there (docs/SCRIPTS.md, docs/LINES.md). Each tested line is between two valid ones. Lines are
+# what is expected there (docs/SCRIPTS.md). Each tested line is between two valid ones. Lines are
 # written and printed with printf's escapes.
 tests=$(cd "$(dirname "$0")/.." && pwd -P)
 . "$tests/common/cases.sh"
@@ -51,7 +51,7 @@ second "entropy $(zeros 257)" 'entropy and 257 bytes'
 second 'power '
 second 'power 1'
 
-# The invalid lines that docs/LINES.md shows.
+# The invalid lines that docs/SCRIPTS.md shows.
 second 'do Bogus'
 second 'do GetRandom'
 second 'do GetRandom x'

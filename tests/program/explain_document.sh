@@ -1,4 +1,4 @@
-# Executes the shell lines of docs/EXPLAIN.md that its reader is meant to type. Each line must print the output
+# Executes the shell blocks of docs/EXPLAIN.md that its reader is meant to copy. Each must print the output
 # that the page shows below it.
 tests=$(cd "$(dirname "$0")/.." && pwd -P)
 . "$tests/common/cases.sh"
@@ -6,4 +6,4 @@ tests=$(cd "$(dirname "$0")/.." && pwd -P)
 needs python3
 ln -s "$program" tpmsim
 ln -s "${tests%/*}/tools" tools
-type_lines "${tests%/*}/docs/EXPLAIN.md"
+type_blocks "${tests%/*}/docs/EXPLAIN.md"

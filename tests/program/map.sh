@@ -1,10 +1,10 @@
-# Checks docs/MAP.md. Its list of crates is generated from the first clause of each crate's root file, and its
+# Checks docs/ARCHITECTURE.md. Its list of crates is generated from the first clause of each crate's root file, and its
 # picture of the layers from crates.txt.
 tests=$(cd "$(dirname "$0")/.." && pwd -P)
 . "$tests/common/cases.sh"
 needs python3
 
-echo '== docs/MAP.md'
+echo '== docs/ARCHITECTURE.md'
 python3 "${tests%/*}/tools/map.py"
 echo "status $?"
 

@@ -1,5 +1,5 @@
 # Checks that the crates, functions and types that the second part of required.txt requires exist, or that
-# docs/DECISIONS.md names their replacements. That page must list no other replacements. Then the test introduces
+# docs/REQUIREMENTS.md names their replacements. That page must list no other replacements. Then the test introduces
 # each kind of mismatch into two small crates, which have their own list and page. public_calls.py must report
 # each mismatch. shellcheck disable=SC2016 # the backquotes belong to a document
 tests=$(cd "$(dirname "$0")/.." && pwd -P)
@@ -13,8 +13,8 @@ compare() {
     echo "status $?"
 }
 
-echo '== docs/DECISIONS.md'
-compare "$tests/program/required.txt" "$top/docs/DECISIONS.md" "$top"
+echo '== docs/REQUIREMENTS.md'
+compare "$tests/program/required.txt" "$top/docs/REQUIREMENTS.md" "$top"
 
 mkdir -p right/crates/one/src right/crates/two/src
 cd right || exit 1

@@ -1,4 +1,4 @@
-# Executes the shell lines of docs/TUTORIAL.md that its reader is meant to type. Each line must print the output
+# Executes the shell blocks of examples/README.md that its reader is meant to copy. Each must print the output
 # that the page shows below it.
 tests=$(cd "$(dirname "$0")/.." && pwd -P)
 . "$tests/common/cases.sh"
@@ -7,4 +7,4 @@ needs python3
 ln -s "$program" tpmsim
 ln -s "${tests%/*}/tools" tools
 ln -s "${tests%/*}/clients" clients
-type_lines "${tests%/*}/docs/TUTORIAL.md"
+type_blocks "${tests%/*}/examples/README.md"

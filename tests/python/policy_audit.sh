@@ -204,10 +204,10 @@ trace written_policies
 echo 'A LOG WITH ITS POLICIES:'
 audit_by written_policies disk update version hash once unseal
 
-# Checks that docs/USING.md shows the policy `disk`.
-using=$tests/../docs/USING.md
-echo 'WHAT docs/USING.md SHOWS:'
-sed -n '/^# The key of a disk/,/^```/p' "$using" | sed '$d' >shown
+# Checks that docs/EXPLAIN.md shows the policy `disk`.
+page=$tests/../docs/EXPLAIN.md
+echo 'WHAT docs/EXPLAIN.md SHOWS:'
+sed -n '/^# The key of a disk/,/^```/p' "$page" | sed '$d' >shown
 cmp shown policies/written_policies/disk && echo 'the same policy'
 echo 'A POLICY THAT NOTHING HAS, by one digit:'
 sed 's/6469736b/6469736c/' policies/written_policies/disk >policies/written_policies/other

@@ -1,7 +1,7 @@
 #!/usr/bin/env python3
 """Runs each tool of Debian's tpm2-tools, with the steps of day.steps and rest.steps, on tpmsim
 through the module for libtss2, on tpmsim as a server, and on swtpm. Then compares the outcomes with
-the list of tools in docs/USING.md. Not part of the gate. It installs nothing, and leaves no files.
+the list of tools in docs/TOOLS.md. Not part of the gate. It installs nothing, and leaves no files.
 
     tools/interop/tool_table.py           reports if the document differs from the outcomes
     tools/interop/tool_table.py --write   writes the list into the document
@@ -26,7 +26,7 @@ from devices import TOP, Module, Served, Swtpm
 from reasons import REASONS
 from steps import Outcome, read_steps
 
-DOCUMENT = TOP / "docs" / "USING.md"
+DOCUMENT = TOP / "docs" / "TOOLS.md"
 BEGIN, END = "<!-- tools -->\n", "<!-- end of tools -->\n"
 COLUMNS = 118
 

@@ -23,10 +23,14 @@ sys.dont_write_bytecode = sys.pycache_prefix is None
 
 from sources import TOP, installed  # noqa: E402
 
-DOCUMENTS = "*.md", "docs/*.md", "docs/table/*.md", "clients/python/README.md"
-FOR_DEVELOPERS = set("CONTRIBUTING ADDING_A_COMMAND BENCH CALLS DESIGN GATE MAP".split())
+DOCUMENTS = (
+    *("*.md", "docs/*.md", "docs/table/*.md", "examples/README.md", "web/README.md"),
+    *("clients/c/README.md", "clients/python/README.md"),
+)
+FOR_DEVELOPERS = set("CONTRIBUTING GATE REQUIREMENTS".split())
 COPIED = (
-    *("docs/*.png", "examples/*.out", "examples/*.trace", "examples/words/*.tpms"),
+    *("docs/*.png", "docs/*.svg", "web/*.png", "examples/*.out", "examples/*.trace"),
+    "examples/words/*.tpms",
     *("examples/c/*.[ch]", "examples/python/*.py", "examples/pytest/*.py"),
 )
 SCRIPTS = "examples/*.tpm"

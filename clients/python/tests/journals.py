@@ -1,4 +1,4 @@
-"""Journals in the format of docs/ATTACHED.md. The device in Python writes them, so that the tests
+"""Journals in the format of docs/SERVE.md. The device in Python writes them, so that the tests
 need no library.
 """
 

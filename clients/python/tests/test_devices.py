@@ -141,7 +141,7 @@ def differs(test):
 
 @unittest.skipUnless(shutil.which("swtpm"), "there is no swtpm")
 class OverSwtpm(TwentyTests, unittest.TestCase):
-    """Runs the tests on swtpm. A test that must fail shows that a difference in docs/OTHER_TPMS.md
+    """Runs the tests on swtpm. A test that must fail shows that a difference in docs/TOOLS.md
     still exists.
     """
 

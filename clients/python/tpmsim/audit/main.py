@@ -6,7 +6,7 @@
 OUTPUT is what `tpmsim run --trace SCRIPT` printed; `-` is standard input. A journal contains
 checksums of its own answers, and needs no OUTPUT. The device was new, unless --image or the head of
 a journal provides an image or a state text: an image is opened as after a power cycle, and the
-device of a state text continues unchanged. Each --policy is a policy in words, as docs/USING.md
+device of a state text continues unchanged. Each --policy is a policy in words, as docs/EXPLAIN.md
 describes it. With --digest nothing is checked, and the digests of the policies are printed.
 
 It prints what the log shows: the PCRs, the policies, each use of an entity with the reason why it

@@ -83,7 +83,7 @@ class Caller(Calls, PreparedCommands):
         return self.session(kind=SE_TRIAL, algorithm=algorithm)
 
     def policy(self, words: str, algorithm: int | str = SHA256, **choices: Any) -> Use:
-        """Starts a policy session, executes the commands of a policy in words (docs/USING.md) in
+        """Starts a policy session, executes the commands of a policy in words (docs/EXPLAIN.md) in
         it, and returns the session, ready for use in a command. Tries the branches of an `either`
         in order until the device accepts one. Raises Refused if the device refuses them all.
         """

@@ -96,7 +96,8 @@ def between(here: dict[str, Any], there: dict[str, Any]) -> Iterator[tuple[str, 
 
 @dataclass(frozen=True)
 class Cause:
-    """A known cause of differences: their pattern, the section of rev. 01.38, and what tpmsim does."""
+    """A known cause of differences: their pattern, the section of rev. 01.38, and what tpmsim does
+    (empty if TPMs need not agree)."""
 
     words: str
     form: str

@@ -1,4 +1,4 @@
-"""A device that is kept in a folder (docs/ATTACHED.md), through the C host in libtpmsim-kept.so.0.
+"""A device that is kept in a folder (docs/SERVE.md), through the C host in libtpmsim-kept.so.0.
 
 Python runs a signal handler only after a call of the host has returned, so an interrupt never
 leaves a call half done. A call takes a handle out of a list, and puts it back. So an interrupt or a
@@ -105,7 +105,7 @@ class KeptDevice(LocatedDevice):
     first damage on is dropped; otherwise a damaged journal is refused. A forked child may use its
     parent's device, even if another thread was inside a call at the fork. Threads take turns.
 
-    If a call fails, the message of DeviceEnded is a sentence of docs/ATTACHED.md. If the journal
+    If a call fails, the message of DeviceEnded names the file and what is wrong. If the journal
     begins with bytes that are not an image or a state text, the exception is BadImage or BadState.
     If the end of a journal was cut off, a RuntimeWarning says what is missing.
 

@@ -1,4 +1,4 @@
-"""A device in this process, through the library libtpmsim (docs/LIBRARY.md)."""
+"""A device in this process, through the library libtpmsim (clients/c/README.md)."""
 
 import ctypes
 import fcntl

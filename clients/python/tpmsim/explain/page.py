@@ -1,4 +1,4 @@
-"""Shows a log as a page: the page of the device (docs/WEB.md), with the log and the findings about
+"""Shows a log as a page: the page of the device (web/README.md), with the log and the findings about
 it. The page itself plays the log, so it contains the log's text, but no state and no fields. A log
 is data in the page, and the page's script shows it only as text. Therefore no log can close the
 element that contains it, or be parsed as markup.

@@ -174,7 +174,7 @@ class OfLayer(Reason):
 
     @property
     def link(self) -> str:
-        return "docs/USING.md#what-the-completing-layer-answers"
+        return "docs/TOOLS.md#the-completing-layer"
 
 
 class Look:

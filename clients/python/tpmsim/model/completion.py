@@ -1,5 +1,5 @@
 """The completing layer above the device. It answers commands that the device, by design, does not
-support (docs/USING.md). The context of an object or of a sequence object contains that object; the
+support (docs/TOOLS.md). The context of an object or of a sequence object contains that object; the
 context of a session is only a token, and the session stays in the device. The layer itself keeps
 the sequence objects.
 """

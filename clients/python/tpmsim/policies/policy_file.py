@@ -1,4 +1,4 @@
-"""The policy in a file (docs/USING.md), and the steps that execute it in a session, in order."""
+"""The policy in a file (docs/EXPLAIN.md), and the steps that execute it in a session, in order."""
 
 from __future__ import annotations
 

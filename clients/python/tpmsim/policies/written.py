@@ -1,5 +1,5 @@
 """Written assertions, in the terms of tpm_policy_meaning (Expression, PolicyDigest): their words in
-docs/USING.md, the texts that they add to the digest, and the parameters of their commands.
+docs/EXPLAIN.md, the texts that they add to the digest, and the parameters of their commands.
 """
 
 from __future__ import annotations

@@ -64,7 +64,7 @@ def spelled(tokens: Sequence[Token]) -> Prepared:
 
 
 def bad_line(fault: lines.Fault, given: Sequence[str], tokens: Sequence[Token]) -> Bad:
-    """Returns the error for a fault of docs/LINES.md, with the expected form of the line. The
+    """Returns the error for a fault of docs/SCRIPTS.md, with the expected form of the line. The
     column of the fault refers to `given`.
     """
     name, *columns = str(fault).split()

@@ -33,8 +33,8 @@ class HandleKind(enum.Enum):
 
 
 class Kind(enum.Enum):
-    """The type of a parameter: a word of docs/LINES.md; a number that is printed in hex, because it
-    is a set of bits, a code or a handle; or a structure that occurs only in responses.
+    """The type of a parameter: a word of docs/SCRIPTS.md; a number that is printed in hex, because
+    it is a set of bits, a code or a handle; or a structure that occurs only in responses.
     """
 
     U8 = "u8"

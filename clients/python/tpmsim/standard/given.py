@@ -35,7 +35,7 @@ NUMBER_WORDS: dict[str, dict[str, int]] = {
     "code": {name: code for code, name in NAMES.items()},
 }
 
-# The kinds of parameters whose words are those of docs/LINES.md. The words of a buffer would be
+# The kinds of parameters whose words are those of docs/SCRIPTS.md. The words of a buffer would be
 # hex, which is easily mistaken for text.
 IN_LINES = (Kind.SELECTION, Kind.DIGESTS, Kind.CIPHER, Kind.HASH)
 

@@ -57,8 +57,8 @@ def is_entity(handle: int) -> bool:
 
 @dataclass(frozen=True)
 class HandleForm:
-    """A kind of handle: the condition that its handles satisfy, its name in docs/LINES.md, and its
-    name in text.
+    """A kind of handle: the condition that its handles satisfy, its name in docs/SCRIPTS.md, and
+    its name in text.
     """
 
     holds: Callable[[int], bool]

@@ -1,4 +1,4 @@
-"""Commands in words, and traces of events (docs/LINES.md).
+"""Commands in words, and traces of events (docs/SCRIPTS.md).
 
 A line is of type bytes, since a wrong line may contain any bytes.
 """
