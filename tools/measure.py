@@ -1,11 +1,11 @@
 #!/usr/bin/env python3
 """Runs the gate and writes its figures to docs/gate.json.
 
-`tools/measure.py` runs .ci/run at the top of the repository, prints its output, and adds up the CPU
-seconds of all toolchain processes, for each crate and kind of process. `tools/measure.py --proofs`
-does the same with only `rt ci`. `tools/measure.py WORDS..` measures another command, prints the
-figures and writes nothing. If `taskset` limits the processors, the figures are stored separately
-from those for all processors. Runs only on Linux.
+`.ci/run --figures` starts this program, which runs .ci/run at the top of the repository, prints its
+output, and adds up the CPU seconds of all toolchain processes, for each crate and kind of process.
+It writes no figures if the gate failed, or if `rt ci` took a proof from an earlier run.
+`tools/measure.py WORDS..` measures another command, prints the figures and writes nothing. Runs
+only on Linux.
 
 `tools/measure.py --wrong REFUSED TRIED` stores how many of the wrong bodies that the gate does not
 try were refused.
@@ -105,11 +105,9 @@ def output_of(*words: str) -> str:
 
 
 def machine() -> str:
-    """Returns the model of the processor, and the number of processors that this process may use.
-    """
+    """Returns the model of the processor."""
     found = re.search(r"(?m)^model name\s*: (.*)$", Path("/proc/cpuinfo").read_text())
-    name = found[1] if found else "unknown processor"
-    return f"{len(os.sched_getaffinity(0))} x {name}"
+    return found[1] if found else "unknown processor"
 
 
 def stolen() -> float:
@@ -126,19 +124,20 @@ def figures(lines: list[str], minutes: float, uses: dict[Process, Use]) -> dict[
     for crate, kind, used in uses.values():
         seconds[crate, kind] += used
     by_kind = {kind: sum(s for (_, k), s in seconds.items() if k == kind) for kind in KINDS}
-    crates = sorted({crate for crate, _ in seconds})
+    of_kinds = {kind: round(by_kind[kind] / 60, 1) for kind in KINDS}
     return {
         "date": date.today().isoformat(),
         "commit": output_of("git", "rev-parse", "HEAD"),
         "kit": output_of("rt", "version"),
         "machine": machine(),
+        "cores": len(os.sched_getaffinity(0)),
         "load": round(os.getloadavg()[2], 1),
         "result": lines[-1] if lines else "",
         "minutes": round(minutes, 1),
-        "processor_minutes": {kind: round(by_kind[kind] / 60, 1) for kind in KINDS},
+        "processor_minutes": {"in all": round(sum(by_kind.values()) / 60, 1), **of_kinds},
         "processor_seconds_by_crate": {
             crate: {kind: round(seconds[crate, kind]) for kind in KINDS if seconds[crate, kind]}
-            for crate in crates
+            for crate in sorted({crate for crate, _ in seconds})
             if any(seconds[crate, kind] for kind in KINDS)
         },
     }
@@ -151,23 +150,39 @@ def write(key: str, told: Mapping[str, object]) -> None:
     FIGURES.write_text(json.dumps(known, indent=1) + "\n")
 
 
+def why_not_written(lines: list[str], status: int) -> str:
+    """Returns why the figures of a run of the gate are not those of a whole run, or nothing."""
+    kept = [line for line in lines if re.match(r"rt: [a-z_]+ is kept", line)]
+    if status != 0:
+        return "the gate failed"
+    if kept:
+        return f"`rt ci` took {len(kept)} proofs from an earlier run; use a machine that has none"
+    return ""
+
+
+def measure_gate() -> int:
+    """Runs the gate, and writes its figures if it was run from nothing and passed."""
+    stolen_before = stolen()
+    lines, status, minutes, uses = run(["sh", ".ci/run"])
+    told = {**figures(lines, minutes, uses), "stolen_processor_minutes": round(stolen() - stolen_before, 1)}
+    why = why_not_written(lines, status)
+    if why:
+        print(f"tools/measure.py: docs/gate.json is as it was: {why}", file=sys.stderr)
+        return status or 1
+    write("gate", told)
+    return 0
+
+
 def main(words: list[str]) -> int:
     """Runs the gate, or the command in the arguments."""
     if words[:1] == ["--wrong"]:
         where = {"date": date.today().isoformat(), "commit": output_of("git", "rev-parse", "HEAD")}
         write("wrong_bodies", {**where, "refused": int(words[1]), "tried": int(words[2])})
         return 0
-    kept: dict[tuple[str, ...], tuple[str, list[str]]]
-    kept = {(): ("gate", ["sh", ".ci/run"]), ("--proofs",): ("proofs", ["sh", "tools/lib/rt_ci.sh"])}
-    key, command = kept.get(tuple(words), ("", words))
-    stolen_before = stolen()
-    lines, status, minutes, uses = run(command)
-    told = {**figures(lines, minutes, uses), "stolen_processor_minutes": round(stolen() - stolen_before, 1)}
-    number = len(os.sched_getaffinity(0))
-    if key:
-        write(key if number == os.cpu_count() else f"{key}_on_{number}_processors", told)
-    else:
-        print(json.dumps(told, indent=1))
+    if not words:
+        return measure_gate()
+    lines, status, minutes, uses = run(words)
+    print(json.dumps(figures(lines, minutes, uses), indent=1))
     return status
 
 
