@@ -3,18 +3,15 @@
 highest of the crates that it depends on; crates without dependencies are at the bottom. A crate's
 colour shows its group, which is a heading of crates.txt.
 
-`tools/house.py` draws the picture again, and its status is 1 if the file differs from it;
-`tools/house.py --write` writes the file.
+`tools/house.py` prints the picture. tools/generated.py writes the file.
 """
 
 import re
-import sys
 from dataclasses import dataclass
 from html import escape
 from pathlib import Path
 
 TOP = Path(__file__).resolve().parent.parent
-PICTURE = TOP / "docs" / "house.svg"
 
 # Sizes in pixels. A row with more crates has several lines.
 COLUMNS, BOX, LINE, GAP, MARGIN, TEXT = 5, 182, 24, 6, 12, 12
@@ -122,16 +119,5 @@ def picture() -> str:
     return "\n".join([head, f"<style>{STYLE}</style>", *drawn, *more, "</svg>"]) + "\n"
 
 
-def main() -> int:
-    """Compares the picture with the file, or writes it."""
-    made = picture()
-    if sys.argv[1:] == ["--write"]:
-        PICTURE.write_text(made, "utf-8")
-    elif not PICTURE.exists() or PICTURE.read_text("utf-8") != made:
-        print("docs/house.svg: it is another than tools/house.py --write makes")
-        return 1
-    return 0
-
-
 if __name__ == "__main__":
-    sys.exit(main())
+    print(picture(), end="")

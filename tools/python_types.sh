@@ -16,9 +16,13 @@ PYTHONPATH=$top/clients/python
 PYTHONDONTWRITEBYTECODE=1
 export PYTHONPATH PYTHONDONTWRITEBYTECODE
 status=0
+# mypy and black read a copy of the package, to which the types of the calls are written.
+cp -R "$top/clients/python" "$work" && cd "$work/python" || exit 1
+PYTHONPATH=$work/python python3 packing/call_types.py || status=1
 mypy --cache-dir "$work/mypy" || status=1
-pyflakes3 tpmsim tests "$top/tests" "$top/examples" "$top/tools/bench" || status=1
 /usr/bin/black --quiet --check . || status=1
+cd "$top/clients/python" || exit 1
+pyflakes3 tpmsim tests "$top/tests" "$top/examples" "$top/tools/bench" || status=1
 # The programs of the tests must be formatted like the package.
 /usr/bin/black --quiet --check --config pyproject.toml "$top/tests" "$top/examples" || status=1
 pytest-3 -q -p no:cacheprovider -p tpmsim.pytest_plugin tests || status=1

@@ -45,6 +45,8 @@ with tempfile.TemporaryDirectory() as folder, KeptDevice(folder) as device:
 for place in places()[0], beside("libtpmsim-kept.so.0"):
     print(pathlib.Path(place).relative_to(sys.prefix).parts[-2:])
 print(importlib.metadata.version("tpmsim") == tpmsim.__version__)
+types = pathlib.Path(tpmsim.__file__).with_name("caller") / "calls.pyi"
+print(types.name, types.read_text("ascii").count("\nclass GetRandomResponse("))
 END
 
 echo '== a wheel'

@@ -1,5 +1,6 @@
-"""Writes clients/python/tpmsim/caller/calls.pyi, the types of each command and of its response, from the
-table of commands:
+"""Makes calls.pyi, the types of each command and of its response, from the table of commands. An
+installed package contains this file. For editors and mypy in a clone of the repository, this
+command writes it to clients/python/tpmsim/caller:
 
     tools/python.sh clients/python/packing/call_types.py
 """
@@ -11,10 +12,11 @@ from tpmsim.caller import short_names
 from tpmsim.standard import CC, Kind, Parameter
 from tpmsim.standard.given import NUMBER_WORDS
 
-STUB = pathlib.Path(__file__).resolve().parents[1] / "tpmsim/caller/calls.pyi"
+# The path of the file in the package.
+PLACE = "tpmsim/caller/calls.pyi"
 COLUMNS = 100
 
-HEAD = '''"""The types of calls.py. packing/call_types.py writes this file; do not change it."""
+HEAD = '''"""The types of calls.py. packing/call_types.py makes this file; do not change it."""
 
 from typing import Any, Iterable, Literal, overload, Sequence
 
@@ -150,4 +152,4 @@ def stub() -> str:
 
 
 if __name__ == "__main__":
-    STUB.write_text(stub(), "ascii")
+    (pathlib.Path(__file__).resolve().parents[1] / PLACE).write_text(stub(), "ascii")

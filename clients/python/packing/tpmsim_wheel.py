@@ -12,6 +12,7 @@ import io
 import os
 import pathlib
 import platform
+import sys
 import tarfile
 import time
 import tomllib
@@ -19,6 +20,12 @@ import zipfile
 from typing import Any, Iterator
 
 SOURCES = pathlib.Path(__file__).resolve().parents[1]
+sys.path.insert(0, str(SOURCES))
+# Python must write no bytecode next to the sources.
+sys.dont_write_bytecode = sys.pycache_prefix is None
+
+import call_types  # noqa: E402
+
 DISTRIBUTION = SOURCES.parents[1] / "dist"
 LIBRARY, KEPT_LIBRARY, PROGRAM = "libtpmsim.so.0", "libtpmsim-kept.so.0", "tpmsim"
 
@@ -67,8 +74,11 @@ def sources() -> list[pathlib.Path]:
 
 
 def package() -> list[Entry]:
-    """Returns all files of the package: its sources and, in a clone of the repository, the page."""
+    """Returns all files of the package: its sources, the types of its calls and, in a clone of the
+    repository, the page.
+    """
     files = [Entry(it.relative_to(SOURCES).as_posix(), it.read_bytes()) for it in sources()]
+    files.append(Entry(call_types.PLACE, call_types.stub().encode("ascii")))
     return [*files, Entry(PAGE_PLACE, PAGE.read_bytes())] if PAGE.is_file() else files
 
 

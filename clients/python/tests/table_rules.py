@@ -1,6 +1,6 @@
-"""Extracts the sentences about all checks from docs/table. `python3 -B table_rules.py` in this
-folder writes them to tpmsim/explain/rules.json, which is shipped without docs/table. A test
-compares this file with docs/table.
+"""Extracts the sentences about all checks from docs/table. They are stored in
+tpmsim/explain/rules.json, since the package is used without docs/table. tools/generated.py writes
+that file, and a test compares it with docs/table.
 """
 
 import json
@@ -170,12 +170,9 @@ def rules():
     return made.found
 
 
-def text_of(found):
-    """Returns the rules as JSON, one rule on each line."""
+def text():
+    """Returns the text of rules.json, with one rule on each line."""
+    found = rules()
     said = [f" {json.dumps(it, ensure_ascii=False)}: " for it in found]
     told = [json.dumps(list(it), ensure_ascii=False) for it in found.values()]
     return "{\n" + ",\n".join(map("".join, zip(said, told))) + "\n}\n"
-
-
-if __name__ == "__main__":
-    WRITTEN.write_text(text_of(rules()), "utf-8")

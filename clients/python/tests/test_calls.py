@@ -24,6 +24,7 @@ from tpmsim.standard import CC, given, lines, nv, objects, RH_OWNER, SHA1, SHA25
 PACKAGE = pathlib.Path(__file__).resolve().parents[1]
 sys.path.append(str(PACKAGE / "packing"))
 import call_types
+import tpmsim_wheel
 
 # The packages for users. All public functions in them have a docstring.
 FOR_PEOPLE = "caller", "device", "policies", "records", "script", "standard", "faults"
@@ -277,10 +278,11 @@ class Documented(unittest.TestCase):
         self.assertTrue(wrong.startswith("bytesRequested takes an integer from 0 to 65535"))
 
     def test_stub(self):
-        """calls.pyi equals what call_types.py makes from the table of commands."""
-        stub = (PACKAGE / "tpmsim/caller/calls.pyi").read_text("ascii")
+        """The packed calls.pyi is what call_types.py makes from the table of commands."""
+        packed = {it.name: it.data for it in tpmsim_wheel.package()}
+        stub = packed["tpmsim/caller/calls.pyi"].decode("ascii")
         self.assertEqual(stub, call_types.stub())
-        self.assertTrue((PACKAGE / "tpmsim/py.typed").is_file())
+        self.assertIn("tpmsim/py.typed", packed)
         for name in ("Commands", "Calls", *(f"{it.name}Response" for it in CC)):
             self.assertTrue(inspect.isclass(getattr(calls, name)))
             self.assertIn(f"class {name}(", stub)

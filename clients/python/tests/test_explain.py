@@ -39,7 +39,7 @@ def told(*words):
 class Sentences(unittest.TestCase):
     def test_rules_are_those_of_the_table(self):
         self.assertEqual(RULES, {key: list(it) for key, it in table_rules.rules().items()})
-        self.assertEqual(table_rules.WRITTEN.read_text(), table_rules.text_of(table_rules.rules()))
+        self.assertEqual(table_rules.WRITTEN.read_text(), table_rules.text())
 
     def test_links_lead_to_headings(self):
         for _, link in RULES.values():

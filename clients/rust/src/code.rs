@@ -1,7 +1,12 @@
 //! Response codes and checks, and their names.
 
-use crate::names::{name_of, CODES};
+use crate::names::CODES;
 use std::fmt;
+
+/// Returns the name for a number in a table.
+pub(crate) fn name_of(table: &[(u32, &'static str)], number: u32) -> Option<&'static str> {
+    table.iter().find(|(of, _)| *of == number).map(|(_, name)| *name)
+}
 
 /// The handle, parameter or authorization entry to which a response code refers.
 #[derive(Clone, Copy, Debug, PartialEq, Eq, Hash)]

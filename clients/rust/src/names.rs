@@ -1,4 +1,5 @@
-//! The names of response codes and of commands.
+//! The names of response codes and of commands. tools/generated.py writes this file; do not
+//! change it.
 
 /// The response codes, without the number of a handle, parameter or session, and their names (TPM
 /// 2.0 Library, Part 2, section 6.6.3).
@@ -104,8 +105,3 @@ pub(crate) const COMMANDS: &[(u32, &str)] = &[
     (0x18c, "PolicyPassword"),
     (0x18f, "PolicyNvWritten"),
 ];
-
-/// Returns the name for a number in a table.
-pub(crate) fn name_of(table: &[(u32, &'static str)], number: u32) -> Option<&'static str> {
-    table.iter().find(|(of, _)| *of == number).map(|(_, name)| *name)
-}

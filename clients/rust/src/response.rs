@@ -1,7 +1,7 @@
 //! The responses of a device.
 
-use crate::code::{Check, ResponseCode};
-use crate::names::{name_of, COMMANDS};
+use crate::code::{name_of, Check, ResponseCode};
+use crate::names::COMMANDS;
 use crate::native::Outcome;
 use std::fmt;
 

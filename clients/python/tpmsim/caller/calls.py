@@ -1,7 +1,7 @@
 """The commands, which are called by their names in Part 3 or prepared by their short names, and a
 response class for each command. All are made from the table of commands,
 `tpmsim.standard.commands`. The types of each command are in calls.pyi, which packing/call_types.py
-writes from the same table.
+makes from the same table.
 """
 
 import functools

@@ -21,7 +21,7 @@ from tpmsim.model.sequence_sessions import SessionUse
 from tpmsim.standard import CC, Entry, frames, HEADER_BYTES, is_policy, is_session, NUMBERED, nv
 from tpmsim.standard import values
 
-# The sentence for each check, and its location in docs/table. tests/table_rules.py writes the file.
+# The sentence for each check, and its location in docs/table. tools/generated.py writes the file.
 RULES_FILE = pathlib.Path(__file__).with_name("rules.json")
 RULES: dict[str, list[str]] = json.loads(RULES_FILE.read_text("utf-8"))
 

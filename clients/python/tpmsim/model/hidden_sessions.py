@@ -10,8 +10,7 @@ from collections.abc import Callable, Iterator
 from dataclasses import dataclass
 
 from tpmsim.model import sequence_commands
-from tpmsim.model.general import NUMBERED
-from tpmsim.standard import frames
+from tpmsim.standard import frames, NUMBERED
 
 # The number of handles of each command on sequence objects that has sessions.
 SEQUENCE_HANDLES = {
