@@ -1,9 +1,13 @@
 """Writes the table of differences from swtpm into docs/TOOLS.md, between its marks:
 
     python3 -m tpmsim.compare.page docs/TOOLS.md SCRIPT..
+
+tests/common/made.py makes the scripts.
 """
 
+import itertools
 import pathlib
+import re
 import subprocess
 import sys
 from collections import defaultdict
@@ -17,14 +21,31 @@ HEAD = """| what differs | example | tpmsim | swtpm {version} | our decision |
 |---|---|---|---|---|"""
 
 
-def short(value: str) -> str:
-    return value if len(value) <= 40 else f"{value[:37]}.."
+# The outcome in the comment of a command.
+OUTCOME = re.compile(r": [A-Z][A-Z0-9_]+\b")
+
+
+def short(value: str, most: int = 40) -> str:
+    return value if len(value) <= most else f"{value[: most - 3]}.."
+
+
+def words_above(script: str, line: int) -> str:
+    """Returns the words of the comment above a line of a script, without the outcome. If the comment
+    names no outcome, returns its first sentence.
+    """
+    above = script.splitlines()[: line - 1][::-1]
+    comment = itertools.dropwhile(lambda it: not it.startswith("#"), above)
+    told = list(itertools.takewhile(lambda it: it.startswith("#"), comment))
+    text = " ".join(it[1:].strip() for it in reversed(told))
+    words, *outcome = OUTCOME.split(text, 1)
+    return words if outcome else text.partition(". ")[0]
 
 
 def row(cause: Cause, found: list[tuple[pathlib.Path, Difference]]) -> str:
     accepted = [each for each in found if "success" in (each[1].here, each[1].there)]
     path, it = (accepted or found)[0]
-    example = f"{path.parent.name}/{path.stem}:{it.line} {it.command}"
+    words = short(words_above(path.read_text("latin-1"), it.line), 120)
+    example = f'{path.parent.name}/{path.stem}, "{words}": {it.command}'
     if it.what != "code":
         example += f" {it.what}"
     what = f"{cause.words} ({cause.section})" if cause.section else cause.words
