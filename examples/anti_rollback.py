@@ -1,4 +1,4 @@
-"""Writes anti_rollback.tpm. An NV counter, which never decreases, contains the lowest version that
+"""Makes anti_rollback.tpm. An NV counter, which never decreases, contains the lowest version that
 may start. The key of the disk is sealed for each image: the TPM returns the key only if the
 measured image is that image, and its version is not below the counter. So nobody can start an old
 image with a known fault again, although the image is authentic and its sealed key is still on the

@@ -1,4 +1,4 @@
-"""Writes disk_pin.tpm. A PIN of four digits has 10,000 values, which a computer can try in no time.
+"""Makes disk_pin.tpm. A PIN of four digits has 10,000 values, which a computer can try in no time.
 With a TPM such a PIN still protects a disk: the TPM counts failed tries, and after a few of them it
 returns only LOCKOUT until time has passed. The standard calls this dictionary attack protection.
 `wait MS` lets MS milliseconds pass before the next command.

@@ -1,4 +1,4 @@
-"""Writes disk_unlock.tpm. The TPM unlocks an encrypted disk if the computer was started with the
+"""Makes disk_unlock.tpm. The TPM unlocks an encrypted disk if the computer was started with the
 enrolled software, as with systemd-cryptenroll and clevis for LUKS. Their storage key is an ECC or
 RSA key. Here it is an AES key, but the steps are the same.
 """

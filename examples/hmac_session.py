@@ -1,4 +1,4 @@
-"""Writes hmac_session.tpm. An HMAC session changes the owner's authorization value, so that no
+"""Makes hmac_session.tpm. An HMAC session changes the owner's authorization value, so that no
 value is sent in plain text, and nobody can send a command again or alter it in transit.
 """
 

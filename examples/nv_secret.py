@@ -1,4 +1,4 @@
-"""Writes nv_secret.tpm. A secret of 32 bytes, such as the key of a disk, is stored in an NV index
+"""Makes nv_secret.tpm. A secret of 32 bytes, such as the key of a disk, is stored in an NV index
 that a password protects. The boot loader asks for the password, reads the secret through a session
 that encrypts it, and locks the index: nobody can read it again before the next start, even with the
 password.

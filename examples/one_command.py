@@ -1,4 +1,4 @@
-"""Writes one_command.tpm. An administrator lets a technician do one thing to a computer: write one
+"""Makes one_command.tpm. An administrator lets a technician do one thing to a computer: write one
 value to one NV index, once. The technician gets no password. The permission is a cpHash: the hash
 of a command's code, of the Names of its handles and of its parameters.
 """

@@ -1,4 +1,4 @@
-"""Writes sealing_policy.tpm. The key of an encrypted disk is to be sealed: the device returns it
+"""Makes sealing_policy.tpm. The key of an encrypted disk is to be sealed: the device returns it
 only if the computer was started by the same software, only to the operating system, and only to
 someone who knows a PIN. This script shows what an unlocker does beforehand: it makes the policy, a
 digest of 32 bytes, with which the key is then sealed. The policy authorizes nothing yet, so a trial

@@ -1,4 +1,4 @@
-"""Writes suspend_resume.tpm. A laptop sleeps (ACPI state S3): the memory keeps its content, but the
+"""Makes suspend_resume.tpm. A laptop sleeps (ACPI state S3): the memory keeps its content, but the
 TPM loses its power and its PCRs. The software in memory continues where it stopped. It was measured
 when it started, and is not measured again. So the operating system asks the TPM to save the PCRs
 before the laptop sleeps, and later the firmware asks the TPM to restore them.

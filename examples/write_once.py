@@ -1,4 +1,4 @@
-"""Writes write_once.tpm. A factory writes the record of a board into its TPM once, at the end of
+"""Makes write_once.tpm. A factory writes the record of a board into its TPM once, at the end of
 the production line. From then on nobody can write it, whatever passwords they know, and everybody
 can read it. TPM2_PolicyNvWritten makes this policy: a writer must find the index unwritten. Only
 the platform, whose value the firmware sets at each start, can still remove the index.

@@ -1,11 +1,12 @@
 #!/bin/sh
 # Plays the scripts of tests/ and examples/, and the shell tests of tests/, and compares the results with the
-# expected files next to them. Exhaustive scripts are not stored: tests/common/made.py generates them first,
-# with the responses and traces of the Python model. The script tests both programs that `rt ci` builds, and
-# also the program in dist/ if its bytes differ. Then tpmsim_lists, which stores the device's state in lists and
-# not in arrays of fixed size, plays the scripts that must succeed, and must print the same bytes. The last
-# tests are the shell tests of tpmsim_lists, of the library in dist/, and of the hosts that use the library. If
-# nothing was built here, only the files in dist/ are tested, which needs no `rt`.
+# expected files next to them. Before that, tests/common/made.py makes the scripts that programs write, their
+# responses, and the trace of each script, with the Python model. A made file whose SHA-256 is not that in
+# tests/made.sums counts as a failed test. The script tests both programs that `rt ci` builds, and also the
+# program in dist/ if its bytes differ. Then tpmsim_lists, which stores the device's state in lists and not in
+# arrays of fixed size, plays the scripts that must succeed, and must print the same bytes. The last tests are
+# the shell tests of tpmsim_lists, of the library in dist/, and of the hosts that use the library. If nothing was
+# built here, only the files in dist/ are tested, which needs no `rt`.
 #
 #   tools/scripts.sh                   all tests
 #   tools/scripts.sh --shipped         only the tests of the files in dist/
@@ -18,14 +19,14 @@
 #
 # NAME.tpm is run as `PROGRAM run NAME.tpm`, or as `tpmsim_lists <NAME.tpm`, and NAME.sh as `sh NAME.sh PROGRAM`. A
 # shell test whose name begins with lists_ is run only with tpmsim_lists. A shell test whose name begins with
-# library_ or attached_ is run with dist/libtpmsim.a. All other shell tests are run with the other programs.
-# NAME.out is the expected standard output, NAME.err the expected standard error (no file: empty), and NAME.status
-# the expected status (no file: 0). If there is a NAME.trace, another test runs NAME.tpm as
-# `PROGRAM run --trace NAME.tpm` and expects NAME.trace as standard output. A shell test that cannot run here ends
-# with status 77, and prints one line with the reason. Such a test is counted as skipped, like a test whose program
-# is missing. Results are printed in the order of programs and of tests, regardless of which test ends first. The
-# last line is `N passed, M failed`, followed by `, K skipped` if a test was skipped. The lines before it say why:
-# one names the Debian packages with which more tests can run, and the others count the tests that no package helps.
+# library_ or attached_ is run with dist/libtpmsim.a. All other shell tests are run with the other programs. NAME.out
+# is the expected standard output, NAME.err the expected standard error (no file: empty), and NAME.status the
+# expected status (no file: 0). Another test runs NAME.tpm as `PROGRAM run --trace NAME.tpm` and expects NAME.trace
+# as standard output. A shell test that cannot run here ends with status 77, and prints one line with the reason.
+# Such a test is counted as skipped, like a test whose program is missing. Results are printed in the order of
+# programs and of tests, regardless of which test ends first. The last line is `N passed, M failed`, followed by `, K
+# skipped` if a test was skipped. The lines before it say why: one names the Debian packages with which more tests
+# can run, and the others count the tests that no package helps.
 #
 # A test is ended after an hour of processor time, or after it only waited for an hour: tools/lib/watch_tests.sh. The
 # variables PROCESSOR_S and IDLE_S change these limits, in seconds.
@@ -91,13 +92,24 @@ skip() {
     say "skipped: $1: $2"
 }
 
-# check_made TEST PROGRAM: queues a generated script. The script is run only with --trace, because the trace
-# includes the responses.
+# check_made TEST PROGRAM WANTED [OPTION]: queues a test whose script or expected output is made.
 check_made() {
     if [ "${TPMSIM_PYTHON:-}" = whole ]; then
-        check "$1" "$2" "${1%.tpm}.trace" --trace
+        check "$@"
     else
-        skip "${1#"$work/"}" 'there is no python3 (Debian: python3)'
+        skip "${1#"$made_in/"}${4:+ $4}" 'there is no python3 (Debian: python3)'
+    fi
+}
+
+# check_script TEST PROGRAM: queues both tests of a script, without and with --trace.
+check_script() {
+    if is_made "$1"; then
+        check_made "$1" "$2" "${1%.tpm}.out"
+        check_made "$1" "$2" "${1%.tpm}.trace" --trace
+    else
+        of_script=$made_in/${1#"$top/"}
+        check "$1" "$2" "${1%.tpm}.out"
+        check_made "$of_script" "$2" "${of_script%.tpm}.trace" --trace
     fi
 }
 
@@ -109,16 +121,15 @@ is_test() {
     esac
 }
 
-# The programs that generate scripts, one on each line.
-programs_of_made=$(find "$top/tests" -mindepth 2 -maxdepth 2 -name '*.py' \
-    -exec grep -lE '^"""Makes [a-z_0-9]+[.]tpm' {} + | sort)
+# The programs that make scripts, one on each line.
+programs_of_made=$(grep -slE '^"""Makes [a-z_0-9]+[.]tpm' "$top"/tests/*/*.py "$top"/examples/*.py | sort)
 
-# makes PROGRAM: succeeds if the program generates a script.
+# makes PROGRAM: succeeds if the program makes a script.
 makes() {
     echo "$programs_of_made" | grep -qxF -- "$1"
 }
 
-# is_made TEST: succeeds if the test is a generated script.
+# is_made TEST: succeeds if the test is a script that a program makes.
 is_made() {
     case $1 in
     "$made_in/"*) true ;;
@@ -136,6 +147,7 @@ esac
 if [ "$#" -eq 0 ]; then
     set -- '*'
 fi
+asked_names=$*
 for name do
     shift
     found=
@@ -148,9 +160,9 @@ for name do
         fi
     done
     # shellcheck disable=SC2086,SC2231 # a name may be a pattern
-    for written_by in "$top/tests/"$name.py "$top/tests/"*/$name.py; do
+    for written_by in "$top/tests/"$name.py "$top/tests/"*/$name.py "$top/examples/"$name.py; do
         if makes "$written_by"; then
-            test=${written_by#"$top/tests/"}
+            test=${written_by#"$top/"}
             set -- "$@" "$made_in/${test%.py}.tpm"
             found=yes
         fi
@@ -158,22 +170,27 @@ for name do
     [ -n "$found" ] || say "FAILED: $name: there is no such test"
 done
 
-# make_scripts TEST..: generates the scripts among these tests that are not stored. If these tests include all
-# generated scripts, the tests that play all scripts do not generate them again.
+# make_scripts TEST..: makes the scripts among these tests. Each line that tests/common/made.py prints is a fault.
 make_scripts() {
     for test do
         shift
-        ! is_made "$test" || set -- "$@" "$(basename "$test" .tpm)"
+        case $test in
+        *.tpm) set -- "$@" "$(basename "$test" .tpm)" ;;
+        esac
     done
     [ "$#" -gt 0 ] || return 0
-    JOBS=$jobs "$top/tools/python.sh" "$top/tests/common/made.py" "$made_in" "$@" 2>"$work/fault" || {
-        say "FAILED: scripts that are made: $(tail -n 1 "$work/fault")"
+    [ "$asked_names" != '*' ] || set --
+    if JOBS=$jobs "$top/tools/python.sh" "$top/tests/common/made.py" "$made_in" "$@" \
+        >"$work/faults" 2>"$work/said"; then
+        say 'ok: the made scripts are as tests/made.sums says'
         return
-    }
-    [ "$#" -lt "$(echo "$programs_of_made" | wc -l)" ] || export TPMSIM_MADE="$made_in"
+    fi
+    [ -s "$work/faults" ] || echo "tests/common/made.py: $(tail -n 1 "$work/said")" >"$work/faults"
+    while read -r fault; do say "FAILED: $fault"; done <"$work/faults"
 }
 
-unset TPMSIM_MADE
+# The tests of a run share the folder of the made scripts. A test makes in it the scripts that it lacks.
+export TPMSIM_MADE="$made_in"
 [ "${TPMSIM_PYTHON:-}" != whole ] || make_scripts "$@"
 
 # is_of_library TEST: succeeds if a test concerns the library, a host that uses it, or the module for web pages.
@@ -225,13 +242,9 @@ for program in "$out/tpmsim" "$out/tpmsim.by-rattle" "$in_dist"; do
         */lists_*.sh) continue ;;
         esac
         ! is_of_library "$test" || continue
-        if is_made "$test"; then
-            check_made "$test" "$program"
-            continue
-        fi
-        check "$test" "$program" "${test%.*}.out"
         case $test in
-        *.tpm) [ ! -f "${test%.*}.trace" ] || check "$test" "$program" "${test%.*}.trace" --trace ;;
+        *.tpm) check_script "$test" "$program" ;;
+        *) check "$test" "$program" "${test%.*}.out" ;;
         esac
     done
 done

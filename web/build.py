@@ -23,11 +23,12 @@ from dataclasses import dataclass
 
 HERE = pathlib.Path(__file__).resolve().parent
 TOP = HERE.parent
-sys.path.insert(0, str(TOP / "clients" / "python"))
+sys.path[:0] = [str(TOP / "clients" / "python"), str(TOP)]
 
 from tpmsim.explain import dissection, words  # noqa: E402
 from tpmsim.standard import CC, handle_kinds, lines, nv, objects  # noqa: E402
 from tpmsim.standard.command_names import NOT_SERVED  # noqa: E402
+from tests.common import places  # noqa: E402
 
 PAGE = HERE / "page"
 MOST_BYTES = 700_000
@@ -102,7 +103,7 @@ def facts(docs: str) -> Value:
         },
         "kindWords": kinds,
         "rules": rules_value(),
-        "examples": [[it, (TOP / "examples" / f"{it}.tpm").read_text("utf-8")] for it in EXAMPLES],
+        "examples": [[it.stem, it.read_text("utf-8")] for it in places.named(*EXAMPLES)],
         "algorithms": words.ALGORITHMS,
         "handleNames": {name.decode("ascii"): it for name, it in lines.HANDLE_NAMES.items()},
         "ofFirstByte": words.OF_FIRST_BYTE,

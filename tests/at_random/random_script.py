@@ -21,7 +21,7 @@ from tpmsim.standard import frames, handle_kinds, HandleKind, KEYEDHASH, number,
 from tpmsim.standard import RH_NULL, RS_PW, sessions, SHA1, SHA256, Short, sized, SYMCIPHER, XOR
 from tpmsim.standard.handle_kinds import HIERARCHIES
 from tpmsim.standard.objects import Attribute, Public
-from tests.common.outputs import Played, POWER, repeated, write_outputs
+from tests.common.outputs import Played, POWER, repeated, write_responses
 from tests.common.script import line
 
 SELDOM = 0.04
@@ -607,7 +607,7 @@ def main(seed, count, folder):
     writer = written(int(seed), int(count))
     path = pathlib.Path(folder) / f"{seed}.tpm"
     path.write_text("\n".join(writer.lines) + "\n", "ascii")
-    write_outputs(path, writer.played)
+    write_responses(path, writer.played)
 
 
 if __name__ == "__main__":

@@ -48,20 +48,26 @@ skip() {
 
 . "$tests/common/needs.sh"
 
-# make_scripts: generates the scripts that are not stored, in the folder TPMSIM_MADE, unless tools/scripts.sh
-# has generated them already.
+# The folder of the scripts of tests/ and examples/, each with its responses and trace. The tests of a run of
+# tools/scripts.sh share it.
+export TPMSIM_MADE="${TPMSIM_MADE:-$room/made}"
+
+# make_scripts [NAME..]: makes these scripts in the folder TPMSIM_MADE, or all scripts, unless they are there.
 make_scripts() {
-    [ -z "${TPMSIM_MADE:-}" ] || return 0
-    TPMSIM_MADE=$room/made
-    export TPMSIM_MADE
-    python3 "$tests/common/made.py" "$TPMSIM_MADE"
+    python3 "$tests/common/made.py" "$TPMSIM_MADE" "$@" >&2
 }
 
-# script NAME: prints the path of a script of tests/.
+# script NAME: prints the path of a script in the folder TPMSIM_MADE. If it is not there, it is made first.
 script() {
-    name_of_script=$1
-    set -- "$tests"/*/"$name_of_script.tpm"
-    echo "$1"
+    find_script "$1" || { make_scripts "$1" && find_script "$1"; }
+}
+
+# find_script NAME: prints the path of a script if it is in the folder TPMSIM_MADE. Its trace appears last.
+find_script() {
+    for found in "$TPMSIM_MADE"/tests/*/"$1.trace" "$TPMSIM_MADE/examples/$1.trace"; do
+        [ ! -f "$found" ] || { echo "${found%.trace}.tpm" && return; }
+    done
+    false
 }
 
 # `startup` is TPM2_Startup(CLEAR). Its response is SUCCESS (80010000000a00000000) at the first call, and

@@ -1,26 +1,19 @@
-"""Writes the expected output NAME.out next to scripts NAME.tpm, without running the simulator. If
-the file NAME.trace exists, it is overwritten with the output of `--trace`, even if it is empty.
-
-    tools/python.sh tests/common/expected.py                    for every script in tests/
-    tools/python.sh tests/common/expected.py tests/general/startup.tpm  for these
+"""Plays scripts that are written by hand with the Python device, without running the simulator.
 
 The comment above one or more commands names their outcome: `: SUCCESS`, or a response code with its
-number, such as `: VALUE/p1 (1C4)`. It applies up to the next comment or empty line. The Python
-device computes the responses. If the outcome of a command differs from its comment, the program
-fails and writes nothing.
+number, such as `: VALUE/p1 (1C4)`. It applies up to the next comment or empty line. If the outcome
+of a command differs from its comment, the script is not played further.
 """
 
 import pathlib
 import re
-import sys
 from dataclasses import dataclass
 
 from tpmsim.model import player
 from tpmsim.model.machine import Model
 from tpmsim.standard import frames, lines
-from tests.common import places
 from tests.common.shims import Ending
-from tests.common.outputs import Played, POWER, RANDOM_BYTES, repeated, write_outputs
+from tests.common.outputs import Played, POWER, RANDOM_BYTES, repeated
 
 WANTED = re.compile(r": (SUCCESS|[A-Z][A-Z0-9_]+(?:/[hps][1-9])?)(?: \(([0-9A-F]{3})\))?[.,;]")
 OUTCOMES = {"SUCCESS", *frames.CODES}
@@ -108,6 +101,19 @@ def played_by(script, device):
         yield Played(outcome, it.locality, it.elapsed)
 
 
+def played(path: pathlib.Path) -> list[Played]:
+    """Returns the outcomes of the events of a script that is written by hand. Raises ValueError if
+    a comment names another outcome.
+    """
+    found: list[Played] = []
+    try:
+        for event in played_by(path.read_text("ascii"), Model()):
+            found.append(event)
+    except ValueError as fault:
+        raise ValueError(f"event {len(found) + 1}: {fault}") from None
+    return found
+
+
 def device_behind(script):
     """Returns the Python device after it has executed a script."""
     device = Model()
@@ -152,18 +158,3 @@ def traced(script):
     status = {"": 0, "tpmsim: file": 3}.get(error, 2)
     output = "".join(f"{line}\n" for _, line in printed).encode("ascii")
     return Ending(status, output, error.encode("ascii") + b"\n" if error else b"")
-
-
-def main(names):
-    for path in map(pathlib.Path, names) if names else places.of_tests():
-        played = []
-        try:
-            for event in played_by(path.read_text("ascii"), Model()):
-                played.append(event)
-        except ValueError as fault:
-            sys.exit(f"{path}, event {len(played) + 1}: {fault}")
-        write_outputs(path, played)
-
-
-if __name__ == "__main__":
-    main(sys.argv[1:])

@@ -12,6 +12,7 @@ package=$top/clients/js
 # all_pass FOLDER: runs the tests of a package with node's test runner, and prints its output if a test fails or is
 # skipped.
 all_pass() {
+    make_scripts
     if TPMSIM_REPOSITORY=$top TPMSIM_MODULE=$top/dist/tpmsim.wasm node --test "$1/tests/" >"$room/said" 2>&1 &&
         grep -q ' skipped 0$' "$room/said"; then
         echo 'all tests pass'

@@ -21,11 +21,10 @@ RUN = [PROGRAM, "run", "--trace", "--image", IMAGE]
 
 # Scripts that together change every part of the kept state.
 SCRIPTS = [
-    *sorted(places.EXAMPLES.glob("*.tpm")),
-    *map(
-        places.script,
-        "clear evict_control lockout_commands nv_counters nv_large objects_power_cycle power_cycle"
-        " saved_state startup_state what_stays".split(),
+    *places.scripts("examples"),
+    *places.named(
+        *"clear evict_control lockout_commands nv_counters nv_large objects_power_cycle".split(),
+        *"power_cycle saved_state startup_state what_stays".split(),
     ),
 ]
 

@@ -1,6 +1,4 @@
-"""Writes the output of a script from the Python device: NAME.out, and also NAME.trace if that file
-exists already.
-"""
+"""Writes the responses and the trace of a script from the Python device."""
 
 import pathlib
 from dataclasses import dataclass
@@ -41,9 +39,11 @@ class Played:
 POWER = Played()
 
 
-def write_outputs(path: pathlib.Path, played: Sequence[Played]) -> None:
-    """Writes NAME.out next to the script NAME.tpm. Rewrites NAME.trace if it exists."""
+def write_responses(path: pathlib.Path, played: Sequence[Played]) -> None:
+    """Writes NAME.out next to the script NAME.tpm."""
     path.with_suffix(".out").write_text("".join(it.response for it in played), "ascii")
-    trace = path.with_suffix(".trace")
-    if trace.exists():
-        trace.write_text("".join(it.traced for it in played), "ascii")
+
+
+def write_trace(path: pathlib.Path, played: Sequence[Played]) -> None:
+    """Writes NAME.trace next to the script NAME.tpm."""
+    path.with_suffix(".trace").write_text("".join(it.traced for it in played), "ascii")

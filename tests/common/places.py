@@ -1,51 +1,60 @@
-"""Finds the scripts of the tests and the examples."""
+"""Finds the scripts of the tests and the examples. Makes those that are not there yet."""
 
 import atexit
 import functools
 import os
 import pathlib
 import shutil
+import subprocess
+import sys
 import tempfile
 
-from tests.common.made import make_all
-
-TESTS = pathlib.Path(__file__).resolve().parents[1]
-TOP = TESTS.parent
-EXAMPLES = TOP / "examples"
-
-
-def of_tests() -> list[pathlib.Path]:
-    """Returns the scripts in the folders of tests/, sorted by name. Omits tests/common, whose
-    scripts are parts of tests.
-    """
-    found = (it for it in TESTS.glob("*/*.tpm") if it.parent.name != "common")
-    return sorted(found, key=lambda it: it.name)
+from tests.common.made import EXHAUSTIVE, sources, TOP
 
 
 @functools.cache
-def folder_of_made() -> pathlib.Path:
-    """Returns the folder of the generated scripts. This is TPMSIM_MADE, if tools/scripts.sh has
-    generated them there. Otherwise this function generates them in a temporary folder.
+def folder() -> pathlib.Path:
+    """Returns the folder of the scripts. This is TPMSIM_MADE, which the tests of a run share, or
+    else a temporary folder.
     """
     told = os.environ.get("TPMSIM_MADE")
     if told:
         return pathlib.Path(told)
-    folder = pathlib.Path(tempfile.mkdtemp())
-    atexit.register(shutil.rmtree, folder)
-    make_all(folder)
-    return folder
+    made = tempfile.mkdtemp()
+    atexit.register(shutil.rmtree, made)
+    return pathlib.Path(made)
 
 
-def stored() -> list[pathlib.Path]:
-    """Returns the scripts in the repository: first the scripts of tests/, and then the examples."""
-    return [*of_tests(), *sorted(EXAMPLES.glob("*.tpm"))]
+def make(*names: str) -> None:
+    """Makes the scripts with these names in the folder. They are made in another process, where the
+    Python device is never altered.
+    """
+    maker = str(TOP / "tests" / "common" / "made.py")
+    flags = ["-S", "-B"] if sys.dont_write_bytecode else ["-S"]
+    made = subprocess.run(
+        [sys.executable, *flags, maker, str(folder()), *names], capture_output=True, text=True
+    )
+    if made.returncode:
+        raise RuntimeError(made.stdout + made.stderr)
 
 
-def scripts() -> list[pathlib.Path]:
-    """Returns all scripts; the generated ones come last."""
-    return [*stored(), *sorted(folder_of_made().glob("*/*.tpm"), key=lambda it: it.name)]
+def named(*names: str) -> list[pathlib.Path]:
+    """Returns the scripts with these names. The trace of a script appears in the folder last."""
+    found = {it.stem: folder() / it.relative_to(TOP).with_suffix(".tpm") for it in sources(*names)}
+    missing = [it for it in found if not found[it].with_suffix(".trace").exists()]
+    if missing:
+        make(*missing)
+    return [found[it] for it in names]
+
+
+def scripts(*places: str) -> list[pathlib.Path]:
+    """Returns all scripts, or those of some folders, such as tests/nv. They are sorted by their
+    paths, but the exhaustive ones come last.
+    """
+    asked = [it for it in sources() if not places or str(it.parent.relative_to(TOP)) in places]
+    asked.sort(key=lambda it: (it.stem in EXHAUSTIVE, it))
+    return named(*(it.stem for it in asked))
 
 
 def script(name: str) -> pathlib.Path:
-    """Returns the stored script with this name. Raises KeyError if there is no such script."""
-    return {it.stem: it for it in stored()}[name]
+    return named(name)[0]

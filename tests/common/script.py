@@ -1,8 +1,8 @@
-"""A script that a program writes: NAME.tpm, and NAME.out with the responses of the Python device.
+"""A script that a program makes: NAME.tpm, and NAME.out and NAME.trace with the responses and the
+trace of the Python device.
 """
 
 import hashlib
-import os
 import pathlib
 import re
 import textwrap
@@ -10,7 +10,8 @@ import textwrap
 from tpmsim.device.base import line, line_in_bytes
 from tpmsim.model.machine import Model, Outcome
 from tpmsim.standard import CC, frames
-from tests.common.outputs import Played, POWER, RANDOM_BYTES, repeated, write_outputs
+from tests.common.outputs import Played, POWER, RANDOM_BYTES, repeated
+from tests.common.outputs import write_responses, write_trace
 
 COLUMNS = 100
 
@@ -18,9 +19,9 @@ COLUMNS = 100
 # differ.
 SEED_BYTES = 7
 
-# The two possible endings of a script's first comment. The ending follows the name of the script's
-# program.
-WROTE_THIS, MADE_THIS = ", next to it, wrote this.", " made this."
+# The two possible endings of a script's first comment, after the name of the script's program. The
+# second one is that of the examples, which dist/tpmsim.html contains.
+MADE_THIS, WROTE_THIS = " made this.", ", next to it, wrote this."
 
 # The outcome in a description. It comes after a colon, and before a comma or the end.
 SUCCESS = "SUCCESS"
@@ -45,20 +46,16 @@ def told_head(told: str) -> str:
 
 class Script:
     """The lines of a script, and a device that executes each line as it is written. The script has
-    the name of the program that writes it, unless another name is passed. Its file is stored next
-    to the program, or generated on each run.
+    the name of its program. `module` is the name of the program's module.
     """
 
-    def __init__(
-        self, program: str | os.PathLike[str], head: str, name: str = "", is_made: bool = False
-    ) -> None:
-        written_by = pathlib.Path(program)
-        self.path = written_by.with_name(f"{name or written_by.stem}.tpm")
+    def __init__(self, module: str, head: str, ending: str = MADE_THIS) -> None:
+        self.name = module.rpartition(".")[2]
         self.lines: list[str] = []
         self.played: list[Played] = []
         self.device, self.locality, self.random = Model(), 0, bytes(RANDOM_BYTES)
         self.seeds, self.elapsed, self.pause = 0, 0, 0
-        self.write_comment(f"{head} {written_by.stem}.py{MADE_THIS if is_made else WROTE_THIS}")
+        self.write_comment(f"{head} {self.name}.py{ending}")
 
     @property
     def last(self) -> Outcome:
@@ -122,7 +119,7 @@ class Script:
             self.lines.append(line_in_bytes(buffer) if as_bytes else line(buffer))
             answered = self.device.execute(buffer, self.locality, self.random, self.elapsed)
             if (answered.refused or SUCCESS) != outcome:
-                raise ValueError(f"{self.path.name}, {words}: it is {answered.refused or SUCCESS}")
+                raise ValueError(f"{words}: it is {answered.refused or SUCCESS}")
             self.played.append(Played(answered, self.locality, self.elapsed))
             self.elapsed = 0
         return self.last.response
@@ -157,15 +154,9 @@ class Script:
         )
         self.pause = 1000
 
-    def write_below(self, folder: pathlib.Path) -> None:
-        """Writes the script, its responses and its trace to FOLDER/GROUP. GROUP is the name of the
-        folder that contains the script's program.
-        """
-        self.path = folder / self.path.parent.name / self.path.name
-        self.path.parent.mkdir(parents=True, exist_ok=True)
-        self.path.with_suffix(".trace").touch()
-        self.write()
-
-    def write(self) -> None:
-        self.path.write_text("\n".join(self.lines) + "\n", "ascii")
-        write_outputs(self.path, self.played)
+    def write_in(self, folder: pathlib.Path) -> None:
+        """Writes the script, its responses and its trace to a folder."""
+        path = folder / f"{self.name}.tpm"
+        path.write_text("\n".join(self.lines) + "\n", "ascii")
+        write_responses(path, self.played)
+        write_trace(path, self.played)

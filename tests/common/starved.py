@@ -15,7 +15,7 @@ import sys
 from dataclasses import dataclass
 
 from client import connected, received
-from tests.common import streams
+from tests.common import places, streams
 from tests.common.faults import Refusals
 from tests.common.shims import FILE, HERE, SERVE, WELL, Ending, Room, Turns, fail
 
@@ -48,7 +48,7 @@ def check_words(program):
     pathlib.Path("startup").write_text("do Startup 0\n", "ascii")
     keep = ["run", "--image", "kept", "--entropy", "/dev/urandom"]
     played = Ending(0, out_of("examples/measured_boot.out"))
-    traced = Ending(0, out_of("examples/measured_boot.trace"))
+    traced = Ending(0, places.script("measured_boot").with_suffix(".trace").read_bytes())
     usage = Ending(2, error=b"tpmsim: usage\n")
     cases = [
         ("a script", ["run", script], played),

@@ -19,7 +19,7 @@ from typing import Any, Callable
 from tpmsim.caller import flipped, Prepared, Session, storage_key
 from tpmsim.model.machine import Outcome
 from tpmsim.standard import frames, RH_OWNER
-from tests.common.script import OUTCOME, Script, SUCCESS, told_head
+from tests.common.script import MADE_THIS, OUTCOME, Script, SUCCESS, told_head, WROTE_THIS
 from tests.common.script_caller import ScriptCaller
 
 
@@ -44,18 +44,15 @@ class Teller(ScriptCaller):
     """A caller with the script of a program. `name` is the name of the program's module. `told` is
     its docstring, which begins with the script's name, a full stop, and the subject. If `starts` is
     true, the script begins with TPM2_Startup(CLEAR). If `tries` is true, wrong authorization values
-    never cause a lockout. `tests/anew.py` writes the script. If the docstring begins with "Makes",
-    tests/common/made.py writes it instead.
+    never cause a lockout. tests/common/made.py writes the script.
     """
 
-    written_by = ".tpm"
+    ending = MADE_THIS
 
     def __init__(self, name: str, told: str, tries: bool = False, starts: bool = True) -> None:
         if name == "__main__":
-            sys.exit("a program of a script is run by tests/anew.py")
-        program = name.replace(".", "/") + self.written_by
-        is_made = told.startswith("Makes ")
-        super().__init__(Script(program, told_head(told), is_made=is_made))
+            sys.exit("tests/common/made.py runs the program of a script")
+        super().__init__(Script(name, told_head(told), self.ending))
         if starts:
             self.startup()
         if tries:
@@ -127,7 +124,7 @@ class Teller(ScriptCaller):
 class Example(Teller):
     """A caller for a script in examples/. It does not send TPM2_Startup by itself."""
 
-    written_by = ".py"
+    ending = WROTE_THIS
 
     def __init__(self, name: str, told: str) -> None:
         super().__init__(name, told, starts=False)

@@ -1,4 +1,4 @@
-"""Plays the generated scripts on wrong Python devices, each with one error:
+"""Plays the exhaustive scripts on wrong Python devices, each with one error:
 
     wrong_made.py PROGRAM
 
@@ -18,7 +18,7 @@ from tpmsim.model.machine import Model
 from tpmsim.model.player import Player
 from tpmsim.standard import CC, Fields, Handle, KEYEDHASH
 from tests.common import places
-from tests.common.made import programs
+from tests.common.made import EXHAUSTIVE
 from tests.common.shims import ran
 
 read_header, read_handles = general.read_header, general.read_handles
@@ -125,9 +125,9 @@ def differs(script: bytes, printed: list[str]) -> bool:
 
 
 def main() -> int:
-    assert set(WRONG) == set(programs()), "a made script has no wrong device"
+    assert set(WRONG) == set(EXHAUSTIVE), "an exhaustive script has no wrong device"
     missed = 0
-    for path in sorted(places.folder_of_made().glob("*/*.tpm"), key=lambda it: it.stem):
+    for path in places.named(*sorted(WRONG)):
         words, patch = WRONG[path.stem]
         printed = ran(sys.argv[1], "run", "--trace", str(path)).output.decode("ascii").splitlines()
         with patch:

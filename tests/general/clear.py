@@ -1,4 +1,4 @@
-"""Writes clear.tpm. TPM2_Clear prepares the device for a new owner: it removes the old owner's
+"""Makes clear.tpm. TPM2_Clear prepares the device for a new owner: it removes the old owner's
 objects and NV indices, the seed of its primary objects, its authorization values and its lockout.
 The platform's entities stay.
 """

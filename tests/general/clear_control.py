@@ -1,4 +1,4 @@
-"""Writes clear_control.tpm. TPM2_ClearControl disables TPM2_Clear (YES, 01), by lockoutAuth or by
+"""Makes clear_control.tpm. TPM2_ClearControl disables TPM2_Clear (YES, 01), by lockoutAuth or by
 the platform, and enables it again (NO, 00), which only the platform may do.
 """
 

@@ -1,4 +1,4 @@
-"""Writes clock.tpm. TPM2_ReadClock returns time, in milliseconds since the power cycle; clock,
+"""Makes clock.tpm. TPM2_ReadClock returns time, in milliseconds since the power cycle; clock,
 since manufacture or TPM2_Clear; resetCount and restartCount; and that the clock is safe (01),
 because it never goes back. The numbers of eight bytes are so large that no script can wait until
 they reach their maximum.

@@ -1,4 +1,4 @@
-"""Writes full_device.tpm. A device that is filled up to each of its limits: sixteen persistent
+"""Makes full_device.tpm. A device that is filled up to each of its limits: sixteen persistent
 objects, eight transient ones, 64 NV indices of 16,384 bytes in all, and sixteen sessions.
 tests/images/images.py prints its image.
 """
@@ -131,19 +131,12 @@ def the_rest():
     tpm.saves()
 
 
-def build():
-    tpm.startup()
-    tpm.saves()
-    tpm.power()
-    tpm.start_up("TPM2_Startup(CLEAR), a restart")
-    define_all()
-    write_some()
-    keep_all()
-    transient()
-    the_rest()
-    return tpm.script.device
-
-
-def write_script():
-    build()
-    tpm.script.write()
+tpm.startup()
+tpm.saves()
+tpm.power()
+tpm.start_up("TPM2_Startup(CLEAR), a restart")
+define_all()
+write_some()
+keep_all()
+transient()
+the_rest()

@@ -1,4 +1,4 @@
-"""Writes hierarchy_change_auth.tpm. TPM2_HierarchyChangeAuth changes the authorization value of a
+"""Makes hierarchy_change_auth.tpm. TPM2_HierarchyChangeAuth changes the authorization value of a
 hierarchy or of TPM_RH_LOCKOUT. The old value authorizes the command.
 """
 

@@ -46,13 +46,12 @@ class LookingScript(Script):
 
     def __init__(self, name: str, told: str) -> None:
         super().__init__(
-            name.replace(".", "/") + ".tpm",
+            name,
             f"{told_head(told)} After each refusal, or a row of equal ones, TPM2_PCR_Read of PCRs "
             "10 and 16, which answers the update counter too, and TPM2_GetCapability of the "
             "handles of one kind show that nothing changed. After the last one of a command all "
             "that look do so: at the handles of each kind, at the failed tries, at the clock, at "
             "the digest of a policy session, and at the NV indices.",
-            is_made=True,
         )
         self.write_comment(AS_BYTES)
         self.tpm = ScriptCaller(self)
@@ -92,7 +91,7 @@ class LookingScript(Script):
             buffer = prepared.buffer()
             answer = self.command(outcome, buffer)
             if self.seen.setdefault(buffer, answer) != answer:
-                raise ValueError(f"{self.path.name}: a refusal changed what {buffer.hex()} sees")
+                raise ValueError(f"a refusal changed what {buffer.hex()} sees")
 
     def outcome_now(self, buffer: bytes) -> str:
         """Returns the outcome that a command would have now, by executing it on a copy of the

@@ -1,4 +1,4 @@
-"""Writes saved_state.tpm. A state that TPM2_Shutdown(STATE) saved can be used by the next
+"""Makes saved_state.tpm. A state that TPM2_Shutdown(STATE) saved can be used by the next
 TPM2_Startup until a command discards it. Every command that succeeds discards it, except those that
 change nothing. Here each command follows a TPM2_Shutdown(STATE). TPM2_Startup(STATE) after a power
 cycle then shows whether the state was still there.

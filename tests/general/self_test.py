@@ -1,4 +1,4 @@
-"""Writes self_test.tpm. TPM2_SelfTest runs all tests (YES, 01), or those that were not run yet
+"""Makes self_test.tpm. TPM2_SelfTest runs all tests (YES, 01), or those that were not run yet
 (NO, 00). The device has no test that could fail.
 """
 

@@ -1,4 +1,4 @@
-"""Writes shutdown.tpm. TPM2_Shutdown selects the state that is kept for the next TPM2_Startup: with
+"""Makes shutdown.tpm. TPM2_Shutdown selects the state that is kept for the next TPM2_Startup: with
 CLEAR (0000) only what is always kept, with STATE (0001) also PCRs 0 to 15.
 """
 

@@ -1,4 +1,4 @@
-"""Writes startup_state.tpm. TPM2_Startup(STATE) restores PCRs 0 to 15 as TPM2_Shutdown(STATE) saved
+"""Makes startup_state.tpm. TPM2_Startup(STATE) restores PCRs 0 to 15 as TPM2_Shutdown(STATE) saved
 them. It keeps platformAuth and the locks of NV indices, which TPM2_Startup(CLEAR) resets. Even
 TPM2_Startup(STATE) removes objects and sessions.
 """

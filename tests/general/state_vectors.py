@@ -1,4 +1,4 @@
-"""Writes state_vectors.tpm. Commands whose responses were written down by hand, byte by byte,
+"""Makes state_vectors.tpm. Commands whose responses were written down by hand, byte by byte,
 before there was a device. The program stops if it gets a different response.
 """
 

@@ -1,4 +1,4 @@
-"""Writes what_stays.tpm. When a session has ended, the device knows nothing of it. When a counter
+"""Makes what_stays.tpm. When a session has ended, the device knows nothing of it. When a counter
 is undefined, the device still knows the largest value of all counters.
 """
 

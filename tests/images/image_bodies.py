@@ -33,7 +33,7 @@ DISABLE_CLEAR, CLOSED, SAVED = 16 + 4 * 66 + 2, 16 + 4 * 66 + 19, 361 - DIGEST_A
 SAVED_BANKS = SAVED_PCRS * (20 + 32)
 
 # A full device is built only once.
-FULL = full_device.build()
+FULL = full_device.tpm.script.device
 
 
 def largest(version=VERSION_2):

@@ -1,8 +1,8 @@
 """Tests how the Python device writes and reads state texts:
 
-    state_texts.py TESTS
+    state_texts.py
 
-The test plays scripts in the folders SCRIPTS of TESTS. After each command, the device is opened
+The test plays scripts in the folders SCRIPTS, but not the exhaustive ones. After each command, the device is opened
 again from its state text. Each response must be the one in the file next to the script. A text with
 an error must be refused with the right fault. If a text is accepted, the device's state text must
 be the same text.
@@ -10,18 +10,18 @@ be the same text.
 
 import collections
 import hmac
-import pathlib
-import sys
 
 from tpmsim.model import image, state_text
 from tpmsim.model.image import DIGEST_AT_END, HEAD_BYTES
 from tpmsim.model.machine import Model
 from tpmsim.model.player import Player
 from tpmsim.standard import frames
+from tests.common import places
+from tests.common.made import EXHAUSTIVE
 from tests.images import state_bodies, worked_state
 from tests.images.state_bodies import LAYER_BYTES
 
-SCRIPTS = "objects", "policies", "sessions"
+SCRIPTS = "tests/objects", "tests/policies", "tests/sessions"
 
 # Only one in every ONE_IN scripts is played, and only one in every ONE_IN bytes of a body is
 # changed.
@@ -49,8 +49,8 @@ def played(script):
     return len(responses), sum(map(str.__ne__, wanted, responses))
 
 
-def play_all(tests):
-    scripts = sorted(it for folder in SCRIPTS for it in tests.joinpath(folder).glob("*.tpm"))
+def play_all():
+    scripts = sorted(it for it in places.scripts(*SCRIPTS) if it.stem not in EXHAUSTIVE)
     counts = [played(it) for it in scripts[::ONE_IN]]
     commands, differ = map(sum, zip(*counts))
     print(f"{len(counts)} scripts, {commands:,} commands: {differ} responses differ")
@@ -160,8 +160,8 @@ def bodies():
         print(f"{words}: {told[0]}" + ("" if told[1] is None else f", and the good one {told[1]}"))
 
 
-def main(tests):
-    play_all(pathlib.Path(tests))
+def main():
+    play_all()
     worked()
     version_1()
     sizes()
@@ -173,4 +173,4 @@ def main(tests):
 
 
 if __name__ == "__main__":
-    main(*sys.argv[1:])
+    main()

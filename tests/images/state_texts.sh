@@ -5,4 +5,4 @@ tests=$(cd "$(dirname "$0")/.." && pwd -P)
 . "$tests/common/cases.sh"
 needs python3
 
-python3 "$tests/images/state_texts.py" "$tests"
+python3 "$tests/images/state_texts.py"

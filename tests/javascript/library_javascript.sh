@@ -2,5 +2,6 @@
 tests=$(cd "$(dirname "$0")/.." && pwd -P)
 . "$tests/common/cases.sh"
 . "$tests/common/javascript.sh"
+needs python3
 
 all_pass "$package"

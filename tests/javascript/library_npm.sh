@@ -3,7 +3,7 @@
 tests=$(cd "$(dirname "$0")/.." && pwd -P)
 . "$tests/common/cases.sh"
 . "$tests/common/javascript.sh"
-needs npm tar
+needs npm python3 tar
 
 HOME=$room/home
 npm_config_offline=true npm_config_audit=false npm_config_fund=false npm_config_update_notifier=false

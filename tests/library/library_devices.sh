@@ -16,7 +16,7 @@ compile threads threads "$archive"
     compile sanitized_devices devices $sanitizers "$archive"
     compile sanitized_threads threads $sanitizers "$archive"
 }
-python3 "$sources/scripts.py" --lines "$tests/../examples/disk_unlock.tpm" >lines || exit 1
+python3 "$sources/scripts.py" --lines "$(script disk_unlock)" >lines || exit 1
 sed -n 's/^cmd //p' lines >commands
 
 "$room/devices" 1000 memory

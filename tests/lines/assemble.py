@@ -1,5 +1,5 @@
-"""Writes assemble.out: the results of the lines of assemble.lines, and of longer lines.
-tests/lines/assemble.sh passes these lines to `tpmsim asm`.
+"""Computes assemble.out: the results of the lines of assemble.lines, and of longer lines.
+tests/lines/assemble.sh passes these lines to `tpmsim asm`, and tools/anew.sh writes assemble.out.
 
 The lines in assemble.lines use printf's escapes: a byte that is not ASCII is \\ooo, in octal.
 """
@@ -8,6 +8,9 @@ import pathlib
 import re
 
 from tests.common.expected import assembled
+
+HERE = pathlib.Path(__file__)
+OUTPUT = HERE.with_suffix(".out")
 
 
 def spelled(written):
@@ -45,9 +48,8 @@ def long_lines():
     yield "NV_Write by a password of 4096 bytes at x", f"{write} pw:{data} - x"
 
 
-def write_script():
-    given = pathlib.Path(__file__).with_suffix(".lines").read_text("ascii").splitlines()
+def output() -> str:
+    given = HERE.with_suffix(".lines").read_text("ascii").splitlines()
     of_lines = (it if it[:1] in ("", "#") else outcome(f'"{it}"', spelled(it)) for it in given)
     of_long_lines = (outcome(label, line.encode("ascii")) for label, line in long_lines())
-    told = "".join(f"{it}\n" for it in (*of_lines, *of_long_lines))
-    pathlib.Path(__file__).with_suffix(".out").write_text(told, "ascii")
+    return "".join(f"{it}\n" for it in (*of_lines, *of_long_lines))

@@ -1,6 +1,6 @@
 # Checks the buffers that `tpmsim asm` assembles from the lines of assemble.lines, and from some lines that are
 # too long for that file. The lines may contain printf escapes (\ooo is a byte in octal). assemble.py, next to
-# this script, writes assemble.out.
+# this script, computes assemble.out.
 here=$(cd "$(dirname "$0")" && pwd -P)
 tests=${here%/*}
 . "$tests/common/cases.sh"

@@ -1,4 +1,4 @@
-"""Writes dictionary_attack_commands.tpm. TPM2_DictionaryAttackLockReset and
+"""Makes dictionary_attack_commands.tpm. TPM2_DictionaryAttackLockReset and
 TPM2_DictionaryAttackParameters: their bytes, and their refusals. TPM_RH_LOCKOUT authorizes them,
 with a password or an HMAC session.
 """

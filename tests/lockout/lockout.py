@@ -1,4 +1,4 @@
-"""Writes lockout.tpm. Dictionary attack protection: a wrong authorization value of an object
+"""Makes lockout.tpm. Dictionary attack protection: a wrong authorization value of an object
 without noDA or of an NV index without TPMA_NV_NO_DA is counted in failedTries. At maxTries all of
 them are locked: the right value is refused too. After each recoveryTime one failed try is forgiven.
 A new device has maxTries 3, recoveryTime 1,000 seconds, and lockoutRecovery 1,000 seconds.

@@ -1,4 +1,4 @@
-"""Writes lockout_authorization.tpm. A wrong entry gets AUTH_FAIL, and disables lockoutAuth for
+"""Makes lockout_authorization.tpm. A wrong entry gets AUTH_FAIL, and disables lockoutAuth for
 lockoutRecovery, if it is an attempt on TPM_RH_LOCKOUT: as a password, in the key of an HMAC, or
 because its session was bound to TPM_RH_LOCKOUT at the start. Every other wrong entry gets BAD_AUTH.
 """

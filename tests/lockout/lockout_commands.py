@@ -1,4 +1,4 @@
-"""Writes lockout_commands.tpm. Each command that a protected entity authorizes. maxTries is 1, so
+"""Makes lockout_commands.tpm. Each command that a protected entity authorizes. maxTries is 1, so
 one wrong entry locks the entity. Then the right entry is refused, whichever command had the wrong
 one.
 """

@@ -1,4 +1,4 @@
-"""Writes lockout_sessions.tpm. Each way in which an entry can guess a protected authorization
+"""Makes lockout_sessions.tpm. Each way in which an entry can guess a protected authorization
 value: as the password, in the key of an HMAC, or because its session was bound to a protected
 entity at the start. maxTries is 1 here, so one wrong entry in any of these ways locks all protected
 entities.

@@ -1,6 +1,5 @@
-# Runs the program for ARM64 in qemu. It plays every third script, including the generated ones, or all scripts
-# if EVERY=1 is set. The program must print the responses and traces that are stored with each script. The
-# programs for ARM64 and for this machine must be able to read each other's folders and images.
+# Runs the program for ARM64 in qemu. It plays every third script of tests/, or all of them if EVERY=1 is set.
+# The program must print the responses and traces that are next to each script. The programs for ARM64 and for this machine must be able to read each other's folders and images.
 tests=$(cd "$(dirname "$0")/.." && pwd -P)
 . "$tests/common/cases.sh"
 needs qemu-aarch64 python3 /usr/aarch64-linux-gnu/lib/libc.so.6
@@ -13,7 +12,7 @@ arm() {
     qemu-aarch64 -L /usr/aarch64-linux-gnu "$arm" "$@"
 }
 
-# compare NAME: checks that a script prints the responses and traces that are stored with it, and ends with the
+# compare SCRIPT: checks that a script prints the responses and traces that are next to it, and ends with the
 # expected status.
 compare() {
     base=${1%.tpm}
@@ -22,17 +21,15 @@ compare() {
     given=0
     arm run "$1" >output 2>error || given=$?
     [ "$given" = "$wanted" ] && cmp -s output "$base.out" || echo "$1 answers otherwise"
-    if [ -f "$base.trace" ]; then
-        arm run --trace "$1" 2>error | cmp -s - "$base.trace" || echo "$1 is traced otherwise"
-    fi
+    arm run --trace "$1" 2>error | cmp -s - "$base.trace" || echo "$1 is traced otherwise"
 }
 
 make_scripts
 number=0
 played=0
-for script in "$tests"/*/*.tpm "$TPMSIM_MADE"/*/*.tpm; do
+for script in "$TPMSIM_MADE"/tests/*/*.tpm; do
     number=$((number + 1))
-    if [ $((number % ${EVERY:-3})) -eq 0 ] && [ -f "${script%.tpm}.out" ]; then
+    if [ $((number % ${EVERY:-3})) -eq 0 ]; then
         compare "$script"
         played=$((played + 1))
     fi

@@ -3,7 +3,7 @@
 # program for ARM64 instead of the one for x86-64.
 tests=$(cd "$(dirname "$0")/.." && pwd -P)
 . "$tests/common/cases.sh"
-needs git qemu-aarch64 unshare /usr/aarch64-linux-gnu/lib/libc.so.6
+needs git qemu-aarch64 unshare python3 /usr/aarch64-linux-gnu/lib/libc.so.6
 (cd "${tests%/*}" && . tools/lib/proved.sh && ship aarch64 && is_proved sources "$(sources_checksum tpmsim)") ||
     skip 'dist/aarch64 was proved of other sources than these'
 
@@ -21,7 +21,7 @@ on_arm() {
 }
 
 on_arm true 2>"$room/error" || skip 'there is no namespace that runs programs for ARM64'
-(cd "$tests/.." && tar cf - --exclude=out tpmsim tools crates.txt HANDLES crates dist tests examples) |
+(cd "$tests/.." && tar cf - --exclude=out tpmsim tools crates.txt HANDLES crates dist clients/python tests examples) |
     (cd "$room/copy" && tar xf -)
 
 echo '== the first command'

@@ -1,4 +1,4 @@
-"""Writes nv_access.tpm. Each attribute for writing and reading by itself, with each kind of
+"""Makes nv_access.tpm. Each attribute for writing and reading by itself, with each kind of
 authHandle: the owner, the platform, the index itself and another index. The entries are passwords,
 not policies.
 """

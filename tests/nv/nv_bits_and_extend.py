@@ -1,4 +1,4 @@
-"""Writes nv_bits_and_extend.tpm. TPM2_NV_SetBits sets more and more bits of bit fields.
+"""Makes nv_bits_and_extend.tpm. TPM2_NV_SetBits sets more and more bits of bit fields.
 TPM2_NV_Extend extends indices like PCRs, each index with its own hash algorithm.
 """
 

@@ -1,4 +1,4 @@
-"""Writes nv_change_auth.tpm. TPM2_NV_ChangeAuth: the index is authorized in the ADMIN role, which
+"""Makes nv_change_auth.tpm. TPM2_NV_ChangeAuth: the index is authorized in the ADMIN role, which
 needs a policy with TPM2_PolicyCommandCode for this command.
 """
 

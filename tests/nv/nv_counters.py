@@ -1,4 +1,4 @@
-"""Writes nv_counters.tpm. A new counter begins after the largest value that any counter ever had,
+"""Makes nv_counters.tpm. A new counter begins after the largest value that any counter ever had,
 so that no value occurs twice. Index 01000002 has the attributes 00020012.
 """
 

@@ -1,4 +1,4 @@
-"""Writes nv_first_index.tpm. A first NV index: 01000001, with SHA-256, AUTHWRITE and AUTHREAD
+"""Makes nv_first_index.tpm. A first NV index: 01000001, with SHA-256, AUTHWRITE and AUTHREAD
 (attributes 00040004), eight bytes and the authorization value "a".
 """
 

@@ -1,4 +1,4 @@
-"""Writes nv_large.tpm. 1,024 bytes are written and read at once; an index of 2,048 bytes needs two
+"""Makes nv_large.tpm. 1,024 bytes are written and read at once; an index of 2,048 bytes needs two
 commands.
 """
 

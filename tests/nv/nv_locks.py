@@ -1,4 +1,4 @@
-"""Writes nv_locks.tpm. Locks: WRITEDEFINE permanently locks a written index against writing.
+"""Makes nv_locks.tpm. Locks: WRITEDEFINE permanently locks a written index against writing.
 WRITE_STCLEAR and READ_STCLEAR lock an index until the next TPM2_Startup(CLEAR), and CLEAR_STCLEAR
 makes it unwritten then.
 """

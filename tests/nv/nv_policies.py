@@ -1,4 +1,4 @@
-"""Writes nv_policies.tpm. NV indices and policy sessions: with POLICYWRITE and POLICYREAD the
+"""Makes nv_policies.tpm. NV indices and policy sessions: with POLICYWRITE and POLICYREAD the
 policy of an index can authorize writing and reading.
 """
 

@@ -1,4 +1,4 @@
-"""Writes nv_read_public.tpm. TPM2_NV_ReadPublic needs no authorization. It returns the public area
+"""Makes nv_read_public.tpm. TPM2_NV_ReadPublic needs no authorization. It returns the public area
 with the current attributes, and the Name, which is nameAlg and the digest of the public area.
 """
 

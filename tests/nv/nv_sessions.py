@@ -1,4 +1,4 @@
-"""Writes nv_sessions.tpm. NV indices and HMAC sessions: the Name of an index, which its first write
+"""Makes nv_sessions.tpm. NV indices and HMAC sessions: the Name of an index, which its first write
 changes, is part of the HMACs and of the binding of a session.
 """
 

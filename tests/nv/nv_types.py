@@ -1,4 +1,4 @@
-"""Writes nv_types.tpm. Each type of index allows one change: an ordinary index is written, a
+"""Makes nv_types.tpm. Each type of index allows one change: an ordinary index is written, a
 counter is incremented, bits are set, and an extend index is extended. Every other change is
 refused, before and after the first write.
 """

@@ -1,4 +1,4 @@
-"""Writes nv_undefine_space.tpm. TPM2_NV_UndefineSpace: the owner can remove its own indices, and
+"""Makes nv_undefine_space.tpm. TPM2_NV_UndefineSpace: the owner can remove its own indices, and
 the platform can remove all.
 """
 

@@ -1,4 +1,4 @@
-"""Writes create.tpm. TPM2_Create makes an object and returns it in a private area, which only its
+"""Makes create.tpm. TPM2_Create makes an object and returns it in a private area, which only its
 parent can load. The device keeps nothing of the object.
 """
 

@@ -1,4 +1,4 @@
-"""Writes create_primary.tpm. TPM2_CreatePrimary makes an object from its template and its
+"""Makes create_primary.tpm. TPM2_CreatePrimary makes an object from its template and its
 hierarchy's seed.
 """
 

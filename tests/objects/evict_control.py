@@ -1,4 +1,4 @@
-"""Writes evict_control.tpm. TPM2_EvictControl makes a persistent object from a transient one, or
+"""Makes evict_control.tpm. TPM2_EvictControl makes a persistent object from a transient one, or
 removes a persistent one. A persistent object survives power cycles, has a handle of 81000000 or
 higher, and is used like the transient one.
 """

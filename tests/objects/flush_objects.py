@@ -1,4 +1,4 @@
-"""Writes flush_objects.tpm. TPM2_FlushContext removes a transient object from the device. There are
+"""Makes flush_objects.tpm. TPM2_FlushContext removes a transient object from the device. There are
 eight slots, 80000000 to 80000007; an object gets the lowest free one.
 """
 

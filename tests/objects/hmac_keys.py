@@ -1,4 +1,4 @@
-"""Writes hmac_keys.tpm. TPM2_HMAC computes the HMAC of a buffer with an HMAC key. The hash
+"""Makes hmac_keys.tpm. TPM2_HMAC computes the HMAC of a buffer with an HMAC key. The hash
 algorithm is that of the key's scheme; if the scheme is NULL, the command names the hash algorithm.
 """
 

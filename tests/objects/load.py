@@ -1,4 +1,4 @@
-"""Writes load.tpm. TPM2_Load takes a private and a public area that TPM2_Create returned for this
+"""Makes load.tpm. TPM2_Load takes a private and a public area that TPM2_Create returned for this
 parent.
 """
 

@@ -1,4 +1,4 @@
-"""Writes object_policies.tpm. A policy session authorizes an object whose authPolicy is its digest.
+"""Makes object_policies.tpm. A policy session authorizes an object whose authPolicy is its digest.
 Its assertions are checked against the command and the device, and hold for one command.
 """
 

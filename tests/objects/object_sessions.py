@@ -1,4 +1,4 @@
-"""Writes object_sessions.tpm. HMAC sessions that authorize objects. The Name of an object is used
+"""Makes object_sessions.tpm. HMAC sessions that authorize objects. The Name of an object is used
 wherever a hierarchy's handle is used: in the hash of a command, in a binding, and in
 TPM2_PolicySecret.
 """

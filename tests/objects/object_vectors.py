@@ -1,11 +1,11 @@
-"""Writes object_vectors.tpm: objects, each byte of which is computed here, step by step.
+"""Makes object_vectors.tpm: objects, each byte of which is computed here, step by step.
 
     tools/python.sh tests/objects/object_vectors.py
 
 The program uses hashlib and hmac, and aes.py for the cipher, but not object_rules.py. It contains
 its own copy of the equations for objects, each on its own line, with the numbers of one example. It
-compares the script's responses, which the Python device computes, with the results. It also prints
-each step.
+compares the script's responses, which the Python device computes, with the results. If it is run as
+above, it prints each step.
 """
 
 import hashlib
@@ -40,7 +40,8 @@ def kdfa(key, label, u, v, bits):
 
 
 def step(name, value):
-    print(f"{name:34} {value.hex()}")
+    if __name__ == "__main__":
+        print(f"{name:34} {value.hex()}")
     return value
 
 
@@ -58,7 +59,7 @@ def creation(kind, name, above, outside_info):
 
 
 script = Script(
-    "tests/objects/object_vectors.tpm",
+    "tests.objects.object_vectors",
     "A primary storage key of TPM_RH_OWNER and sealed data under it. Each number of them is "
     "computed by the program that wrote this script, step by step.",
 )
@@ -131,4 +132,3 @@ answer = script.command("TPM2_ReadPublic: SUCCESS", command(CC.ReadPublic, numbe
 assert answer[10:] == sized(public) + sized(name) + sized(qualified_name)
 answer = script.command("TPM2_Unseal: SUCCESS", by_password(CC.Unseal, 0x8000_0001, b"", b"pin"))
 assert answer[14:-5] == sized(data)
-script.write()

@@ -1,4 +1,4 @@
-"""Writes objects_power_cycle.tpm. A power cycle removes transient objects. The seeds of the
+"""Makes objects_power_cycle.tpm. A power cycle removes transient objects. The seeds of the
 owner's, the endorsement and the platform hierarchy stay, so that the same primary objects can be
 made again. The null hierarchy has a new seed and a new proof after each TPM2_Startup(CLEAR).
 """

@@ -1,4 +1,4 @@
-"""Writes private_area.tpm. TPM2_Load accepts only unchanged private areas. The generated script
+"""Makes private_area.tpm. TPM2_Load accepts only unchanged private areas. The generated script
 private_areas.tpm changes every byte, and forges private areas.
 """
 

@@ -1,4 +1,4 @@
-"""Writes read_public.tpm. TPM2_ReadPublic returns an object's public area; its Name, which is
+"""Makes read_public.tpm. TPM2_ReadPublic returns an object's public area; its Name, which is
 nameAlg and the hash of that area; and its qualified Name, which depends on the Names of all objects
 above it. It needs no authorization.
 """

@@ -1,4 +1,4 @@
-"""Writes sealed_to_pcrs.tpm. Sealed data with an authPolicy of TPM2_PolicyPCR over PCR 10: a trial
+"""Makes sealed_to_pcrs.tpm. Sealed data with an authPolicy of TPM2_PolicyPCR over PCR 10: a trial
 session computes the digest, and a policy session authorizes TPM2_Unseal while PCR 10 has the same
 value.
 """

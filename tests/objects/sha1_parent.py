@@ -1,4 +1,4 @@
-"""Writes sha1_parent.tpm. The nameAlg of the parent protects a private area. The Name, the
+"""Makes sha1_parent.tpm. The nameAlg of the parent protects a private area. The Name, the
 qualified name, the hashes in the creation data and unique use the nameAlg of the object itself. The
 hierarchy comes from the parent.
 """

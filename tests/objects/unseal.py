@@ -1,4 +1,4 @@
-"""Writes unseal.tpm. TPM2_Unseal returns the data of a sealed object, if the object authorizes the
+"""Makes unseal.tpm. TPM2_Unseal returns the data of a sealed object, if the object authorizes the
 command.
 """
 

@@ -1,4 +1,4 @@
-"""Writes localities.tpm: extends and resets each PCR from each locality.
+"""Makes localities.tpm: extends and resets each PCR from each locality.
 
 The table of TPM2_PCR_Extend in docs/table/pcrs.md says which locality can change which PCR. This
 program contains a copy of that table.
@@ -18,7 +18,7 @@ USES = (
 DIGESTS = digests((SHA1, bytes(20)))
 
 script = Script(
-    __file__,
+    __name__,
     "Each of the 24 PCRs is extended and reset from each of the five localities, and then all are "
     "read.",
 )
@@ -48,4 +48,3 @@ for locality in range(5):
         change(CC.PCR_Extend, pcrs, DIGESTS, use, locality in extended_from)
     read(SHA1, "SHA-1")
 read(SHA256, "SHA-256")
-script.write()

@@ -1,4 +1,4 @@
-"""Writes long_policy.tpm. A policy of many assertions. A trial session gets the same digest as a
+"""Makes long_policy.tpm. A policy of many assertions. A trial session gets the same digest as a
 policy session, although no assertion needs to hold yet.
 """
 

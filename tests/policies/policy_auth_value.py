@@ -1,4 +1,4 @@
-"""Writes policy_auth_value.tpm. TPM2_PolicyAuthValue and TPM2_PolicyPassword: a user of the policy
+"""Makes policy_auth_value.tpm. TPM2_PolicyAuthValue and TPM2_PolicyPassword: a user of the policy
 must use the entity's authorization value, in the key of an HMAC or as a password. Both result in
 the same digest.
 """

@@ -1,4 +1,4 @@
-"""Writes policy_command_code.tpm. TPM2_PolicyCommandCode: the policy authorizes only one command.
+"""Makes policy_command_code.tpm. TPM2_PolicyCommandCode: the policy authorizes only one command.
 The parameter is the code of a command, which the device must implement.
 """
 

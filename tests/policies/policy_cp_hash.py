@@ -1,4 +1,4 @@
-"""Writes policy_cp_hash.tpm. TPM2_PolicyCpHash: the policy authorizes only one command, with
+"""Makes policy_cp_hash.tpm. TPM2_PolicyCpHash: the policy authorizes only one command, with
 its handles and its parameters. The parameter of TPM2_PolicyCpHash is the cpHash of that
 command, with the session's hash algorithm.
 """

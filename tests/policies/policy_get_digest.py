@@ -1,4 +1,4 @@
-"""Writes policy_get_digest.tpm. TPM2_PolicyGetDigest returns the current digest of a policy session
+"""Makes policy_get_digest.tpm. TPM2_PolicyGetDigest returns the current digest of a policy session
 or a trial session. It has no parameters, and changes nothing.
 """
 

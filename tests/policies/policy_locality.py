@@ -1,4 +1,4 @@
-"""Writes policy_locality.tpm. TPM2_PolicyLocality: the policy can be used only at some
+"""Makes policy_locality.tpm. TPM2_PolicyLocality: the policy can be used only at some
 localities. Its parameter has a bit for each of the localities 0 to 4. After several such
 commands, only the localities that are in all their parameters remain.
 """

@@ -1,4 +1,4 @@
-"""Writes policy_nv_written.tpm. TPM2_PolicyNvWritten: the policy requires the NV index to be
+"""Makes policy_nv_written.tpm. TPM2_PolicyNvWritten: the policy requires the NV index to be
 written (1), or not to be written (0). The device checks this when the session authorizes a
 command.
 """

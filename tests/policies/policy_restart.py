@@ -1,4 +1,4 @@
-"""Writes policy_restart.tpm. After TPM2_PolicyRestart the session has no assertions; everything
+"""Makes policy_restart.tpm. After TPM2_PolicyRestart the session has no assertions; everything
 else in it is unchanged.
 """
 

@@ -1,4 +1,4 @@
-"""Writes policy_secret.tpm. TPM2_PolicySecret: the policy requires a user who knows the
+"""Makes policy_secret.tpm. TPM2_PolicySecret: the policy requires a user who knows the
 authorization value of an entity, and proves it now. Its parameters are nonceTPM, cpHashA, policyRef
 and expiration. All entries here are the empty password.
 """

@@ -1,4 +1,4 @@
-"""Writes policy_secret_authorization.tpm. The authorization value of the first handle authorizes
+"""Makes policy_secret_authorization.tpm. The authorization value of the first handle authorizes
 TPM2_PolicySecret, with a password or an HMAC session, as for any other command. The policy session
 needs no authorization.
 """

@@ -1,4 +1,4 @@
-"""Writes policy_sessions.tpm. Policy sessions and trial sessions use the same sixteen slots as HMAC
+"""Makes policy_sessions.tpm. Policy sessions and trial sessions use the same sixteen slots as HMAC
 sessions. Their handles begin with 03, and those of HMAC sessions with 02.
 """
 

@@ -1,4 +1,4 @@
-"""Writes policy_sessions_authorize_nothing.tpm. A policy session authorizes only entities with a
+"""Makes policy_sessions_authorize_nothing.tpm. A policy session authorizes only entities with a
 policy. Hierarchies and PCRs have none: only their authorization value authorizes them. A trial
 session never authorizes.
 """

@@ -1,4 +1,4 @@
-"""Writes policy_sessions_that_encrypt.tpm. Policy sessions and trial sessions in additional
+"""Makes policy_sessions_that_encrypt.tpm. Policy sessions and trial sessions in additional
 entries: they authorize nothing there, and their HMAC is compared like that of HMAC sessions. They
 can decrypt and encrypt, and keep their assertions.
 """

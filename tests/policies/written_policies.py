@@ -1,4 +1,4 @@
-"""Writes written_policies.tpm. Policies with branches, each of which is used once and refused once;
+"""Makes written_policies.tpm. Policies with branches, each of which is used once and refused once;
 and other policies. tests/python/policy_audit.sh passes these policies in words to tools/audit.py.
 """
 

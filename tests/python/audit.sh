@@ -8,7 +8,7 @@ tests=$(cd "$(dirname "$0")/.." && pwd -P)
 needs python3
 scripts=$tests/python
 audit=$tests/../tools/audit.py
-unlocking=$tests/../examples/disk_unlock.tpm
+unlocking=$(script disk_unlock)
 
 # trace SCRIPT FILE: writes the program's output for a script to a file.
 trace() {

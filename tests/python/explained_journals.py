@@ -13,9 +13,8 @@ import sys
 import tempfile
 
 from tpmsim.explain.play import Play
+from tests.common import places
 from tests.common.shims import ran
-
-TOP = pathlib.Path(__file__).resolve().parents[2]
 
 # Longer scripts consist mostly of altered commands, whose explanations other tests check.
 MOST_BYTES = 20_000
@@ -55,15 +54,15 @@ def check(program, script, folder):
 
 def main():
     program, count, faults = sys.argv[1], 0, 0
-    found = [*TOP.glob("tests/**/*.tpm"), *TOP.glob("examples/*.tpm")]
-    scripts = [it for it in found if it.stat().st_size <= MOST_BYTES]
-    for script in sorted(it for it in scripts if it.with_suffix(".out").exists()):
+    for script in places.scripts():
+        if script.stat().st_size > MOST_BYTES:
+            continue
         with tempfile.TemporaryDirectory(dir=".") as folder:
             commands, wrong = check(program, script, folder)
         count += commands
         faults += len(wrong)
         if wrong:
-            print(f"{script.relative_to(TOP)} is explained wrongly in the lines {wrong[:SHOWN]}")
+            print(f"{script.name} is explained wrongly in the lines {wrong[:SHOWN]}")
     print("thousands of commands" if count >= 3000 else f"{count} commands", end=", ")
     print(f"{faults} explained otherwise than they were answered")
     return 1 if faults else 0

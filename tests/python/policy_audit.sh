@@ -302,7 +302,7 @@ judge() {
 
 judge 'WRONG WORDS, and logs that do not agree:'
 disk=policies/written_policies/disk
-script=$tests/policies/written_policies.tpm
+script=$(script written_policies)
 judge 'an option without its word' empty empty --policy
 judge 'an option in its place' empty empty --policy --image image
 judge 'standard input' empty empty --policy -

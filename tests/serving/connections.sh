@@ -5,12 +5,13 @@ tests=$(cd "$(dirname "$0")/.." && pwd -P)
 . "$tests/common/cases.sh"
 . "$tests/common/served.sh"
 
-for test in objects/sealed_to_pcrs objects/object_sessions sessions/session_encryption; do
-    name=${test#*/}
+make_scripts sealed_to_pcrs object_sessions session_encryption
+for name in sealed_to_pcrs object_sessions session_encryption; do
+    script=$(script $name)
     rm -f image
-    count=$(python3 "$tests/common/replay.py" prepare "$tests/$test.tpm")
+    count=$(python3 "$tests/common/replay.py" prepare "$script")
     begin "$count"
     python3 "$tests/common/replay.py" send socket >"$room/responses"
     ended "$name"
-    head -n "$count" "$tests/$test.out" | cmp - "$room/responses"
+    head -n "$count" "${script%.tpm}.out" | cmp - "$room/responses"
 done

@@ -1,4 +1,4 @@
-"""Writes flush_context.tpm. TPM2_FlushContext ends a session. The handle is its parameter, and
+"""Makes flush_context.tpm. TPM2_FlushContext ends a session. The handle is its parameter, and
 needs no authorization. Objects are flushed in tests/objects/flush_objects.tpm.
 """
 

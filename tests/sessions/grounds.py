@@ -1,4 +1,4 @@
-"""Writes grounds.tpm. Everything that can authorize an entity (a ground) is used once and accepted:
+"""Makes grounds.tpm. Everything that can authorize an entity (a ground) is used once and accepted:
 a password, the HMAC of an HMAC session, or a policy session whose policy holds.
 tests/sessions/lost_grounds.tpm shows how the same grounds are lost.
 """

@@ -1,4 +1,4 @@
-"""Writes hmac_sessions.tpm. HMAC sessions authorize commands: unbound, bound to the entity that
+"""Makes hmac_sessions.tpm. HMAC sessions authorize commands: unbound, bound to the entity that
 they authorize, and bound to another entity. Each of their HMACs was computed by another program.
 Each `entropy` line sets new random bytes, so that each command has its own nonces.
 """

@@ -1,4 +1,4 @@
-"""Writes lost_grounds.tpm. How the grounds of tests/sessions/grounds.tpm are lost. In each case the
+"""Makes lost_grounds.tpm. How the grounds of tests/sessions/grounds.tpm are lost. In each case the
 command is refused, by G9 unless stated otherwise. Next to it the same command is sent while the
 condition holds. tests/sessions/replays.tpm shows how a session is lost.
 """

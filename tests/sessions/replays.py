@@ -1,4 +1,4 @@
-"""Writes replays.tpm. Commands that were accepted are sent again, byte for byte. The HMAC of a
+"""Makes replays.tpm. Commands that were accepted are sent again, byte for byte. The HMAC of a
 session covers its nonceTPM, which each accepted command replaces. So the command is refused when
 the HMAC is compared. If nothing is compared, or if the random bytes repeat, it is accepted. Each
 command of a session has its own random bytes, unless stated otherwise.

@@ -1,4 +1,4 @@
-"""Writes session_encryption.tpm. Parameter encryption with AES-128 in CFB mode: with the attribute
+"""Makes session_encryption.tpm. Parameter encryption with AES-128 in CFB mode: with the attribute
 decrypt, the first parameter of the command is encrypted; with the attribute encrypt, the first
 parameter of the response.
 """

@@ -1,4 +1,4 @@
-"""Writes session_entries.tpm. Entries of sessions in an authorization area: the faults that are
+"""Makes session_entries.tpm. Entries of sessions in an authorization area: the faults that are
 refused before any HMAC is compared. They are checked entry by entry, and the first fault of an
 entry counts.
 """

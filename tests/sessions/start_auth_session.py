@@ -1,4 +1,4 @@
-"""Writes start_auth_session.tpm. TPM2_StartAuthSession starts an HMAC session, a policy session or
+"""Makes start_auth_session.tpm. TPM2_StartAuthSession starts an HMAC session, a policy session or
 a trial session. Its handles are tpmKey and bind; its parameters are nonceCaller, encryptedSalt,
 sessionType, symmetric and authHash.
 """

@@ -1,11 +1,7 @@
-"""Writes three scripts in which three callers use one device. The first caller measures into PCR 10
-and reads it. The second one unseals data with a policy on PCR 10. The third one writes an NV index
-in an HMAC session, and sends one command again. The callers take turns, take turns in reverse
-order, or come one after another:
-
-    tests/sessions/callers_in_turn.tpm
-    tests/sessions/callers_in_reverse_turn.tpm
-    tests/sessions/callers_one_after_another.tpm
+"""Scripts in which three callers use one device. The first caller measures into PCR 10 and reads it.
+The second one unseals data with a policy on PCR 10. The third one writes an NV index in an HMAC
+session, and sends one command again. callers_in_turn.py, callers_in_reverse_turn.py and
+callers_one_after_another.py make these scripts.
 
 The response to each command depends on the commands that were accepted before it. After each
 command, the device is compared with the state that its history determines. The response to
@@ -19,7 +15,7 @@ from tpmsim.model.history import History
 from tpmsim.standard import CC, digest, digests, policy, RH_NULL, RH_OWNER, selection, SHA256
 from tpmsim.standard.nv import Attribute
 from tpmsim.standard.objects import Attribute as ObjectAttribute
-from tests.common.script import Script
+from tests.common.script import Script, told_head
 from tests.common.script_caller import ScriptCaller
 
 CHOSEN = [(SHA256, [10])]
@@ -32,8 +28,8 @@ ONCE_WRITTEN = Attribute.AUTHREAD | Attribute.AUTHWRITE
 class Stage:
     """A script of several callers, and the history of the device."""
 
-    def __init__(self, name, head):
-        self.script, self.history = Script(__file__, head, name), History()
+    def __init__(self, name, told):
+        self.script, self.history = Script(name, told_head(told)), History()
         self.script.device.tell = self.history.add
         self.callers = [ScriptCaller(self.script) for _ in range(3)]
         for number, caller in enumerate(self.callers, 1):
@@ -124,18 +120,13 @@ def interleaved(plays, is_in_turn):
             yield
 
 
-def write(name, head, order, is_in_turn):
-    stage = Stage(name, head)
+def script_of_three(name, told, order=(0, 1, 2), is_in_turn=True):
+    """Returns the script of the callers in this order. `name` is the name of the module of the
+    script's program, and `told` is its docstring.
+    """
+    stage = Stage(name, told)
     stage.script.startup()
     plays = [PLAYS[it](stage, stage.callers[it]) for it in order]
     for _ in interleaved(plays, is_in_turn):
         stage.check()
-    stage.script.write()
-
-
-MEANWHILE = "Each has one command executed, and then the next one has its turn."
-write("callers_in_turn", f"Three callers of one device take turns. {MEANWHILE}", (0, 1, 2), True)
-REVERSE = f"Three callers of one device take turns, the third one first. {MEANWHILE}"
-write("callers_in_reverse_turn", REVERSE, (2, 1, 0), True)
-ONE_BY_ONE = "Three callers of one device come one after another."
-write("callers_one_after_another", ONE_BY_ONE, (0, 1, 2), False)
+    return stage.script

@@ -1,4 +1,4 @@
-"""Writes xor_sessions.tpm. TPM_ALG_XOR: the first parameter of the command or of the response is
+"""Makes xor_sessions.tpm. TPM_ALG_XOR: the first parameter of the command or of the response is
 XORed with a mask of the same size, KDFa(authHash, sessionKey || authValue, "XOR", nonceNewer,
 nonceOlder, bits).
 

@@ -21,7 +21,8 @@ same() {
     fi
 }
 
-words bent "$tests" "$top/examples" >bent.tpm
+make_scripts
+words bent "$TPMSIM_MADE" >bent.tpm
 "$top/dist/tpmsim" check bent.tpm >program.faults 2>program.error
 node "$top/web/play.mjs" "$module" check bent.tpm >module.faults
 same faults
@@ -37,5 +38,4 @@ done >program.codes
 words codes $codes >module.codes
 same codes
 
-make_scripts
-words spelled "$tests" "$top/examples" "$TPMSIM_MADE"
+words spelled "$tests" "$TPMSIM_MADE"

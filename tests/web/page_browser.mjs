@@ -5,7 +5,7 @@ import fs from "node:fs";
 import zlib from "node:zlib";
 import { ALT, Browser, CTRL, sleep } from "./browser.mjs";
 
-const address = process.argv[2];
+const [address, explainedPage, scripts] = process.argv.slice(2);
 const browser = await Browser.start();
 const pages = [];
 let isWrong = false;
@@ -54,7 +54,7 @@ async function examples(page) {
   for (const [name, text] of (await facts(page)).examples) {
     await page.value(`(delete document.documentElement.dataset.played, document.getElementById("examples").value = "${name}", document.getElementById("examples").dispatchEvent(new Event("change")))`);
     await page.until("document.documentElement.dataset.played !== undefined");
-    const wanted = fs.readFileSync(`../../examples/${name}.trace`, "latin1").split("\n").filter((it) => / L\d \+/.test(it)).length;
+    const wanted = fs.readFileSync(`${scripts}/examples/${name}.trace`, "latin1").split("\n").filter((it) => / L\d \+/.test(it)).length;
     const steps = (await page.value("document.getElementById('slider').max")) - 0 + 1;
     const powers = text.split("\n").filter((it) => it === "power").length;
     if (steps !== wanted + powers || (await script(page)) !== text) wrong.push(`${name}: ${steps} steps, ${wanted} in the trace`);
@@ -167,7 +167,7 @@ async function refusal(page) {
 
 /** Checks a script from tests/sessions in which sessions encrypt parameters. */
 async function encrypted(page) {
-  const lines = fs.readFileSync("../../sessions/session_encryption.tpm", "utf8").split("\n").slice(0, 60);
+  const lines = fs.readFileSync(`${scripts}/tests/sessions/session_encryption.tpm`, "utf8").split("\n").slice(0, 60);
   await page.write(lines.join("\n"));
   const at = lines.findIndex((line) => line.startsWith("do HierarchyChangeAuth OWNER s:"));
   await page.value("document.getElementById('slider').value = 5, document.getElementById('slider').dispatchEvent(new Event('input'))");
@@ -234,7 +234,7 @@ async function pasted(page) {
 
 /** Checks the page that tools/explain.py made for a log. Its address is the next argument. */
 async function explained() {
-  const page = await browser.open(process.argv[3]);
+  const page = await browser.open(explainedPage);
   pages.push(page);
   const text = await page.text("detail");
   say((await page.value("document.title")) === "hmac_session.tpm, explained", "an explained log has its name", await page.value("document.title"));

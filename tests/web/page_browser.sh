@@ -6,10 +6,15 @@ tests=$(cd "$(dirname "$0")/.." && pwd -P)
 needs chromium node python3
 
 top=${tests%/*}
-mkdir -p web/one && cd web/one && ln -s "$top/examples" "$tests/sessions" ../.. || exit 1
-"$top/tools/explain.py" --html "$top/examples/hmac_session.tpm" >explained.html || exit 1
+set -- session_encryption
+for example in "$top"/examples/*.py "$top"/examples/*.tpm; do
+    set -- "$@" "$(basename "${example%.*}")"
+done
+make_scripts "$@"
+mkdir -p web/one && cd web/one || exit 1
+"$top/tools/explain.py" --html "$(script hmac_session)" >explained.html || exit 1
 status=0
-node "$tests/web/page_browser.mjs" "file://$top/dist/tpmsim.html" "file://$PWD/explained.html" || status=1
+node "$tests/web/page_browser.mjs" "file://$top/dist/tpmsim.html" "file://$PWD/explained.html" "$TPMSIM_MADE" || status=1
 "$top/dist/tpmsim" replay taken/journal >replayed && echo "the program replays the journal: $(grep -c '^8' replayed) answers"
 "$top/dist/tpmsim" run taken/script >played || status=1
 sed -n 's/^# \(80.*\)/\1/p' taken/log >logged

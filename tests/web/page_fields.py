@@ -4,19 +4,12 @@ fields with these.
 """
 
 import json
-import pathlib
 
 from tpmsim.explain import dissection
 from tpmsim.records.reader import Command, steps_of
 from tests.common import places
 
 MOST_BYTES = 500_000
-
-
-def scripts() -> list[pathlib.Path]:
-    """Returns all scripts of tests/ and examples/, and the generated scripts."""
-    found = [*places.TESTS.glob("**/*.tpm"), *places.EXAMPLES.glob("*.tpm")]
-    return [*sorted(found), *sorted(places.folder_of_made().glob("*/*.tpm"))]
 
 
 def values(fields):
@@ -33,12 +26,11 @@ def responses_of(path):
 
 def main():
     seen = set()
-    for script in scripts():
-        answers = script.with_suffix(".out")
-        if not answers.exists() or script.stat().st_size > MOST_BYTES:
+    for script in places.scripts():
+        if script.stat().st_size > MOST_BYTES:
             continue
         commands = [it for it in steps_of(script.read_bytes()) if isinstance(it, Command)]
-        for command, response in zip(commands, responses_of(answers)):
+        for command, response in zip(commands, responses_of(script.with_suffix(".out"))):
             if (command.buffer, response) in seen:
                 continue
             seen.add((command.buffer, response))

@@ -5,7 +5,6 @@ tests=$(cd "$(dirname "$0")/.." && pwd -P)
 needs node python3
 
 python3 "$tests/../web/build.py" --facts >facts.json || exit 1
-make_scripts
 python3 "$tests/web/page_fields.py" >cases || exit 1
 cp -R "$tests/../web/page" page && echo '{ "type": "module" }' >page/package.json || exit 1
 node "$tests/web/page_fields.mjs" page facts.json cases

@@ -4,7 +4,6 @@ script. The Python device decrypts them. page_plain.mjs compares the page's valu
 """
 
 import json
-import pathlib
 
 from tpmsim.model.machine import Model
 from tpmsim.records.reader import Command, Power, steps_of
@@ -12,12 +11,6 @@ from tpmsim.standard import DECRYPT, ENCRYPT, Fields
 from tests.common import places
 
 MOST_BYTES = 500_000
-
-
-def scripts() -> list[pathlib.Path]:
-    """Returns all scripts of tests/ and examples/, and the generated scripts."""
-    found = [*places.TESTS.glob("**/*.tpm"), *places.EXAMPLES.glob("*.tpm")]
-    return [*sorted(found), *sorted(places.folder_of_made().glob("*/*.tpm"))]
 
 
 class Watched(Model):
@@ -56,10 +49,9 @@ def plain_of(script):
 
 
 def main():
-    for path in scripts():
+    for path in places.scripts():
         script = path.read_bytes()
-        is_of_use = path.with_suffix(".out").exists() and b" s:0" in script
-        if not is_of_use or len(script) > MOST_BYTES:
+        if b" s:0" not in script or len(script) > MOST_BYTES:
             continue
         asked, answered = plain_of(script)
         if asked or answered:

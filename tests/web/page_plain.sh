@@ -6,7 +6,6 @@ needs node python3
 
 top=${tests%/*}
 python3 "$top/web/build.py" --facts >facts.json || exit 1
-make_scripts
 python3 "$tests/web/page_plain.py" >cases || exit 1
 mkdir -p web clients/js && cp -R "$top/web/page" web/page && cp -R "$top/clients/js/src" clients/js/src || exit 1
 echo '{ "type": "module" }' >package.json

@@ -9,11 +9,11 @@ python3 "$top/web/build.py" --facts >facts.json || exit 1
 mkdir -p web clients/js && cp -R "$top/web/page" web/page && cp -R "$top/clients/js/src" clients/js/src || exit 1
 echo '{ "type": "module" }' >package.json
 make_scripts
-find "$tests" "$top/examples" "$TPMSIM_MADE" -name '*.tpm' -size -450k | sort >names
+find "$TPMSIM_MADE" -name '*.tpm' -size -450k | sort >names
 while read -r name; do
     # At an invalid line the program ends the script, but the page continues. Therefore scripts with invalid
     # lines are left out.
-    [ ! -f "${name%.tpm}.out" ] || [ -f "${name%.tpm}.status" ] || echo "$name"
+    [ -f "${name%.tpm}.status" ] || echo "$name"
 done <names >scripts
 xargs node "$tests/web/page_states.mjs" web/page facts.json "$top/dist/tpmsim.wasm" \
     "$top/web/page/tutorial.json" states <scripts || exit 1

@@ -94,7 +94,8 @@ PROGRAM
     exit 1
 }
 measured=$folder/crates/measured/out/measured
-"$top/tools/python.sh" "$top/tests/images/images.py" "$top/tests/general/full_device.tpm" \
+"$top/tools/python.sh" "$top/tests/common/made.py" "$folder/scripts" full_device
+"$top/tools/python.sh" "$top/tests/images/images.py" "$folder/scripts/tests/general/full_device.tpm" \
     >"$folder/image"
 bytes=$((($(wc -c <"$folder/image") - 1) / 2))
 

@@ -33,7 +33,8 @@ int main(int count, char **words) {
 }
 C
 cc -O2 -o "$folder/bare" "$folder/bare.c"
-"$top/tools/python.sh" "$top/tests/images/images.py" "$top/tests/general/full_device.tpm" \
+"$top/tools/python.sh" "$top/tests/common/made.py" "$folder/scripts" full_device
+"$top/tools/python.sh" "$top/tests/images/images.py" "$folder/scripts/tests/general/full_device.tpm" \
     "$folder/image"
 python3 "$top/tools/bench/serving.py" "$program" "$folder/bare" "$folder/image"
 

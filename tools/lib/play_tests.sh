@@ -14,10 +14,10 @@ lists=$top/crates/tpmsim_lists/out/tpmsim_lists
 work=$1
 shift
 
-# name_of FILE: prints the path of a file relative to the repository, or to the folder of the generated scripts.
+# name_of FILE: prints the path of a file relative to the repository, or to the folder of the made scripts.
 name_of() {
     name=${1#"$top/"}
-    echo "${name#"$work/"}"
+    echo "${name#"$work/made/"}"
 }
 
 # first_difference TEST WANTED: prints the first line of standard output that differs from the expected one and,

@@ -7,8 +7,10 @@ Each file is installed below ROOT in FOLDER, with its path in the repository. PA
 repository that is installed elsewhere: at the path PLACE below ROOT. Links between documents lead
 to installed files; any other link is replaced with its text. The names of programs are replaced
 with their installed names, which tools/packaging/pages.toml lists, except in README.md, which is about
-the sources. Documents for developers are not installed. The name of the program that wrote a script
-is removed from the script, because that program is not installed. Needs only python3.
+the sources. Documents for developers are not installed. The scripts of examples/ are made, and
+installed with their responses and traces. The name of the program that wrote a script is removed
+from the script, because that program is not installed: a link to it leads to the script. Needs only
+python3.
 """
 
 import functools
@@ -23,17 +25,19 @@ sys.dont_write_bytecode = sys.pycache_prefix is None
 
 from sources import TOP, installed  # noqa: E402
 
+sys.path.insert(0, str(TOP))
+
+from tests.common.places import scripts  # noqa: E402
+
 DOCUMENTS = (
     *("*.md", "docs/*.md", "docs/table/*.md", "examples/README.md", "web/README.md"),
     *("clients/c/README.md", "clients/python/README.md"),
 )
 FOR_DEVELOPERS = set("CONTRIBUTING GATE REQUIREMENTS".split())
 COPIED = (
-    *("docs/*.png", "docs/*.svg", "web/*.png", "examples/*.out", "examples/*.trace"),
-    "examples/words/*.tpms",
+    *("docs/*.png", "docs/*.svg", "web/*.png", "examples/words/*.tpms"),
     *("examples/c/*.[ch]", "examples/python/*.py", "examples/pytest/*.py"),
 )
-SCRIPTS = "examples/*.tpm"
 PIECE = re.compile(
     r"^```.*?^```$|(?P<ticks>`+)(?!`).+?(?<!`)(?P=ticks)(?!`)"
     r"|\[(?P<text>(?:[^][]|\[[^]]*\])*)\]\((?P<file>[^()\s#]*)(?P<anchor>#[^()\s]*)?\)",
@@ -57,13 +61,25 @@ def paths(*patterns: str) -> list[str]:
     return [str(it.relative_to(TOP)) for it in found if it.stem not in FOR_DEVELOPERS]
 
 
+def made_examples() -> dict[str, str]:
+    """Makes the scripts of examples/. Returns the texts of the made files, by their paths."""
+    made = [it.with_suffix(end) for it in scripts("examples") for end in (".tpm", ".out", ".trace")]
+    texts = {f"examples/{it.name}": it.read_text("ascii") for it in made}
+    return {name: WRITTEN_BY.sub("", text) for name, text in texts.items()}
+
+
 class Documents:
-    """The files of the repository that are installed, with their paths below the root."""
+    """The files of the repository that are installed, with their paths below the root. A link to
+    the program of an example leads to its script.
+    """
 
     def __init__(self, folder: str, others: dict[str, str]) -> None:
-        ours = set(paths(*DOCUMENTS, *COPIED, SCRIPTS))
+        self.examples = made_examples()
+        ours = set(paths(*DOCUMENTS, *COPIED)) | set(self.examples)
         ours |= {os.path.dirname(it) for it in ours} - {""}
         self.places = {it: os.path.join(folder, it) for it in ours} | others
+        for name in filter(lambda it: it.endswith(".tpm"), self.examples):
+            self.places[name.replace(".tpm", ".py")] = self.places[name]
 
     def piece(self, document: str, found: re.Match[str]) -> str:
         """Returns the replacement of a link; returns code unchanged."""
@@ -85,8 +101,7 @@ class Documents:
 
     def install(self, root: str) -> None:
         made = {it: self.document(it) for it in paths(*DOCUMENTS)}
-        scripts = {it: (TOP / it).read_text("utf-8") for it in paths(SCRIPTS)}
-        made |= {name: WRITTEN_BY.sub("", text) for name, text in scripts.items()}
+        made |= self.examples
         for name in [*made, *paths(*COPIED)]:
             target = pathlib.Path(f"{root}{self.places[name]}")
             target.parent.mkdir(parents=True, exist_ok=True)

@@ -10,8 +10,8 @@ import subprocess
 import sys
 
 from tpmsim.explain.play import Play
+from tests.common import places
 
-TOP = pathlib.Path(__file__).resolve().parents[2]
 OTHERWISE = "the response is another one than was recorded, by its sum"
 
 
@@ -46,7 +46,7 @@ def logs(folder):
 
 def scripts(program):
     found = dict[pathlib.Path, list]()
-    for path in sorted([*TOP.glob("tests/*/*.tpm"), *TOP.glob("examples/*.tpm")]):
+    for path in places.scripts():
         told = subprocess.run([program, "run", "--trace", path], capture_output=True).stdout
         found[path] = [it for it in Play(None, told).events(path.read_bytes()) if not it.is_power]
     return found, f"{len(found)} scripts"

@@ -4,14 +4,13 @@ import assert from "node:assert/strict";
 import { existsSync, readFileSync, readdirSync } from "node:fs";
 import { join } from "node:path";
 import { test } from "node:test";
-import { fileURLToPath } from "node:url";
 
 import { BadLine, Device } from "tpmsim";
 
 import { hex, ZERO_TO_FF } from "./common.js";
 
-// The repository's folder. The environment variable names it if the package is installed elsewhere.
-const top = process.env.TPMSIM_REPOSITORY ?? fileURLToPath(new URL("../../..", import.meta.url));
+// The folder of the scripts, which tests/common/made.py of the repository makes.
+const made = process.env.TPMSIM_MADE;
 
 /** @returns {Promise<Device>} a new device, as a script expects it */
 const fresh = () => Device.create({ manufactured: ZERO_TO_FF });
@@ -20,7 +19,7 @@ function* scripts(folder) {
   for (const entry of readdirSync(folder, { withFileTypes: true })) {
     const path = join(folder, entry.name);
     if (entry.isDirectory()) yield* scripts(path);
-    else if (path.endsWith(".tpm") && existsSync(path.replace(/tpm$/, "out"))) yield path;
+    else if (path.endsWith(".tpm")) yield path;
   }
 }
 
@@ -48,14 +47,14 @@ async function played(path) {
 const text = (lines) => lines.map((it) => `${it}\n`).join("");
 const kept = (path) => (existsSync(path) ? readFileSync(path, "latin1") : "");
 
-test("the scripts of the repository", { skip: !existsSync(join(top, "examples")) }, async () => {
+test("the scripts of the repository", { skip: !made && "TPMSIM_MADE is not set" }, async () => {
   let count = 0;
-  for (const path of [...scripts(join(top, "tests")), ...scripts(join(top, "examples"))]) {
+  for (const path of scripts(made)) {
     const base = path.replace(/tpm$/, "");
     const { answers, traced, fault } = await played(path);
     assert.equal(text(answers), kept(`${base}out`), path);
     assert.equal(fault && `${fault}\n`, kept(`${base}err`), path);
-    if (existsSync(`${base}trace`)) assert.equal(text(traced), kept(`${base}trace`), path);
+    assert.equal(text(traced), kept(`${base}trace`), path);
     count += 1;
   }
   assert.ok(count > 100);

@@ -1,11 +1,9 @@
 """Logs that the tests explain, and a caller that makes a mistake."""
 
-import pathlib
-
 from tpmsim.explain.play import Play
+from tests.common import places
 
-TOP = pathlib.Path(__file__).resolve().parents[3]
-EXAMPLE = TOP / "examples" / "disk_unlock.tpm"
+EXAMPLE = places.script("disk_unlock")
 
 
 def lines_with(words):

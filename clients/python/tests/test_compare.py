@@ -23,8 +23,7 @@ from tpmsim.standard import TRANSIENT
 import completed_scripts
 from completed_model import CompletedModel, RecordedModel
 from journals import Journal
-
-TESTS = pathlib.Path(__file__).resolve().parents[3] / "tests"
+from tests.common import places
 
 # Scripts with sessions of all kinds, policies, objects, guesses and waits.
 SCRIPTS = (
@@ -37,8 +36,8 @@ DEFINE = "do NV_DefineSpace OWNER pw:- - 01000001000b0002000200000008"
 
 
 def script(name):
-    """Returns the bytes of the script with this name, in any folder of tests/."""
-    return next(TESTS.glob(f"*/{name}.tpm")).read_bytes()
+    """Returns the bytes of the script with this name."""
+    return places.script(name).read_bytes()
 
 
 class OtherSeeds(unittest.TestCase):

@@ -11,7 +11,7 @@ import tempfile
 import unittest
 
 import table_rules
-from explained_logs import EXAMPLE, LOCKED, MOVED, TOP, events_of, lines_with
+from explained_logs import EXAMPLE, LOCKED, MOVED, events_of, lines_with
 from tpmsim.caller import area, BY_OWNER, BY_POLICY, Caller
 from tpmsim.device import ModelDevice
 from tpmsim.explain import main as command_line
@@ -21,6 +21,7 @@ from tpmsim.explain.reason import RULES
 from tpmsim.explain.sentences import LOOK_WORDS, ROWS, WORDS
 from tpmsim.model.image import image
 from tpmsim.standard import CC
+from tests.common import places
 
 # Longer scripts are left out, because all of them would take half a minute. They consist mostly of
 # altered and truncated commands.
@@ -75,14 +76,13 @@ class Sentences(unittest.TestCase):
 class Logs(unittest.TestCase):
     def test_all_scripts(self):
         """Every refusal has a reason, no script causes a crash, and the model's responses never
-        differ from the recorded ones.
+        differ from the recorded ones. Every second script is explained with its trace, and the
+        others with their responses.
         """
         refused = 0
-        scripts = [*TOP.glob("tests/**/*.tpm"), *TOP.glob("examples/*.tpm")]
-        scripts = [it for it in scripts if it.stat().st_size <= MOST_BYTES]
-        for script in sorted(it for it in scripts if it.with_suffix(".out").exists()):
-            beside = script.with_suffix(".trace")
-            answers = beside if beside.exists() else script.with_suffix(".out")
+        scripts = [it for it in places.scripts() if it.stat().st_size <= MOST_BYTES]
+        for number, script in enumerate(scripts):
+            answers = script.with_suffix(".trace" if number % 2 else ".out")
             play = Play(None, answers.read_bytes())
             for event in play.events(script.read_bytes()):
                 self.assertEqual(event.differences, [], script.name)

@@ -3,7 +3,6 @@ audit report a value that is used to encrypt although the caller did not have to
 not report ordinary encryption.
 """
 
-import pathlib
 import unittest
 
 from tpmsim.audit import start
@@ -12,10 +11,10 @@ from tpmsim.audit.log import Log
 from tpmsim.explain.play import Play
 from tpmsim.model.player import played
 from tpmsim.standard import ENCRYPT
+from tests.common import places
 
-TESTS = pathlib.Path(__file__).resolve().parents[3] / "tests"
-ATTACK = (TESTS / "lockout" / "offline_guesses.tpm").read_bytes()
-ORDINARY = (TESTS / "sessions" / "session_encryption.tpm").read_bytes()
+NAMES = "offline_guesses", "session_encryption", "object_policies"
+ATTACK, ORDINARY, NO_VALUE = (it.read_bytes() for it in places.named(*NAMES))
 
 TITLE = "Values of which guesses need no try"
 BOUND = "is bound to LOCKOUT, and encrypts an answer to a command that does not require"
@@ -63,10 +62,9 @@ class OfflineGuesses(unittest.TestCase):
         self.assertIn("is bound to 80000000, and encrypts", rows[1])
 
     def test_policy_that_asks_for_no_value(self):
-        script = (TESTS / "objects" / "object_policies.tpm").read_bytes()
-        slips = [slip for _, slip in guessed(script)]
+        slips = [slip for _, slip in guessed(NO_VALUE)]
         self.assertEqual(slips, ["guesses of a used value need no try"])
-        told = audited(script)
+        told = audited(NO_VALUE)
         row = told[told.index(TITLE) + 1]
         self.assertIn("by a policy that does not require its authValue, and encrypts", row)
 

@@ -5,7 +5,6 @@ sessions, objects, PCRs and policies in the state continue.
 import random
 import unittest
 
-from explained_logs import TOP
 from journals import Journal
 from tpmsim import records
 from tpmsim.audit import start
@@ -24,6 +23,7 @@ from tpmsim.policies.policy_file import digest_of, PolicyFile
 from tpmsim.records.reader import EARLIER_HEAD
 from tpmsim.standard import number
 from tpmsim.standard.objects import Attribute
+from tests.common import places
 
 START = "do Startup 0"
 POLICY = f"PolicyPCR sha256:16={bytes(32).hex()}\nPolicyCommandCode NV_Read\n"
@@ -238,8 +238,7 @@ class AtRandom(unittest.TestCase):
 
     def logs_of(self, name):
         chance, journal, words = random.Random(name), Journal(), Words()
-        (path,) = (TOP / "tests").glob(f"*/{name}.tpm")
-        for line in path.read_bytes().splitlines():
+        for line in places.script(name).read_bytes().splitlines():
             if line == b"power":
                 yield journal.text, journal.responses
                 journal.begin()

@@ -1,0 +1,7 @@
+"""Makes callers_in_reverse_turn.tpm. Three callers of one device take turns, the third one first.
+Each has one command executed, and then the next one has its turn.
+"""
+
+from tests.sessions.three_callers import script_of_three
+
+script = script_of_three(__name__, __doc__, (2, 1, 0))
