@@ -4,7 +4,7 @@
 //! the machine, whose state is in fixed slots, with its image, state text and journal. [`calls`],
 //! [`completing`], [`snapshots`] and [`journal`] contain the exports for a device, and [`keeping`]
 //! and [`asking`] contain the exports for a keeper. An allocator occupies no bytes, so C passes
-//! nothing for it. `library/tpmsim.h` declares the exports for C, and documents what a caller must
+//! nothing for it. `clients/c/tpmsim.h` declares the exports for C, and documents what a caller must
 //! ensure.
 //!
 //! A [`Holder`](holder::Holder) is one pointer, null if there is no device, so zeroed memory is a
