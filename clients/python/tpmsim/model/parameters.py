@@ -160,6 +160,9 @@ class Request:
 Act = Callable[..., Answer]
 Row = Callable[[Any, Request], Answer]
 
+# The parsers of each command's parameters, by the name of the method that executes the command.
+READERS: dict[str, tuple[Reader, ...]] = {}
+
 
 def takes(*readers: Reader) -> Callable[[Act], Row]:
     """Makes a row from a function and a parser for each parameter. The row refuses bytes after the
@@ -167,6 +170,8 @@ def takes(*readers: Reader) -> Callable[[Act], Row]:
     """
 
     def row_of(act: Act) -> Row:
+        READERS[act.__name__] = readers
+
         @functools.wraps(act)
         def row(device: Any, request: Request) -> Answer:
             given = [read(request.parameters.next()) for read in readers]
