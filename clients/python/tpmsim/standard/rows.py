@@ -54,6 +54,11 @@ class HeaderRow:
         """The name of the response code, such as HASH/p1."""
         return name_of_code(self.code)
 
+    @property
+    def is_far(self) -> bool:
+        """Whether only a device whose counters are near 2^64 gives this refusal."""
+        return False
+
 
 @dataclass(frozen=True)
 class Row:
@@ -241,3 +246,8 @@ def rows_of(command: CC) -> tuple[Row, ...]:
 def all_rows() -> tuple[Row, ...]:
     """Returns the refusals of all commands. HEADER_ROWS has those of unknown commands."""
     return tuple(row for command in CC for row in rows_of(command))
+
+
+def every_row() -> tuple[AnyRow, ...]:
+    """Returns all refusals, those of unknown commands first."""
+    return *HEADER_ROWS, *all_rows()

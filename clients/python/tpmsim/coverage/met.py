@@ -1,0 +1,74 @@
+"""Counts the refusals that logs have met."""
+
+from __future__ import annotations
+
+import collections
+from typing import Iterable
+
+from tpmsim.explain.play import Event, Play
+from tpmsim.model.machine import Outcome
+from tpmsim.standard import NUMBERED
+from tpmsim.standard.rows import AnyRow, every_row, Kind, Row, UNKNOWN
+
+ROWS: dict[tuple[str, str, int], AnyRow] = {(it.name, it.check, it.code): it for it in every_row()}
+
+
+class Met:
+    """How often logs have met each refusal, and how often each command was accepted, by its name.
+    `differing` counts the commands that the log's TPM answered differently from the model; they
+    count for nothing else.
+    """
+
+    def __init__(self) -> None:
+        self.refused = collections.Counter[AnyRow]()
+        self.accepted = collections.Counter[str]()
+        self.differing = 0
+
+    def add(self, log: bytes) -> str:
+        """Counts a log. Returns why it could not be read to its end, or an empty text."""
+        play = Play()
+        play.explains = lambda scene: False
+        for event in play.events(log):
+            if event.differences:
+                self.differing += 1
+            else:
+                self.count(event)
+        return play.fault
+
+    def count(self, event: Event) -> None:
+        """Counts what the device itself answered, and the command that a completing layer sent."""
+        for outcome in (event.own or event.outcome, event.sent):
+            if outcome is not None:
+                self.count_row(outcome)
+
+    def count_row(self, outcome: Outcome) -> None:
+        code = outcome.row.code
+        name = NUMBERED[code].name if code in NUMBERED else UNKNOWN
+        if outcome.refused is None:
+            self.accepted[name] += 1
+            return
+        row = ROWS.get((name, outcome.row.check, int.from_bytes(outcome.response[6:10], "big")))
+        if row is not None:
+            self.refused[row] += 1
+
+    @property
+    def used(self) -> set[str]:
+        """The names of the commands that the logs contain."""
+        return {*self.accepted, *(it.name for it in self.refused if isinstance(it, Row))}
+
+    @property
+    def commands(self) -> int:
+        """The number of counted commands."""
+        return self.accepted.total() + self.refused.total()
+
+    def could(self, kind: Kind | None = None) -> list[AnyRow]:
+        """Returns the refusals of one kind, or of all, that the used commands could have met."""
+        used = self.used
+        used.add(UNKNOWN)
+        rows = (it for it in every_row() if it.name in used and not it.is_far)
+        return [it for it in rows if kind in (None, it.kind)]
+
+    def share(self, rows: Iterable[AnyRow]) -> tuple[int, int]:
+        """Returns how many of these refusals were met, and how many there are."""
+        listed = list(rows)
+        return sum(it in self.refused for it in listed), len(listed)
