@@ -46,13 +46,27 @@ def test_in_python(tpm_of):
 
 @unittest.skipUnless(importlib.util.find_spec("pytest"), "there is no pytest")
 class Plugin(unittest.TestCase):
-    def test_fixtures(self):
+    def ran(self, *words):
+        """Runs the tests in a new folder, and returns the run and the folder."""
         folder = pathlib.Path(self.enterContext(tempfile.TemporaryDirectory()))
         (folder / "test_it.py").write_text(TESTS)
-        words = "-m pytest -p no:cacheprovider -p tpmsim.pytest_plugin test_it.py --tpmsim-html pages".split()
+        told = "-m pytest -p no:cacheprovider -p tpmsim.pytest_plugin test_it.py".split()
         given = {**os.environ, "PYTHONPATH": str(pathlib.Path(tpmsim.__file__).parents[1])}
         choices = {"cwd": folder, "env": given, "capture_output": True, "text": True}
-        done = subprocess.run([sys.executable, *words], **choices)
+        return subprocess.run([sys.executable, *told, *words], **choices), folder
+
+    def test_coverage(self):
+        done, _ = self.ran("--tpm-coverage=state", "-k", "in_python")
+        self.assertIn("refusals of the TPM that the tests have met", done.stdout)
+        self.assertRegex(done.stdout, r"\nNV_Read +0 +1/\d+\n")
+        self.assertIn("\n5 commands, ", done.stdout)
+
+    def test_no_coverage(self):
+        done, _ = self.ran("-k", "in_python")
+        self.assertNotIn("refusals of the TPM", done.stdout)
+
+    def test_fixtures(self):
+        done, folder = self.ran("--tpmsim-html", "pages")
         self.assertEqual(done.returncode, 1, done.stderr)
         for words in (
             f"{4 if library.is_there() else 3} failed, 2 passed",

@@ -2,7 +2,8 @@
 kept in an image; and `tpm_of`, which makes a caller of any device. Each device is started up. If a
 test fails, its report contains the commands that the device received, as a script, and why the last
 refused command was refused. With `--tpmsim-html FOLDER`, the page that explains the log of each
-failed test is written to FOLDER.
+failed test is written to FOLDER. With `--tpm-coverage`, the summary of the run says which refusals
+of the table the tests have met, as tpmsim-coverage does.
 """
 
 import re
@@ -12,18 +13,33 @@ from typing import Any, Callable, Generator, Iterator
 import pytest
 
 from tpmsim.caller import Caller
+from tpmsim.coverage.met import Met
+from tpmsim.coverage.report import table
 from tpmsim.device import Device, Transport
 from tpmsim.explain import page, text
 from tpmsim.explain.of_device import log_of, why_refused
 from tpmsim.explain.play import Play
+from tpmsim.standard.rows import Kind
 
 DEVICES = pytest.StashKey[list[Transport]]()
+COVERAGE = pytest.StashKey[Met]()
 NO_NAME = re.compile(r"[^A-Za-z0-9_.-]+")
 
 
 def pytest_addoption(parser: pytest.Parser) -> None:
     words = "writes the page of each failed test's TPM to this folder"
-    parser.getgroup("tpmsim").addoption("--tpmsim-html", metavar="FOLDER", help=words)
+    group = parser.getgroup("tpmsim")
+    group.addoption("--tpmsim-html", metavar="FOLDER", help=words)
+    words = "reports which refusals of the TPM the tests have met [of all kinds]"
+    kinds = [it.value for it in Kind]
+    group.addoption(
+        "--tpm-coverage", metavar="KIND", nargs="?", const="", choices=["", *kinds], help=words
+    )
+
+
+def pytest_configure(config: pytest.Config) -> None:
+    if config.getoption("--tpm-coverage") is not None:
+        config.stash[COVERAGE] = Met()
 
 
 def caller_of(request: pytest.FixtureRequest, device: Transport) -> Caller:
@@ -72,6 +88,10 @@ def page_left(folder: str, name: str, log: bytes) -> str:
 @pytest.hookimpl(hookwrapper=True)  # type: ignore[misc]
 def pytest_runtest_makereport(item: pytest.Item) -> Generator[None, Any, None]:
     report = (yield).get_result()
+    met = item.config.stash.get(COVERAGE, None)
+    if met is not None and report.when == "call":
+        for device in item.stash.get(DEVICES, []):
+            met.add(log_of(device))
     if not report.failed:
         return
     folder = item.config.getoption("--tpmsim-html")
@@ -87,3 +107,13 @@ def pytest_runtest_makereport(item: pytest.Item) -> Generator[None, Any, None]:
         if folder:
             name = f"{item.nodeid}-{at}" if at > 1 else item.nodeid
             report.sections.append(("the page of the TPM", page_left(folder, name, log)))
+
+
+def pytest_terminal_summary(terminalreporter: Any, config: pytest.Config) -> None:
+    met = config.stash.get(COVERAGE, None)
+    if met is None:
+        return
+    kind = config.getoption("--tpm-coverage")
+    terminalreporter.section("refusals of the TPM that the tests have met")
+    for it in table(met, Kind(kind) if kind else None):
+        terminalreporter.write_line(it)
