@@ -143,7 +143,7 @@ put_documents() {
         put 644 "$page.gz" "share/man/man${page##*.}/${page##*/}.gz"
     done
     put 644 tools/packaging/tpmsim.bash share/bash-completion/completions/tpmsim
-    for tool in audit compare explain script simulator; do
+    for tool in audit compare coverage explain refusals script simulator; do
         link tpmsim "share/bash-completion/completions/tpmsim-$tool"
     done
     put 644 tools/packaging/_tpmsim "$functions/_tpmsim"

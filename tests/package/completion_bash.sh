@@ -26,6 +26,10 @@ CODE
 mkdir bin coming files files/deep
 ln -s "$program" bin/tpmsim
 for tool in explain audit; do ln -s "$top/tools/$tool.py" "bin/tpmsim-$tool"; done
+for tool in refusals coverage; do
+    printf '#!/bin/sh\nexec "%s/tools/python.sh" -m tpmsim.%s.main "$@"\n' "$top" "$tool" >"bin/tpmsim-$tool"
+    chmod +x "bin/tpmsim-$tool"
+done
 ln -s "$tests/common/coming_program.sh" coming/tpmsim
 : >files/first.tpm
 : >files/second.tpm
@@ -49,6 +53,10 @@ tpmsim-explain|files/s
 tpmsim-explain|--
 tpmsim-audit|--pol
 tpmsim-audit|--
+tpmsim-refusals|--
+tpmsim-refusals|--state|files/s
+tpmsim-coverage|--
+tpmsim-coverage|files/s
 CODE
 
 echo '== what it has, and is not completed'

@@ -51,6 +51,8 @@ for tool in audit explain; do
     lines=1 said "tpmsim-$tool"
     "tpmsim-$tool" --help | grep '^    tpmsim'
 done
+tpmsim-coverage log --only state | tail -n 1
+tpmsim-refusals NV_Read A3 | head -n 3
 lines=1 said tpmsim-compare
 tpmsim-script log | grep '^do '
 lines=1 said tpmsim-simulator --help

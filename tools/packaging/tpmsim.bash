@@ -36,4 +36,5 @@ _tpmsim() {
     mapfile -t COMPREPLY < <(compgen -W "$words" -- "$word")
 }
 
-complete -F _tpmsim tpmsim tpmsim-audit tpmsim-compare tpmsim-explain tpmsim-script tpmsim-simulator
+complete -F _tpmsim tpmsim tpmsim-audit tpmsim-compare tpmsim-coverage tpmsim-explain tpmsim-refusals \
+    tpmsim-script tpmsim-simulator
