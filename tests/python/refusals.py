@@ -4,8 +4,8 @@
 
 The program plays a script of each refusal of the list, and has to refuse its last command by
 exactly the listed check and with the listed code. Then no refusal that the program prints for the
-stored scripts, for the scripts that are made (if they are in TPMSIM_MADE), and for random scripts
-may be missing from the list. Then the list gets a mistake at a time, and the test must find it.
+scripts of the tests, and for random scripts, may be missing from the list. Then the list gets one
+mistake at a time, and the test must find it.
 """
 
 import collections
@@ -117,9 +117,8 @@ def random_script(seed: int) -> bytes:
 
 
 def met(program: str) -> set[Trace]:
-    """Returns all refusals that the program prints for stored, generated and random scripts."""
-    paths = places.scripts() if os.environ.get("TPMSIM_MADE") else places.stored()
-    texts = [it.read_bytes() for it in paths]
+    """Returns all refusals that the program prints for the scripts of the tests and random ones."""
+    texts = [it.read_bytes() for it in places.scripts()]
     texts += [random_script(seed) for seed in range(1, RANDOM_SCRIPTS + 1)]
     with concurrent.futures.ThreadPoolExecutor(AT_ONCE) as pool:
         ends = pool.map(lambda it: ran(program, "run", "--trace", "-", stdin=it), texts)

@@ -90,15 +90,14 @@ def below_sealed(stage: Stage) -> Prepared:
     return stage.example().but(handles=[stage.sealed_data()])
 
 
-def on_object(code: CC, make: Callable[[Stage], int]) -> Way:
-    """TPM2_Unseal or TPM2_HMAC with another object."""
-    return lambda stage: stage.tpm.command(code.name, make(stage), **OBJECT_VALUES[code])
+def unsealing(make: Callable[[Stage], int]) -> Way:
+    """TPM2_Unseal of another object."""
+    return lambda stage: stage.tpm.unsealing(make(stage))
 
 
-OBJECT_VALUES: dict[CC, dict[str, Any]] = {
-    CC.Unseal: {},
-    CC.HMAC: {"buffer": b"data", "hashAlg": SHA256},
-}
+def mac_by(make: Callable[[Stage], int]) -> Way:
+    """TPM2_HMAC with another object."""
+    return lambda stage: stage.tpm.hmac(make(stage), b"data", SHA256)
 
 
 def restricted_key(stage: Stage) -> int:
@@ -187,8 +186,8 @@ def nv_refusals() -> dict[tuple[CC, str], Way]:
     return found
 
 
-def defining(public: nv.Public, **more: bytes) -> Way:
-    return lambda stage: stage.tpm.defining(public, **more)
+def defining(public: nv.Public, auth: bytes = b"") -> Way:
+    return lambda stage: stage.tpm.defining(public, auth=auth)
 
 
 def defined_too_many(stage: Stage) -> Prepared:
@@ -343,11 +342,11 @@ OWN: dict[tuple[CC, str], Way] = {
     (CC.Load, "A4"): loaded(WRONG_SCHEME),
     (CC.Load, "A5"): loaded(sealed()),
     (CC.Load, "A6"): loaded_too_many,
-    (CC.Unseal, "A1"): on_object(CC.Unseal, Stage.storage),
-    (CC.Unseal, "A2"): on_object(CC.Unseal, Stage.key),
-    (CC.HMAC, "A1"): on_object(CC.HMAC, Stage.storage),
-    (CC.HMAC, "A2"): on_object(CC.HMAC, restricted_key),
-    (CC.HMAC, "A3"): on_object(CC.HMAC, Stage.sealed_data),
+    (CC.Unseal, "A1"): unsealing(Stage.storage),
+    (CC.Unseal, "A2"): unsealing(Stage.key),
+    (CC.HMAC, "A1"): mac_by(Stage.storage),
+    (CC.HMAC, "A2"): mac_by(restricted_key),
+    (CC.HMAC, "A3"): mac_by(Stage.sealed_data),
     (CC.HMAC, "A4"): other_hash,
     (CC.EvictControl, "A1"): of_platform,
     (CC.EvictControl, "A2"): until_reset,
