@@ -59,7 +59,7 @@ deb() {
 cd /root && echo 'do Startup 0' | tpmsim run --trace - >said
 printf 'Startup L0 +0 ok 00000000\n80010000000a00000000\n' | cmp - said
 for tool in audit explain; do tpmsim-$tool --help; done
-tpmsim-compare --help && tpmsim-script --help && tpmsim-simulator --help
+for tool in compare coverage refusals script simulator; do tpmsim-$tool --help; done
 END
     check "README's command, and each tool" sh -e /root/commands
     script manual <<'END'
