@@ -12,6 +12,8 @@ from collections.abc import Callable
 from dataclasses import dataclass
 
 from tpmsim.standard import CC, Fact, HandleKind, lines
+from tpmsim.standard.frames import CODES, spelled_code
+from tpmsim.standard.rows import every_row
 from tests.common.places import TOP
 
 README, TABLE = "README.md", "docs/table"
@@ -150,6 +152,31 @@ def nv_access_of(code: CC) -> str:
     return "if it has AUTHREAD" if code.has(Fact.READS_NV) else "if it has AUTHWRITE"
 
 
+# The code that the table has, though the program never returns it.
+NOT_RETURNED = "904", "MEMORY"
+
+
+def codes(texts: Documents) -> List:
+    """The section about response codes must have each code of a refusal, without its place, with
+    its name.
+    """
+    wanted = {base_of(it.code) for it in every_row()} | {NOT_RETURNED}
+    section = between(texts[LIST], "## By response code", "\n## ")
+    names = r"([A-Z_]+?)(?:_([HS])0)?(?: to \w+)?"
+    rows = re.findall(rf"^\| `0*(\w+)(?: to \w+)?` \| {names} \|", section, re.M)
+    found = [(code, f"{name}_{place}".strip("_")) for code, name, place in rows]
+    return List(sorted(wanted), sorted(found))
+
+
+def base_of(code: int) -> tuple[str, str]:
+    """Returns a response code in hex and its name, both without the number of a place."""
+    name = spelled_code(code)[0]
+    base = CODES[name]
+    if name.startswith("REFERENCE"):
+        base, name = base - int(name[-1]), name[:-1]
+    return f"{base:X}", name
+
+
 UNSESSIONED = "the command has entries (tag 8002), and is"
 KEEPING = "unless it is one of these"
 CHECKS: dict[str, Check] = {
@@ -172,6 +199,7 @@ CHECKS: dict[str, Check] = {
     ),
     "nv.md, what commands ask of an index": nv_access,
     "counts of commands": counts,
+    "docs/table/README.md, the response codes": codes,
 }
 
 # Mistakes that the test must find. Each has a document, a text in it, and the wrong text that
@@ -191,6 +219,8 @@ WRONG = (
     (STATE, "TPM2_HMAC, ", "TPM2_HMAC, TPM2_Load, "),
     (NV_ACCESS, "| TPM2_NV_Read, ", "| "),
     (README, "It serves 47 commands", "It serves 46 commands"),
+    (LIST, "| `00000120` | DISABLED |", "| `00000121` | DISABLED |"),
+    (LIST, "| `09C` | KEY |", "| `09C` | KEYS |"),
     (CAPABILITIES, "the number of served commands, 2F", "the number of served commands, 30"),
 )
 
