@@ -3,6 +3,7 @@
 from __future__ import annotations
 
 import collections
+import functools
 from typing import Iterable
 
 from tpmsim.explain.play import Event, Play
@@ -10,7 +11,11 @@ from tpmsim.model.machine import Outcome
 from tpmsim.standard import NUMBERED
 from tpmsim.standard.rows import AnyRow, every_row, Kind, Row, UNKNOWN
 
-ROWS: dict[tuple[str, str, int], AnyRow] = {(it.name, it.check, it.code): it for it in every_row()}
+
+@functools.cache
+def rows_by_name() -> dict[tuple[str, str, int], AnyRow]:
+    """Returns all refusals by the name of the command, the check and the response code."""
+    return {(it.name, it.check, it.code): it for it in every_row()}
 
 
 class Met:
@@ -47,7 +52,8 @@ class Met:
         if outcome.refused is None:
             self.accepted[name] += 1
             return
-        row = ROWS.get((name, outcome.row.check, int.from_bytes(outcome.response[6:10], "big")))
+        number = int.from_bytes(outcome.response[6:10], "big")
+        row = rows_by_name().get((name, outcome.row.check, number))
         if row is not None:
             self.refused[row] += 1
 
