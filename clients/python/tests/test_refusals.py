@@ -11,10 +11,12 @@ from unittest import mock
 from tpmsim.coverage import main as coverage
 from tpmsim.coverage.met import Met
 from tpmsim.device import ModelDevice
+from tpmsim.explain.play import Play
 from tpmsim.faults import BadValue
 from tpmsim.model import parameter_faults
 from tpmsim.model.parameters import integer, READERS
 from tpmsim.refusals import main as refusals, refusal
+from tpmsim.refusals.made import made
 from tpmsim.refusals.words import sentence_of
 from tpmsim.standard import CC
 from tpmsim.standard.rows import all_rows, every_row, HEADER_ROWS, Kind, Row, rows_of
@@ -101,6 +103,20 @@ class Refusals(unittest.TestCase):
         ):
             with self.assertRaisesRegex(BadValue, f"^{told}"):
                 refusal(*words)
+
+    def test_each_is_explained(self):
+        """Why each script is refused is explained. Those with wrong entries would take longest,
+        since the explanation tries what could have made them.
+        """
+        for row in every_row():
+            refused = made(row)
+            if refused.far or row.check in ("G9", "G10"):
+                continue
+            play = Play()
+            play.explains = lambda scene: scene.buffer == refused.buffer
+            *_, event = play.events("\n".join(refused.script).encode())
+            self.assertEqual((event.scene.check, event.refused), (row.check, row.code_name))
+            self.assertTrue(event.reason.words and event.reason.sentence)
 
 
 class RefusalsProgram(unittest.TestCase):
