@@ -86,7 +86,7 @@ build_tcti() {
 }
 
 build_libtpms() {
-    compile_shared libtpms.so.0 libtpms/libtpms.map -D_GNU_SOURCE libtpms/*.c ||
+    compile_shared libtpms.so.0 libtpms/libtpms.map -D_GNU_SOURCE= -Ikept libtpms/*.c kept/secret.c ||
         fail 'libtpms.so.0 is not compiled'
     if [ -z "${CFLAGS:-}" ]; then
         wanted_names >"$work/wanted"

@@ -1,5 +1,6 @@
 #define _GNU_SOURCE
 #include "image.h"
+#include "secret.h"
 #include "standing.h"
 #include "told.h"
 #include "transfer.h"
@@ -7,9 +8,6 @@
 #include <fcntl.h>
 #include <stdlib.h>
 #include <unistd.h>
-
-/* The size of a buffer for an image, larger than any image. */
-enum { ROOM = 64 * 1024 };
 
 /* Opens the file if the user may read it. Otherwise returns -1 and sets
  * `reason`. */
@@ -32,7 +30,7 @@ static bool read_device(tpmsim *device, int file, const char *path, uint8_t *roo
     if (fstat(file, &status) != 0)
         return refuse(reason, path, NULL, "cannot be looked at", errno);
     if (!standing_is_file(&status, path, NULL, reason)) return false;
-    ssize_t got = transfer_read(file, room, ROOM, 0);
+    ssize_t got = transfer_read(file, room, IMAGE_ROOM, 0);
     if (got < 0) return refuse(reason, path, NULL, "cannot be read", errno);
     *size = (size_t)got;
     uint8_t told = tpmsim_open(device, room, *size);
@@ -43,12 +41,12 @@ static bool read_device(tpmsim *device, int file, const char *path, uint8_t *roo
 static uint8_t *open_bytes(tpmsim *device, const char *path, size_t *size, struct reason *reason) {
     int file = open_file(path, reason);
     if (file < 0) return NULL;
-    uint8_t *room = malloc(ROOM);
+    uint8_t *room = calloc(1, IMAGE_ROOM);
     bool is_open = room ? read_device(device, file, path, room, size, reason)
                         : refuse_told(reason, path, NULL, TPMSIM_NO_MEMORY);
     close(file);
     if (is_open) return room;
-    free(room);
+    secret_free(room, IMAGE_ROOM);
     return NULL;
 }
 
@@ -62,6 +60,6 @@ uint8_t *image_read(const char *path, size_t *size, struct reason *reason) {
 bool image_open(tpmsim *device, const char *path, struct reason *reason) {
     size_t size;
     uint8_t *bytes = open_bytes(device, path, &size, reason);
-    free(bytes);
+    secret_free(bytes, IMAGE_ROOM);
     return bytes != NULL;
 }

@@ -1,6 +1,7 @@
 #define _GNU_SOURCE
 #include "keeping.h"
 #include "past.h"
+#include "secret.h"
 #include "told.h"
 #include "transfer.h"
 #include "written.h"
@@ -26,19 +27,12 @@ static bool refuse_file(const struct keeping *keeping, const char *name, const c
     return refuse(reason, keeping->folder.path, name, said, errno);
 }
 
-/* Clears and frees the buffer, which contained secrets of the device. */
-static void free_buffer(struct keeping *keeping) {
-    if (keeping->buffer) explicit_bzero(keeping->buffer, keeping->buffer_size);
-    free(keeping->buffer);
-    keeping->buffer = NULL;
-}
-
 /* Makes the buffer at least this large. If the buffer grows, its contents are lost. */
 static bool reserve(struct keeping *keeping, size_t size, struct reason *reason) {
     if (keeping->buffer_size >= size) return true;
     uint8_t *buffer = malloc(size);
     if (!buffer) return refuse_told(reason, keeping_name(keeping), NULL, TPMSIM_NO_MEMORY);
-    free_buffer(keeping);
+    secret_free(keeping->buffer, keeping->buffer_size);
     keeping->buffer = buffer;
     keeping->buffer_size = size;
     return true;
@@ -309,6 +303,6 @@ void keeping_close(struct keeping *keeping) {
     tpmsim_keeper_free(&keeping->keeper);
     close_file(keeping->journal);
     close_file(keeping->fresh);
-    free_buffer(keeping);
+    secret_free(keeping->buffer, keeping->buffer_size);
     folder_close(&keeping->folder);
 }

@@ -4,6 +4,7 @@
 #include "host.h"
 #include "image.h"
 #include "keeping.h"
+#include "secret.h"
 #include "told.h"
 #include <stdlib.h>
 #include <string.h>
@@ -63,7 +64,7 @@ static bool begin(struct kept *kept, const char *image, struct reason *reason) {
     uint8_t told = tpmsim_keeper_seed(&kept->keeping.keeper,
                                       image ? TPMSIM_SEED_IMAGE : TPMSIM_SEED_RANDOM, now_ms, start,
                                       image ? bytes : kept->draws.bytes, size);
-    free(bytes);
+    secret_free(bytes, IMAGE_ROOM);
     return run(kept, told, reason);
 }
 
@@ -158,6 +159,5 @@ void kept_close(struct kept *kept) {
     if (!kept) return;
     keeping_close(&kept->keeping);
     draws_end(&kept->draws);
-    explicit_bzero(kept, sizeof *kept);
-    free(kept);
+    secret_free(kept, sizeof *kept);
 }

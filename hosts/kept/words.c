@@ -1,7 +1,8 @@
 #define _GNU_SOURCE
 #include "words.h"
+#include "past.h"
+#include "secret.h"
 #include "told.h"
-#include <stdlib.h>
 #include <string.h>
 
 enum word { STATE, COMPLETE, DEVICE, RM, CUT, KEEP, LOCALITY, IMAGE, RANDOM, FORCE, WORDS };
@@ -9,18 +10,33 @@ enum word { STATE, COMPLETE, DEVICE, RM, CUT, KEEP, LOCALITY, IMAGE, RANDOM, FOR
 static const char *const NAMES[WORDS] = {"state=", "complete",  "device", "rm",      "cut",
                                          "keep=",  "locality=", "image=", "random=", "force="};
 
-static bool read_locality(struct words *words, const char *value) {
-    if (value[0] < '0' || value[0] > '4' || value[1]) return false;
-    words->locality = (uint8_t)(value[0] - '0');
-    return true;
+bool words_number(const char *text, size_t size, unsigned most, unsigned *number) {
+    unsigned long read = 0;
+    for (size_t i = 0; i < size; i++) {
+        if (text[i] < '0' || text[i] > '9') return false;
+        read = 10 * read + (unsigned long)(text[i] - '0');
+        if (read > most) return false;
+    }
+    *number = (unsigned)read;
+    return size > 0;
 }
 
-/* Reads the value of `keep=`, a number of one or two digits. */
-static bool read_keep(struct words *words, const char *value) {
-    size_t size = strlen(value);
-    if (size == 0 || size > 2 || strspn(value, "0123456789") != size) return false;
-    words->options.keep = (unsigned)atoi(value);
-    return true;
+/* Returns the value of a hex digit in either case, or 16 for any other character. */
+static unsigned digit_of(char digit) {
+    if (digit >= '0' && digit <= '9') return (unsigned)(digit - '0');
+    if (digit >= 'a' && digit <= 'f') return (unsigned)(digit - 'a' + 10);
+    if (digit >= 'A' && digit <= 'F') return (unsigned)(digit - 'A' + 10);
+    return 16;
+}
+
+size_t words_hex(const char *text, size_t size, uint8_t *bytes, size_t most) {
+    if (size % 2 || size / 2 > most) return 0;
+    for (size_t i = 0; i < size / 2; i++) {
+        unsigned high = digit_of(text[2 * i]), low = digit_of(text[2 * i + 1]);
+        if (high > 15 || low > 15) return 0;
+        bytes[i] = (uint8_t)(16 * high + low);
+    }
+    return size / 2;
 }
 
 bool words_force(const char *word, uint8_t *force) {
@@ -35,39 +51,31 @@ bool words_force(const char *word, uint8_t *force) {
     return false;
 }
 
-/* Returns the value of a hex digit in either case, or 16 for any other character. */
-static unsigned digit_of(char digit) {
-    if (digit >= '0' && digit <= '9') return (unsigned)(digit - '0');
-    if (digit >= 'a' && digit <= 'f') return (unsigned)(digit - 'a' + 10);
-    if (digit >= 'A' && digit <= 'F') return (unsigned)(digit - 'A' + 10);
-    return 16;
+static bool read_locality(struct words *words, const char *value, size_t size) {
+    unsigned number = 0;
+    bool is_good = size == 1 && words_number(value, size, 4, &number);
+    words->locality = (uint8_t)number;
+    return is_good;
 }
 
-static bool read_random(struct words *words, const char *value) {
-    size_t size = strlen(value);
-    if (size == 0 || size % 2 || size / 2 > sizeof words->random) return false;
-    for (size_t i = 0; i < size / 2; i++) {
-        unsigned high = digit_of(value[2 * i]), low = digit_of(value[2 * i + 1]);
-        if (high > 15 || low > 15) return false;
-        words->random[i] = (uint8_t)(high << 4 | low);
-    }
+static bool read_random(struct words *words, const char *value, size_t size) {
     words->options.random = words->random;
-    words->options.random_size = size / 2;
-    return true;
+    words->options.random_size = words_hex(value, size, words->random, sizeof words->random);
+    return words->options.random_size > 0;
 }
 
-/* Reads the value that follows the name of a word such as `keep=`. */
-static bool read_value(struct words *words, enum word word, const char *value) {
+/* Reads the value that follows the name of a word such as `keep=`. A 0 follows the value. */
+static bool read_value(struct words *words, enum word word, const char *value, size_t size) {
     switch (word) {
-    case STATE: words->options.folder = value; return *value != 0;
-    case COMPLETE: return *value == 0;
-    case DEVICE: words->options.completes = false; return *value == 0;
-    case RM: words->flushes = true; return *value == 0;
-    case CUT: words->options.cuts = true; return *value == 0;
-    case KEEP: return read_keep(words, value);
-    case LOCALITY: return read_locality(words, value);
-    case IMAGE: words->options.image = value; return *value != 0;
-    case RANDOM: return read_random(words, value);
+    case STATE: words->options.folder = value; return size > 0;
+    case COMPLETE: return size == 0;
+    case DEVICE: words->options.completes = false; return size == 0;
+    case RM: words->flushes = true; return size == 0;
+    case CUT: words->options.cuts = true; return size == 0;
+    case KEEP: return size <= 2 && words_number(value, size, PAST_MOST, &words->options.keep);
+    case LOCALITY: return read_locality(words, value, size);
+    case IMAGE: words->options.image = value; return size > 0;
+    case RANDOM: return read_random(words, value, size);
     case FORCE: return words_force(value, &words->options.force);
     default: return false;
     }
@@ -77,15 +85,15 @@ static bool refuse_word(const char *text, const char *said, struct reason *reaso
     return refuse(reason, *text ? text : "an empty word", NULL, said, 0);
 }
 
-/* Reads one word. `seen` marks the words that occurred before it. */
-static bool read_word(struct words *words, bool seen[WORDS], const char *text,
+/* Reads one word, which a 0 follows. `seen` marks the words that occurred before it. */
+static bool read_word(struct words *words, bool seen[WORDS], const char *text, size_t size,
                       struct reason *reason) {
     for (int i = 0; i < WORDS; i++) {
-        size_t size = strlen(NAMES[i]);
-        if (strncmp(text, NAMES[i], size) != 0) continue;
+        size_t name = strlen(NAMES[i]);
+        if (size < name || memcmp(text, NAMES[i], name) != 0) continue;
         if (seen[i]) return refuse_word(text, "is the second word of its kind", reason);
         seen[i] = true;
-        if (!read_value(words, (enum word)i, text + size)) break;
+        if (!read_value(words, (enum word)i, text + name, size - name)) break;
         return true;
     }
     return refuse_word(text, "is none of the words " WORDS_WANTED, reason);
@@ -105,12 +113,18 @@ static bool has_one_layer(const bool seen[WORDS], struct reason *reason) {
            refuse(reason, NAMES[COMPLETE], NULL, "cannot be combined with device", 0);
 }
 
+/* Returns the offset after the word that starts at an offset: the next comma, or the end. */
+static size_t word_end(const char *text, size_t size, size_t at) {
+    while (at < size && text[at] != ',') at++;
+    return at;
+}
+
 static bool read_words(struct words *words, struct reason *reason) {
     bool seen[WORDS] = {false};
-    char *rest = words->text;
-    while (rest) {
-        const char *text = strsep(&rest, ",");
-        if (!read_word(words, seen, text, reason)) return false;
+    for (size_t at = 0, end; at <= words->size; at = end + 1) {
+        end = word_end(words->text, words->size, at);
+        words->text[end] = 0;
+        if (!read_word(words, seen, words->text + at, end - at, reason)) return false;
     }
     return has_one_layer(seen, reason) && has_folder(seen, FORCE, reason) &&
            has_folder(seen, CUT, reason) && has_folder(seen, KEEP, reason) &&
@@ -119,14 +133,15 @@ static bool read_words(struct words *words, struct reason *reason) {
 
 bool words_read(struct words *words, const char *text, struct reason *reason) {
     *words = (struct words){.text = strdup(text ? text : ""),
+                            .size = text ? strlen(text) : 0,
                             .options = {.force = TPMSIM_FORCE_POWER, .completes = true}};
     if (!words->text) return refuse_told(reason, "the module", NULL, TPMSIM_NO_MEMORY);
-    if (!*words->text || read_words(words, reason)) return true;
+    if (words->size == 0 || read_words(words, reason)) return true;
     words_free(words);
     return false;
 }
 
 void words_free(struct words *words) {
-    free(words->text);
-    *words = (struct words){0};
+    secret_free(words->text, words->size);
+    explicit_bzero(words, sizeof *words);
 }

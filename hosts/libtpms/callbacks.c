@@ -11,19 +11,25 @@ enum { NO_LOCALITY = 255 };
 
 static struct libtpms_callbacks callbacks;
 
+/* Replaces the callbacks only with others that can store states. So once there are such callbacks, there always
+   are. Takes no part of a callback, if the structure ends within it. */
 TPM_RESULT TPMLIB_RegisterCallbacks(struct libtpms_callbacks *registered) {
-    memset(&callbacks, 0, sizeof callbacks);
-    if (registered == NULL || registered->sizeOfStruct < (int)sizeof registered->sizeOfStruct) {
-        report("the callbacks are none");
+    struct libtpms_callbacks taken = {0};
+    if (registered != NULL && registered->sizeOfStruct > 0) {
+        size_t size = (size_t)registered->sizeOfStruct;
+        if (size > sizeof taken) size = sizeof taken;
+        memcpy(&taken, registered, size - size % sizeof taken.tpm_nvram_init);
+    }
+    if (taken.tpm_nvram_loaddata == NULL || taken.tpm_nvram_storedata == NULL) {
+        report("the callbacks are refused: they keep no state");
         return TPM_FAIL;
     }
-    size_t size = (size_t)registered->sizeOfStruct;
-    memcpy(&callbacks, registered, size < sizeof callbacks ? size : sizeof callbacks);
+    callbacks = taken;
     return TPM_SUCCESS;
 }
 
 bool begin_callbacks(void) {
-    if (callbacks.tpm_nvram_loaddata == NULL || callbacks.tpm_nvram_storedata == NULL) {
+    if (callbacks.tpm_nvram_storedata == NULL) {
         report("there are no callbacks that keep a state");
         return false;
     }
@@ -48,8 +54,12 @@ enum kept load_state(const char *name, uint8_t **bytes, size_t *size) {
         report("the state %s is not read (result %u)", name, (unsigned)result);
         return NOT_READ;
     }
+    if (data == NULL) {
+        report("the state %s is not read (there are no bytes)", name);
+        return NOT_READ;
+    }
     *bytes = data;
-    *size = data == NULL ? 0 : length;
+    *size = length;
     return KEPT;
 }
 

@@ -4,6 +4,7 @@
 #include "older.h"
 
 #include "report.h"
+#include "secret.h"
 
 #include <inttypes.h>
 #include <stdio.h>
@@ -48,10 +49,11 @@ const char *open_older_state(tpmsim *device, const uint8_t *text, size_t size, s
     uint8_t told = tpmsim_journal_open(device, text, length, &taken);
     if (told != TPMSIM_DONE) return words_of_told(told);
     if (taken != length) return "its last record is cut off";
-    char *journal = strndup((const char *)text, length);
+    char *journal = malloc(length + 1);
     if (journal == NULL) return words_of_told(TPMSIM_NO_MEMORY);
+    memcpy(journal, text, length);
+    journal[length] = 0;
     read_moment(journal, moment);
-    explicit_bzero(journal, length);
-    free(journal);
+    secret_free(journal, length);
     return NULL;
 }

@@ -5,6 +5,7 @@
 #include "launch.h"
 #include "permanent.h"
 #include "report.h"
+#include "secret.h"
 #include "volatile.h"
 
 #include <libtpms/tpm_error.h>
@@ -28,8 +29,7 @@ static size_t place_of(enum TPMLIB_StateType type) {
 }
 
 void free_state(struct state *state) {
-    if (state->bytes != NULL) explicit_bzero(state->bytes, state->size);
-    free(state->bytes);
+    secret_free(state->bytes, state->size);
     *state = (struct state){0};
 }
 

@@ -1,5 +1,6 @@
 #define _GNU_SOURCE
 #include "client.h"
+#include "secret.h"
 #include <errno.h>
 #include <netinet/in.h>
 #include <netinet/tcp.h>
@@ -101,17 +102,13 @@ static enum outcome read_some(struct client *client) {
 }
 
 static bool begin_traffic(struct client *client) {
-    if (!client->traffic) {
-        client->traffic = malloc(sizeof *client->traffic);
-        if (client->traffic) client->traffic->came = client->traffic->sent = client->traffic->answer.size = 0;
-    }
+    if (!client->traffic) client->traffic = calloc(1, sizeof *client->traffic);
     return client->traffic != NULL;
 }
 
 /* Frees the buffers that an idle client does not need. Commands and answers may contain secrets. */
 static void end_traffic(struct client *client) {
-    if (client->traffic) explicit_bzero(client->traffic, sizeof *client->traffic);
-    free(client->traffic);
+    secret_free(client->traffic, sizeof *client->traffic);
     client->traffic = NULL;
 }
 

@@ -5,6 +5,7 @@
 #include "image_file.h"
 #include "random.h"
 #include "record_file.h"
+#include "secret.h"
 #include "told.h"
 #include <limits.h>
 #include <stdio.h>
@@ -61,8 +62,7 @@ static bool begin(struct device *device, start_journal start, struct reason *rea
     start(&device->handle, now_ms, head, size);
     bool is_done = record_file_begin(&device->record, head, size, reason) &&
                    keep(device, false, reason);
-    explicit_bzero(head, size);
-    free(head);
+    secret_free(head, size);
     return is_done;
 }
 
@@ -73,8 +73,7 @@ static bool forget_journal(struct device *device, struct reason *reason) {
     if (!text) return refuse_device(told_words(TPMSIM_NO_MEMORY), reason);
     size_t size = tpmsim_snapshot(&device->handle, text, TPMSIM_STATE_SIZE);
     uint8_t told = tpmsim_restore(&device->handle, text, size);
-    explicit_bzero(text, size);
-    free(text);
+    secret_free(text, size);
     return told == TPMSIM_DONE || refuse_device(told_words(told), reason);
 }
 
@@ -194,7 +193,6 @@ bool device_close(struct device *device, struct reason *reason) {
     if (!device) return true;
     bool is_closed = device->kept ? true : close_in_memory(device, reason);
     kept_close(device->kept);
-    explicit_bzero(device, sizeof *device);
-    free(device);
+    secret_free(device, sizeof *device);
     return is_closed;
 }

@@ -1,5 +1,7 @@
 #define _GNU_SOURCE
 #include "image_file.h"
+#include "image.h"
+#include "secret.h"
 #include "standing.h"
 #include "told.h"
 #include "transfer.h"
@@ -12,9 +14,6 @@
 #include <string.h>
 #include <sys/file.h>
 #include <unistd.h>
-
-/* The size of a buffer for an image, larger than any image. */
-enum { IMAGE_MOST = 64 * 1024 };
 
 /* Appends `end` to the path. Returns false if the result is too long. */
 static bool path_with(char room[PATH_MAX], const char *path, const char *end,
@@ -45,9 +44,9 @@ static bool lock(struct image_file *file, struct reason *reason) {
 }
 
 static bool take_memory(struct image_file *file, struct reason *reason) {
-    file->kept = malloc(IMAGE_MOST);
-    file->now = malloc(IMAGE_MOST);
-    file->image = malloc(IMAGE_MOST);
+    file->kept = malloc(IMAGE_ROOM);
+    file->now = malloc(IMAGE_ROOM);
+    file->image = malloc(IMAGE_ROOM);
     return (file->kept && file->now && file->image) ||
            refuse(reason, file->path, NULL, told_words(TPMSIM_NO_MEMORY), 0);
 }
@@ -97,10 +96,10 @@ static bool write_image(struct image_file *file, size_t size, struct reason *rea
 }
 
 bool image_file_keep(struct image_file *file, tpmsim *device, bool always, struct reason *reason) {
-    size_t size = tpmsim_kept(device, file->now, IMAGE_MOST);
+    size_t size = tpmsim_kept(device, file->now, IMAGE_ROOM);
     bool is_same = size == file->kept_size && memcmp(file->now, file->kept, size) == 0;
     if (is_same && !always) return true;
-    if (!write_image(file, tpmsim_save(device, file->image, IMAGE_MOST), reason)) return false;
+    if (!write_image(file, tpmsim_save(device, file->image, IMAGE_ROOM), reason)) return false;
     uint8_t *before = file->kept;
     file->kept = file->now;
     file->kept_size = size;
@@ -108,15 +107,10 @@ bool image_file_keep(struct image_file *file, tpmsim *device, bool always, struc
     return true;
 }
 
-static void free_secret(uint8_t *bytes) {
-    if (bytes) explicit_bzero(bytes, IMAGE_MOST);
-    free(bytes);
-}
-
 void image_file_close(struct image_file *file) {
-    free_secret(file->kept);
-    free_secret(file->now);
-    free_secret(file->image);
+    secret_free(file->kept, IMAGE_ROOM);
+    secret_free(file->now, IMAGE_ROOM);
+    secret_free(file->image, IMAGE_ROOM);
     if (file->lock >= 0) close(file->lock);
     *file = (struct image_file){.lock = -1};
 }

@@ -49,12 +49,9 @@ static enum options_read wrong(const char *said) {
     return OPTIONS_WRONG;
 }
 
-/* Reads a decimal number, which consists only of digits. */
-static bool read_number(const char *text, unsigned long most, unsigned long *number) {
-    char *end;
-    if (*text < '0' || *text > '9' || strlen(text) > 9) return false;
-    *number = strtoul(text, &end, 10);
-    return !*end && *number <= most;
+/* Reads a decimal number of at most nine digits. */
+static bool read_number(const char *text, unsigned most, unsigned *number) {
+    return strlen(text) <= 9 && words_number(text, strlen(text), most, number);
 }
 
 static bool is_address(const char *text) {
@@ -62,23 +59,9 @@ static bool is_address(const char *text) {
     return inet_pton(AF_INET, text, room) == 1 || inet_pton(AF_INET6, text, room) == 1;
 }
 
-/* Returns the value of a hex digit in either case, or 16 for any other character. */
-static unsigned digit_of(char digit) {
-    static const char DIGITS[] = "0123456789abcdef0123456789ABCDEF";
-    const char *found = digit ? strchr(DIGITS, digit) : NULL;
-    return found ? (unsigned)(found - DIGITS) % 16 : 16;
-}
-
 static bool read_seed(struct options *options, const char *text) {
-    size_t size = strlen(text);
-    if (size == 0 || size % 2 || size / 2 > SEED_BYTES) return false;
-    for (size_t i = 0; i < size / 2; i++) {
-        unsigned high = digit_of(text[2 * i]), low = digit_of(text[2 * i + 1]);
-        if (high > 15 || low > 15) return false;
-        options->seed[i] = (uint8_t)(high << 4 | low);
-    }
-    options->seed_size = size / 2;
-    return true;
+    options->seed_size = words_hex(text, strlen(text), options->seed, SEED_BYTES);
+    return options->seed_size > 0;
 }
 
 static bool read_clock(struct options *options, const char *text) {
@@ -88,21 +71,15 @@ static bool read_clock(struct options *options, const char *text) {
 
 /* Reads the value of an option. */
 static bool read_value(struct options *options, enum word word, const char *text) {
-    unsigned long number = 0;
+    unsigned number = 0;
     bool is_good = true;
     switch (word) {
     case PORT:
         is_good = read_number(text, UINT16_MAX - 1, &number);
         options->port = (uint16_t)number;
         return is_good;
-    case DEVICES:
-        is_good = read_number(text, MOST_DEVICES, &number) && number > 0;
-        options->devices = (unsigned)number;
-        return is_good;
-    case KEEP:
-        is_good = read_number(text, PAST_MOST, &number);
-        options->keep = (unsigned)number;
-        return is_good;
+    case DEVICES: return read_number(text, MOST_DEVICES, &options->devices) && options->devices > 0;
+    case KEEP: return read_number(text, PAST_MOST, &options->keep);
     case BIND: options->address = text; return is_address(text);
     case STATE: options->folder = text; return *text != 0;
     case IMAGE: options->image = text; return *text != 0;

@@ -2,30 +2,20 @@
  * --cut, a damaged journal is first cut off at the damage, and a journal of another version, whose
  * commands this library answers otherwise, is first replaced with its head. With --keep N, the last
  * N journals stay in the folder. */
-#include "kept.h"
+#include "past.h"
+#include "words.h"
 #include <stdio.h>
-#include <stdlib.h>
 #include <string.h>
 
-enum { MOST_KEPT = 99 };
-
 static void tell(const char *sentence) { fprintf(stderr, "tpmsim-power: %s\n", sentence); }
-
-/* Reads the number of journals to keep: one or two digits. */
-static bool read_keep(const char *word, unsigned *keep) {
-    char *end;
-    if (*word < '0' || *word > '9') return false;
-    unsigned long number = strtoul(word, &end, 10);
-    *keep = (unsigned)number;
-    return *end == 0 && number <= MOST_KEPT;
-}
 
 /* Reads the arguments after the folder. */
 static bool read_words(struct kept_options *options, char **words) {
     for (; *words; words++) {
         if (strcmp(*words, "--cut") == 0)
             options->cuts = options->takes_head = true;
-        else if (strcmp(*words, "--keep") != 0 || !words[1] || !read_keep(*++words, &options->keep))
+        else if (strcmp(*words, "--keep") != 0 || !*++words ||
+                 !words_number(*words, strlen(*words), PAST_MOST, &options->keep))
             return false;
     }
     return true;

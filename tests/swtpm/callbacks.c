@@ -9,7 +9,7 @@
 
 enum { NO_LOCALITY = 99 };
 
-static int stores_fail, loads_fail;
+static int stores_fail, loads_fail, loads_are_empty;
 static uint32_t locality;
 
 void must(int condition, const char *reason) {
@@ -66,11 +66,19 @@ void tell_locality(const char *number) {
 
 void let_stores_fail(int fail) { stores_fail = fail; }
 
-void let_loads_fail(int fail) { loads_fail = fail; }
+void tell_loads(const char *state) {
+    loads_fail = strcmp(state, "fails") == 0;
+    loads_are_empty = strcmp(state, "empty") == 0;
+}
 
 static TPM_RESULT load(unsigned char **data, uint32_t *length, uint32_t number, const char *name) {
     size_t size;
     if (loads_fail || number != 0) return TPM_FAIL;
+    if (loads_are_empty) {
+        *data = NULL;
+        *length = 42;
+        return TPM_SUCCESS;
+    }
     *data = read_file(name, &size);
     if (*data == NULL) return TPM_RETRY;
     *length = (uint32_t)size;
@@ -137,4 +145,13 @@ void open_library(struct library *library, const char *path) {
     find(&library->was_manufactured, "TPMLIB_WasManufactured", tenth);
     library->set_debug_descriptor(STDOUT_FILENO);
     must(library->register_callbacks(&callbacks) == TPM_SUCCESS, "callbacks are not taken");
+}
+
+unsigned register_again(struct library *library, const char *which) {
+    struct libtpms_callbacks registered = callbacks;
+    if (strcmp(which, "none") == 0) return library->register_callbacks(NULL);
+    if (strcmp(which, "few") == 0) registered.tpm_nvram_storedata = NULL;
+    if (strcmp(which, "cut") == 0)
+        registered.sizeOfStruct = (int)offsetof(struct libtpms_callbacks, tpm_nvram_storedata) + 4;
+    return library->register_callbacks(&registered);
 }

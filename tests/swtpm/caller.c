@@ -5,7 +5,10 @@
  *   on, off                      TPMLIB_MainInit, TPMLIB_Terminate
  *   loc N                        the locality from now on; `loc none`: none is reported
  *   cmd HEX, head HEX            a command; the response, or its first ten bytes
- *   store works|fails, load ..   whether states can be written and read from now on
+ *   store works|fails, load ..   whether states can be written and read from now on; `load empty`: states are
+ *                                read, but without bytes
+ *   callbacks all|none|few|cut   registers the callbacks again; no structure; one without the callback that
+ *                                stores a state; one that ends within this callback
  *   disk works|fills|breaks      what happens to a record's texts from now on
  *   save FILE                    TPMLIB_VolatileAll_Store
  *   set|get TYPE FILE, unset TYPE, validate BITS
@@ -193,7 +196,8 @@ static int drive(char *words[WORDS]) {
     else if (strcmp(name, "cmd") == 0) command(words[1], SIZE_MAX);
     else if (strcmp(name, "head") == 0) command(words[1], 10);
     else if (strcmp(name, "store") == 0) let_stores_fail(strcmp(words[1], "fails") == 0);
-    else if (strcmp(name, "load") == 0) let_loads_fail(strcmp(words[1], "fails") == 0);
+    else if (strcmp(name, "load") == 0) tell_loads(words[1]);
+    else if (strcmp(name, "callbacks") == 0) tell("RegisterCallbacks", register_again(&library, words[1]));
     else if (strcmp(name, "disk") == 0) tell_disk(words[1]);
     else if (strcmp(name, "save") == 0) save(words[1]);
     else if (strcmp(name, "set") == 0) set_state(words[1], words[2]);

@@ -56,7 +56,10 @@ void open_library(struct library *library, const char *path);
 /* Sets how the callbacks behave from now on. */
 void tell_locality(const char *number);
 void let_stores_fail(int fail);
-void let_loads_fail(int fail);
+void tell_loads(const char *state);
+
+/* Registers callbacks again: all of them, or some that the library must refuse. */
+unsigned register_again(struct library *library, const char *which);
 
 /* Sets whether the disk for the record works, fills up while a text is written, or also fails to
  * truncate a file. */
