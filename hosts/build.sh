@@ -86,7 +86,8 @@ build_tcti() {
 }
 
 build_libtpms() {
-    compile_shared libtpms.so.0 libtpms/libtpms.map -D_GNU_SOURCE= -Ikept libtpms/*.c kept/secret.c ||
+    compile_shared libtpms.so.0 libtpms/libtpms.map -D_GNU_SOURCE= -Ikept -Isimulator libtpms/*.c \
+        simulator/record_file.c kept/host.c kept/reason.c kept/secret.c kept/transfer.c ||
         fail 'libtpms.so.0 is not compiled'
     if [ -z "${CFLAGS:-}" ]; then
         wanted_names >"$work/wanted"

@@ -11,13 +11,13 @@ bool host_now(uint64_t *now_ms) {
     return true;
 }
 
+/* The system fills a buffer of this size at once. If a signal prevents that, fills it again. */
 bool host_random(uint8_t *room, size_t size) {
-    while (size > 0) {
+    size_t filled = 0;
+    while (filled != size) {
         ssize_t got = getrandom(room, size, 0);
-        if (got < 0 && errno == EINTR) continue;
-        if (got <= 0) return false;
-        room += got;
-        size -= (size_t)got;
+        if (got == 0 || (got < 0 && errno != EINTR)) return false;
+        filled = got < 0 ? 0 : (size_t)got;
     }
     return true;
 }

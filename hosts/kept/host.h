@@ -9,7 +9,8 @@
  * or is before 1970. */
 bool host_now(uint64_t *now_ms);
 
-/* Fills a buffer with the system's random bytes. Returns false if the system provides none. */
+/* Fills a buffer of at most 256 bytes with the system's random bytes. Returns false if the system
+ * provides none. */
 bool host_random(uint8_t *room, size_t size);
 
 #endif

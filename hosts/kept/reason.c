@@ -5,9 +5,9 @@
 #include <string.h>
 
 /* Replaces the control characters of a text, which would break its line. */
-static void keep_in_one_line(char *text) {
-    for (; *text; text++)
-        if ((unsigned char)*text < ' ' || *text == 127) *text = '?';
+static void keep_in_one_line(char text[REASON_ROOM]) {
+    for (size_t i = 0; i < REASON_ROOM && text[i]; i++)
+        if ((unsigned char)text[i] < ' ' || text[i] == 127) text[i] = '?';
 }
 
 bool refuse(struct reason *reason, const char *about, const char *name, const char *said,

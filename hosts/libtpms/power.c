@@ -45,7 +45,7 @@ static bool open_permanent(bool *is_to_be_stored) {
     enum kept kept = find_state(TPMLIB_STATE_PERMANENT, &state);
     bool is_open = (kept == KEPT && open_permanent_state(the_device(), &state)) ||
                    (kept == NOT_KEPT && manufacture());
-    *is_to_be_stored = kept == NOT_KEPT || state.is_set;
+    *is_to_be_stored = kept == NOT_KEPT || is_set(TPMLIB_STATE_PERMANENT);
     free_state(&state);
     if (is_open) take_as_permanent(the_device());
     return is_open;

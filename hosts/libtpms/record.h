@@ -12,9 +12,9 @@
  * text to it. */
 bool begin_record(const uint8_t *text, size_t size);
 
-/* Appends a whole text. If this fails, reports the reason, and removes the incomplete text. If
- * that fails too, the next call removes it. If the removal fails again, that call fails. If there
- * is no record, nothing is written. */
+/* Appends a whole text. If this fails, reports the reason, and removes the incomplete text. If that
+ * fails too, the next call overwrites it, so the caller passes the same text again. If there is no
+ * record, nothing is written. */
 bool write_record(const uint8_t *text, size_t size);
 
 /* Whether there is a record. */

@@ -5,9 +5,7 @@
 #include <libtpms/tpm_error.h>
 #include <libtpms/tpm_library.h>
 #include <stdarg.h>
-#include <stddef.h>
 #include <stdio.h>
-#include <string.h>
 #include <tpmsim.h>
 #include <unistd.h>
 
@@ -17,28 +15,15 @@ enum { LINE_BYTES = 512, PREFIX_BYTES = 64 };
 static int log_descriptor = -1;
 static char log_prefix[PREFIX_BYTES];
 
-static void write_all(int descriptor, const char *text, size_t size) {
-    while (size > 0) {
-        ssize_t written = write(descriptor, text, size);
-        if (written < 0 && errno == EINTR) continue;
-        if (written <= 0) return;
-        text += written;
-        size -= (size_t)written;
-    }
-}
-
 void report(const char *format, ...) {
     char line[LINE_BYTES];
-    int begun = snprintf(line, sizeof line, "%stpmsim: ", log_prefix);
+    int before = errno, log = log_descriptor < 0 ? STDERR_FILENO : log_descriptor;
     va_list words;
     va_start(words, format);
-    int rest = begun < 0 ? -1 : vsnprintf(line + begun, sizeof line - (size_t)begun, format, words);
+    int size = vsnprintf(line, sizeof line, format, words);
     va_end(words);
-    if (rest < 0) return;
-    size_t size = strlen(line);
-    line[size] = '\n';
-    int before = errno;
-    write_all(log_descriptor < 0 ? STDERR_FILENO : log_descriptor, line, size + 1);
+    if (size >= 0)
+        while (dprintf(log, "%stpmsim: %s\n", log_prefix, line) < 0 && errno == EINTR) continue;
     errno = before;
 }
 

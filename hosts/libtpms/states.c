@@ -37,6 +37,11 @@ void forget_states(void) {
     for (size_t i = 0; i < TYPES; i++) free_state(&set[i]);
 }
 
+bool is_set(enum TPMLIB_StateType type) {
+    size_t place = place_of(type);
+    return place < TYPES && set[place].bytes != NULL;
+}
+
 static bool copy(const uint8_t *bytes, size_t size, uint8_t **made) {
     *made = malloc(size + 1);
     if (*made == NULL) {
@@ -51,8 +56,7 @@ enum kept find_state(enum TPMLIB_StateType type, struct state *state) {
     size_t place = place_of(type);
     *state = (struct state){0};
     if (place == TYPES) return NOT_KEPT;
-    if (!set[place].is_set) return load_state(names[place], &state->bytes, &state->size);
-    state->is_set = true;
+    if (!is_set(type)) return load_state(names[place], &state->bytes, &state->size);
     state->size = set[place].size;
     return copy(set[place].bytes, set[place].size, &state->bytes) ? KEPT : NOT_READ;
 }
@@ -85,7 +89,7 @@ TPM_RESULT TPMLIB_SetState(enum TPMLIB_StateType st, const unsigned char *buffer
     }
     free_state(&set[place]);
     if (buffer == NULL) return TPM_SUCCESS;
-    struct state state = {.size = buflen, .is_set = true};
+    struct state state = {.size = buflen};
     if (!copy(buffer, buflen, &state.bytes)) return TPM_SIZE;
     TPM_RESULT result = look_at(st, &state);
     if (result == TPM_SUCCESS) {

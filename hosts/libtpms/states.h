@@ -10,12 +10,14 @@
 #include <stddef.h>
 #include <stdint.h>
 
+/* The bytes of a state; NULL if there is none. */
 struct state {
     uint8_t *bytes;
     size_t size;
-    /* Whether the state was set by TPMLIB_SetState. */
-    bool is_set;
 };
+
+/* Whether the state of this type was set by TPMLIB_SetState. */
+bool is_set(enum TPMLIB_StateType type);
 
 /* Returns the state of this type that was set, or else the stored one. The caller has to free the
    bytes. A missing state counts as not stored. */

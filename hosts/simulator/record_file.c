@@ -48,11 +48,12 @@ bool record_file_begin(struct record_file *record, const uint8_t *head, size_t s
 bool record_file_add(struct record_file *record, const uint8_t *text, size_t size,
                      struct reason *reason) {
     if (record->file < 0) return true;
-    if (!transfer_write(record->file, text, size, (off_t)record->size)) {
-        refuse(reason, record->folder, NULL, "has a record that cannot be written", errno);
-        if (ftruncate(record->file, (off_t)record->size) != 0) record_file_end(record);
-        return false;
+    if (transfer_write(record->file, text, size, (off_t)record->size)) {
+        record->size += size;
+        return true;
     }
-    record->size += size;
-    return true;
+    int error = errno;
+    if (ftruncate(record->file, (off_t)record->size) != 0)
+        return refuse(reason, "the record", NULL, "ends with part of a command", errno);
+    return refuse(reason, "the record", NULL, "is not written", error);
 }

@@ -1,5 +1,5 @@
-/* The journals of a device in memory: a file for each power-on, FOLDER/boot-N.tpm, with the first
-   unused N. The files contain secrets. Only their owner can read them. */
+/* The journals of a device that is not kept in a folder: a file for each power-on, FOLDER/boot-N.tpm,
+   with the first unused N. The files contain secrets. Only their owner can read them. */
 #ifndef RECORD_FILE_H
 #define RECORD_FILE_H
 #include "reason.h"
@@ -21,8 +21,8 @@ struct record_file record_file_of(const char *folder);
 bool record_file_begin(struct record_file *record, const uint8_t *head, size_t size,
                        struct reason *reason);
 
-/* Appends a whole text, or removes it if it was written incompletely. On failure, returns false
- * and sets `reason`. */
+/* Appends a whole text, or removes it if it was written incompletely. If the removal fails, the next
+ * text overwrites it. On failure, returns false and sets `reason`. */
 bool record_file_add(struct record_file *record, const uint8_t *text, size_t size,
                      struct reason *reason);
 

@@ -25,7 +25,7 @@ static bool is_session(uint32_t handle) {
 
 static void forget(struct loaded *loaded, uint32_t handle) {
     size_t left = 0;
-    for (size_t i = 0; i < loaded->count; i++)
+    for (size_t i = 0; i < LOADED_MOST && i < loaded->count; i++)
         if (loaded->handles[i] != handle) loaded->handles[left++] = loaded->handles[i];
     loaded->count = left;
 }

@@ -91,7 +91,6 @@ static void finalize(TSS2_TCTI_CONTEXT *handed) {
     if (!context) return;
     if (context->flushes) flush(context);
     kept_close(context->kept);
-    context->kept = NULL;
     TSS2_TCTI_MAGIC(handed) = 0;
 }
 

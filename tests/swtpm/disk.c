@@ -14,10 +14,10 @@ void tell_disk(const char *state) {
     is_full = is_broken || strcmp(state, "fills") == 0;
 }
 
-/* If the disk is full, a write stores all bytes except the last. The log is not on that disk. */
-ssize_t write(int descriptor, const void *bytes, size_t size) {
-    size_t taken = is_full && descriptor > STDERR_FILENO ? size - (size > 0) : size;
-    if (taken > 0 || size == 0) return syscall(SYS_write, descriptor, bytes, taken);
+/* If the disk is full, a write stores all bytes except the last. */
+ssize_t pwrite(int descriptor, const void *bytes, size_t size, off_t at) {
+    size_t taken = is_full ? size - (size > 0) : size;
+    if (taken > 0 || size == 0) return syscall(SYS_pwrite64, descriptor, bytes, taken, at);
     errno = ENOSPC;
     return -1;
 }
