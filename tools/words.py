@@ -90,12 +90,15 @@ def lines_of(text: str) -> Iterator[tuple[int, str]]:
 
 
 def comments_of(text: str) -> Iterator[tuple[int, str]]:
-    """Yields the lines of comments in C, C++, Go, JavaScript or Rust, with their numbers."""
+    """Yields the lines of comments in C, C++, Go, JavaScript or Rust, with their numbers. Contracts
+    in ACSL, which begin with /*@, are code."""
     bare = STRING.sub(lambda it: " " * len(it[0]), text)
     number, seen = 1, 0
     for comment in COMMENT.finditer(bare):
         number += bare.count("\n", seen, comment.start())
         seen = comment.start()
+        if comment[0].startswith("/*@"):
+            continue
         for offset, line in enumerate(comment[0].splitlines()):
             yield number + offset, CODE.sub("``", TYPE.sub("``", line))
 

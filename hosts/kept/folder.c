@@ -134,6 +134,12 @@ int folder_make_file(const struct folder *folder, const char *name, struct reaso
 
 /* Opens the lock file, and makes it if it is missing. It is not a fault if another process makes
  * the file after this one found that it was missing. */
+/*@ requires is_folder(folder) && \valid(reason) && lock_holder == -1;
+  @ requires \separated(folder, folder->mark.page, reason, &lock_holder, &__fc_errno);
+  @ assigns folder->lock, folder->lock_status, *folder->mark.page, *reason, lock_holder, __fc_errno;
+  @ ensures is_folder(folder) && lock_holder == -1;
+  @ ensures \result ==> folder->lock >= 0;
+  @*/
 static bool open_lock(struct folder *folder, struct reason *reason) {
     if (folder_look(folder, LOCK_NAME, &folder->lock_status, reason) == 0) {
         int made = folder_make_file(folder, LOCK_NAME, reason);
@@ -147,10 +153,22 @@ static bool open_lock(struct folder *folder, struct reason *reason) {
     return true;
 }
 
+/*@ requires is_folder(folder) && (lock_holder == -1 || lock_holder == folder->lock);
+  @ requires \separated(folder, &lock_holder, &__fc_errno);
+  @ assigns folder->lock, lock_holder, __fc_errno;
+  @ ensures folder->lock == -1 && lock_holder == -1 && __fc_errno == \old(__fc_errno);
+  @*/
 static void close_lock(struct folder *folder) { folder->lock = close_file(folder->lock); }
 
 /* Waits until no other open file holds the lock, and acquires it. */
+/*@ requires lock >= 0 && lock_holder == -1;
+  @ assigns lock_holder, __fc_errno;
+  @ ensures lock_holder == (\result ? lock : -1);
+  @*/
 static bool wait_for(int lock) {
+    /*@ loop invariant lock_holder == -1;
+      @ loop assigns lock_holder, __fc_errno;
+      @*/
     while (flock(lock, LOCK_EX) != 0)
         if (errno != EINTR) return false;
     return true;
@@ -159,6 +177,11 @@ static bool wait_for(int lock) {
 bool folder_lock(struct folder *folder, struct reason *reason) {
     enum { TRIES = 100 };
     if (!fork_mark_is_here(&folder->mark)) close_lock(folder);
+    /*@ loop invariant 0 <= i <= TRIES && is_folder(folder) && lock_holder == -1;
+      @ loop assigns i, folder->lock, folder->lock_status, *folder->mark.page, *reason, lock_holder,
+      @     __fc_errno;
+      @ loop variant TRIES - i;
+      @*/
     for (int i = 0; i < TRIES; i++) {
         struct stat status;
         if (folder->lock < 0 && !open_lock(folder, reason)) return false;

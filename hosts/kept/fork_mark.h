@@ -21,8 +21,10 @@ void fork_mark_begin(struct fork_mark *mark);
 void fork_mark_end(struct fork_mark *mark);
 
 /* Sets the mark in this process. */
+/*@ assigns *mark->page; */
 void fork_mark_set(struct fork_mark *mark);
 
+/*@ assigns \nothing; */
 /* Whether this process itself set the mark. Returns false if only a parent process did. */
 bool fork_mark_is_here(const struct fork_mark *mark);
 

@@ -14,6 +14,9 @@ bool host_now(uint64_t *now_ms) {
 /* The system fills a buffer of this size at once. If a signal prevents that, fills it again. */
 bool host_random(uint8_t *room, size_t size) {
     size_t filled = 0;
+    /*@ loop invariant filled <= size && (filled == size ==> random_from_system(room, size));
+      @ loop assigns filled, __fc_errno, room[0 .. size - 1];
+      @*/
     while (filled != size) {
         ssize_t got = getrandom(room, size, 0);
         if (got == 0 || (got < 0 && errno != EINTR)) return false;

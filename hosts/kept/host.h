@@ -11,6 +11,10 @@ bool host_now(uint64_t *now_ms);
 
 /* Fills a buffer of at most 256 bytes with the system's random bytes. Returns false if the system
  * provides none. */
+/*@ requires \valid(room + (0 .. size - 1)) && size <= 256;
+  @ assigns __fc_errno, room[0 .. size - 1];
+  @ ensures \result ==> random_from_system(room, size);
+  @*/
 bool host_random(uint8_t *room, size_t size);
 
 #endif

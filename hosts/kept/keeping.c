@@ -22,12 +22,20 @@ const char *keeping_name(const struct keeping *keeping) {
     return keeping->folder.path ? keeping->folder.path : "the device in memory";
 }
 
+/*@ requires \valid(reason);
+  @ assigns *reason;
+  @ ensures !\result;
+  @*/
 static bool refuse_file(const struct keeping *keeping, const char *name, const char *said,
                         struct reason *reason) {
     return refuse(reason, keeping->folder.path, name, said, errno);
 }
 
 /* Makes the buffer at least this large. If the buffer grows, its contents are lost. */
+/*@ requires is_keeping(keeping) && \valid(reason);
+  @ assigns keeping->buffer, keeping->buffer_size, *reason;
+  @ ensures is_keeping(keeping) && (\result ==> keeping->buffer_size >= size);
+  @*/
 static bool reserve(struct keeping *keeping, size_t size, struct reason *reason) {
     if (keeping->buffer_size >= size) return true;
     uint8_t *buffer = malloc(size);
@@ -39,6 +47,7 @@ static bool reserve(struct keeping *keeping, size_t size, struct reason *reason)
 }
 
 /* If a task cuts something from the journal, describes that in a sentence. */
+/*@ assigns keeping->notice; */
 static void note_cut(struct keeping *keeping, const tpmsim_ask *ask) {
     char said[128], place[32] = "last whole record";
     if (keeping->size <= ask->cut) return;
@@ -70,6 +79,13 @@ static uint8_t look(struct keeping *keeping, struct reason *reason) {
 }
 
 /* Reads the journal from an offset to its end. */
+/*@ requires is_keeping(keeping) && \valid(reason) && is_apart(reason, keeping);
+  @ requires at <= keeping->size && keeping->size <= DISK_MOST;
+  @ ensures is_keeping(keeping);
+  @ ensures \result ==> keeping->read == keeping->size - at;
+  @ ensures \result ==> \forall integer i; at <= i < keeping->size ==>
+  @     keeping->buffer[i - at] == on_disk[i];
+  @*/
 static bool read_from(struct keeping *keeping, uint64_t at, struct reason *reason) {
     size_t size = (size_t)(keeping->size - at);
     if (!reserve(keeping, size, reason)) return false;
@@ -81,12 +97,21 @@ static bool read_from(struct keeping *keeping, uint64_t at, struct reason *reaso
 }
 
 /* Truncates the journal to this size. */
+/*@ assigns __fc_errno; */
 static bool cut(const struct keeping *keeping, uint64_t size) {
     while (ftruncate(keeping->journal, (off_t)size) != 0)
         if (errno != EINTR) return false;
     return true;
 }
 
+/*@ requires is_keeping(keeping) && \valid(reason) && is_apart(reason, keeping);
+  @ requires ask->at + ask->size <= DISK_MOST && ask->size <= keeping->buffer_size &&
+  @     \valid_read(ask);
+  @ requires \separated(ask, keeping, reason, on_disk + (0 .. DISK_MOST - 1), &__fc_errno);
+  @ assigns keeping->notice, *reason, __fc_errno, on_disk[ask->at .. ask->at + ask->size - 1];
+  @ ensures \result ==> \forall integer i; ask->at <= i < ask->at + ask->size ==>
+  @     on_disk[i] == keeping->buffer[i - ask->at];
+  @*/
 static bool put(struct keeping *keeping, const tpmsim_ask *ask, struct reason *reason) {
     if (keeping->size > ask->cut && !cut(keeping, ask->cut))
         return refuse_file(keeping, JOURNAL_NAME, "cannot be cut to whole records", reason);
@@ -159,6 +184,11 @@ static uint8_t do_in_memory(struct keeping *keeping, const tpmsim_ask *ask) {
 }
 
 /* Fills the buffer with the keeper's text, performs the task, and returns a value of tpmsim_got. */
+/*@ requires is_keeping(keeping) && \valid_read(ask) && \valid(reason) && asked_task == ask->task;
+  @ assigns *keeping, *reason, on_heap[0 .. HEAP_MOST - 1], on_disk[0 .. DISK_MOST - 1],
+  @     lock_holder, __fc_errno, done_task, task_result;
+  @ ensures is_keeping(keeping) && done_task == asked_task && task_result == \result;
+  @*/
 static uint8_t do_task(struct keeping *keeping, const tpmsim_ask *ask, struct reason *reason) {
     bool is_done = true;
     if (!keeping->folder.path) return do_in_memory(keeping, ask);
@@ -219,6 +249,10 @@ static bool refuse_damage(struct keeping *keeping, struct reason *reason) {
     return refuse_told(reason, keeping->folder.path, JOURNAL_NAME, told);
 }
 
+/*@ requires is_keeping(keeping) && \valid(reason);
+  @ assigns *keeping, *reason, on_heap[0 .. HEAP_MOST - 1], __fc_errno;
+  @ ensures !\result;
+  @*/
 /* Unless a task has already set the reason, sets it to the keeper's text for the fault. */
 static bool refuse_fault(struct keeping *keeping, uint8_t fault, int error, struct reason *reason) {
     char said[128] = "";
@@ -237,6 +271,11 @@ bool keeping_run(struct keeping *keeping, uint8_t told, struct reason *reason) {
     int error = 0;
     *keeping->notice.text = *reason->text = 0;
     if (told != TPMSIM_DONE) return refuse_told(reason, keeping_name(keeping), NULL, told);
+    /*@ loop invariant is_keeping(keeping) && asked_task == NO_TASK;
+      @ loop assigns error, *keeping, *reason, on_heap[0 .. HEAP_MOST - 1],
+      @     on_disk[0 .. DISK_MOST - 1],
+      @     lock_holder, __fc_errno, asked_task, done_task, task_result, call_fault;
+      @*/
     for (;;) {
         tpmsim_ask ask;
         tpmsim_keeper_ask(&keeping->keeper, &ask);

@@ -32,15 +32,33 @@ struct keeping {
     struct reason notice;
 };
 
+/* is_keeping: the buffer is on the heap, and has at least as many bytes as were read. is_apart: a
+   reason is not part of the state. */
+/*@ predicate is_keeping(struct keeping *keeping) = \valid(keeping) &&
+  @     is_block(keeping->buffer, keeping->buffer_size) &&
+  @     keeping->read <= keeping->buffer_size && is_folder(&keeping->folder) &&
+  @     \separated(keeping, on_heap + (0 .. HEAP_MOST - 1), on_disk + (0 .. DISK_MOST - 1),
+  @                &lock_holder, &__fc_errno, &asked_task, &done_task, &task_result, &call_fault);
+  @ predicate is_apart(struct reason *reason, struct keeping *keeping) = \valid(reason) &&
+  @     \separated(reason, keeping, on_heap + (0 .. HEAP_MOST - 1),
+  @                on_disk + (0 .. DISK_MOST - 1), &lock_holder, &__fc_errno, &asked_task, &done_task, &task_result, &call_fault);
+  @*/
+
 /* Makes a keeper, and opens the folder if the options name one. */
 bool keeping_open(struct keeping *keeping, const struct kept_options *options,
                   struct reason *reason);
 
 /* Returns the subject for a sentence: the folder, or "the device in memory". */
+/*@ assigns \nothing; */
 const char *keeping_name(const struct keeping *keeping);
 
 /* Performs the tasks of the call that the keeper has begun. `told` is the value of tpmsim_told that
  * the beginning of the call returned. If it is not TPMSIM_DONE, no task is performed. */
+/*@ requires is_keeping(keeping) && is_apart(reason, keeping) && asked_task == NO_TASK;
+  @ ensures \result ==> told == TPMSIM_DONE;
+  @ ensures \result ==> asked_task == TPMSIM_TASK_NOTHING && call_fault == TPMSIM_FAULT_NONE;
+  @ ensures told != TPMSIM_DONE ==> asked_task == NO_TASK && done_task == \old(done_task);
+  @*/
 bool keeping_run(struct keeping *keeping, uint8_t told, struct reason *reason);
 
 /* If this library answers a command of the journal otherwise than the version that wrote it,

@@ -55,6 +55,11 @@ struct kept *kept_open(const struct kept_options *options, struct reason *reason
 
 /* Like tpmsim_execute, executes a command and writes its response. If this fails, there is no
  * response, and the next call executes the commands in the journal again. */
+/*@ requires \valid_read(buffer + (0 .. size - 1)) && \valid(response + (0 .. 4095));
+  @ requires \valid(answered) && \valid(reason);
+  @ assigns device_state, response[0 .. 4095], *answered, *reason;
+  @ ensures \result ==> 10 <= answered->size <= 4096;
+  @*/
 bool kept_execute(struct kept *kept, const uint8_t *buffer, size_t size, uint8_t locality,
                   uint8_t response[4096], tpmsim_answered *answered, struct reason *reason);
 

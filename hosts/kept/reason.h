@@ -17,6 +17,10 @@ struct reason {
  * by `/name` if `name` is not NULL. Then it has `said` and, if `error` is not 0, the system's
  * message for `error`. Control characters become question marks. Returns false, so that a
  * failing function can return the result. Preserves errno. */
+/*@ requires \valid(reason);
+  @ assigns *reason;
+  @ ensures !\result;
+  @*/
 bool refuse(struct reason *reason, const char *about, const char *name, const char *said,
             int error);
 

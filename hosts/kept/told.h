@@ -10,6 +10,10 @@ const char *told_words(uint8_t told);
 
 /* Sets the reason to the words for a return code of the library. Returns false, as `refuse`
  * does. */
+/*@ requires \valid(reason);
+  @ assigns *reason;
+  @ ensures !\result;
+  @*/
 bool refuse_told(struct reason *reason, const char *about, const char *name, uint8_t told);
 
 #endif

@@ -12,9 +12,15 @@ static const char *const NAMES[WORDS] = {"state=", "complete",  "device", "rm", 
 
 bool words_number(const char *text, size_t size, unsigned most, unsigned *number) {
     unsigned long read = 0;
+    /*@ loop invariant i <= size && all_decimal(text, i) && read <= most;
+      @ loop invariant read == decimal(text, i);
+      @ loop assigns i, read;
+      @ loop variant size - i;
+      @*/
     for (size_t i = 0; i < size; i++) {
         if (text[i] < '0' || text[i] > '9') return false;
         read = 10 * read + (unsigned long)(text[i] - '0');
+        /*@ assert read == decimal(text, i + 1); */
         if (read > most) return false;
     }
     *number = (unsigned)read;
@@ -22,6 +28,9 @@ bool words_number(const char *text, size_t size, unsigned most, unsigned *number
 }
 
 /* Returns the value of a hex digit in either case, or 16 for any other character. */
+/*@ assigns \nothing;
+  @ ensures \result == hex(digit);
+  @*/
 static unsigned digit_of(char digit) {
     if (digit >= '0' && digit <= '9') return (unsigned)(digit - '0');
     if (digit >= 'a' && digit <= 'f') return (unsigned)(digit - 'a' + 10);
@@ -31,6 +40,13 @@ static unsigned digit_of(char digit) {
 
 size_t words_hex(const char *text, size_t size, uint8_t *bytes, size_t most) {
     if (size % 2 || size / 2 > most) return 0;
+    /*@ loop invariant i <= size / 2;
+      @ loop invariant \forall integer j; 0 <= j < 2 * i ==> hex(text[j]) < 16;
+      @ loop invariant \forall integer j; 0 <= j < i ==>
+      @     bytes[j] == 16 * hex(text[2 * j]) + hex(text[2 * j + 1]);
+      @ loop assigns i, bytes[0 .. most - 1];
+      @ loop variant size / 2 - i;
+      @*/
     for (size_t i = 0; i < size / 2; i++) {
         unsigned high = digit_of(text[2 * i]), low = digit_of(text[2 * i + 1]);
         if (high > 15 || low > 15) return 0;
@@ -114,7 +130,17 @@ static bool has_one_layer(const bool seen[WORDS], struct reason *reason) {
 }
 
 /* Returns the offset after the word that starts at an offset: the next comma, or the end. */
+/*@ requires \valid_read(text + (0 .. size)) && at <= size;
+  @ assigns \nothing;
+  @ ensures at <= \result <= size && (\result == size || text[\result] == ',');
+  @ ensures \forall integer i; at <= i < \result ==> text[i] != ',';
+  @*/
 static size_t word_end(const char *text, size_t size, size_t at) {
+    /*@ loop invariant \at(at, Pre) <= at <= size;
+      @ loop invariant \forall integer i; \at(at, Pre) <= i < at ==> text[i] != ',';
+      @ loop assigns at;
+      @ loop variant size - at;
+      @*/
     while (at < size && text[at] != ',') at++;
     return at;
 }

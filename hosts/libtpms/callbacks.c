@@ -44,11 +44,14 @@ bool begin_callbacks(void) {
     return true;
 }
 
+/*@ requires callbacks.tpm_nvram_loaddata == \null || callbacks.tpm_nvram_loaddata == &swtpm_load; */
 enum kept load_state(const char *name, uint8_t **bytes, size_t *size) {
     unsigned char *data = NULL;
     uint32_t length = 0;
+    TPM_RESULT result;
     if (callbacks.tpm_nvram_loaddata == NULL) return NOT_KEPT;
-    TPM_RESULT result = callbacks.tpm_nvram_loaddata(&data, &length, 0, name);
+    /*@ calls swtpm_load; */
+    result = callbacks.tpm_nvram_loaddata(&data, &length, 0, name);
     if (result == TPM_RETRY) return NOT_KEPT;
     if (result != TPM_SUCCESS) {
         report("the state %s is not read (result %u)", name, (unsigned)result);
@@ -63,8 +66,11 @@ enum kept load_state(const char *name, uint8_t **bytes, size_t *size) {
     return KEPT;
 }
 
+/*@ requires callbacks.tpm_nvram_storedata == &swtpm_store; */
 bool store_state(const char *name, const uint8_t *bytes, size_t size) {
-    TPM_RESULT result = callbacks.tpm_nvram_storedata(bytes, (uint32_t)size, 0, name);
+    TPM_RESULT result;
+    /*@ calls swtpm_store; */
+    result = callbacks.tpm_nvram_storedata(bytes, (uint32_t)size, 0, name);
     if (result != TPM_SUCCESS)
         report("the state %s is not written (result %u)", name, (unsigned)result);
     return result == TPM_SUCCESS;

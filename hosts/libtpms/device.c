@@ -81,6 +81,15 @@ bool resume_device(uint64_t time) {
 
 bool last_was_written(void) { return !is_behind; }
 
+/*@ requires record_size <= TPMSIM_RECORD_ROOM;
+  @ assigns is_behind, record_size, written_text, written_size, permanent_state, swtpm_called,
+  @     stored_bytes,
+  @     stored_size, __fc_errno;
+  @ ensures \result <==> !is_behind;
+  @ ensures \result ==> written_text == &record[0] && written_size == \old(record_size) &&
+  @     record_size == 0;
+  @ ensures record_size == 0 || record_size == \old(record_size);
+  @*/
 bool write_last(void) {
     is_behind = true;
     if (!write_record(record, record_size)) return false;
@@ -91,6 +100,16 @@ bool write_last(void) {
 
 /* Executes a command, with the completing layer if it is on. If recording was requested, also makes
    the command's record. */
+/*@ requires \valid_read(buffer + (0 .. size - 1)) && \valid_read(random + (0 .. 255));
+  @ requires \valid(response + (0 .. 4095)) && \valid(answered) &&
+  @     record_size <= TPMSIM_RECORD_ROOM;
+  @ requires \separated(response + (0 .. 4095), answered, &record_size,
+  @     record + (0 .. TPMSIM_RECORD_ROOM - 1));
+  @ assigns device, device_state, response[0 .. 4095], *answered, record_size,
+  @     record[0 .. TPMSIM_RECORD_ROOM - 1];
+  @ ensures record_size <= TPMSIM_RECORD_ROOM;
+  @ ensures \result == TPMSIM_DONE ==> 10 <= answered->size <= 4096 && answered->drawn <= 256;
+  @*/
 static uint8_t run(const uint8_t *buffer, size_t size, uint8_t locality, uint32_t elapsed,
                    const uint8_t *random, uint8_t *response, tpmsim_answered *answered) {
     if (is_recorded())
@@ -101,6 +120,14 @@ static uint8_t run(const uint8_t *buffer, size_t size, uint8_t locality, uint32_
     return tpmsim_execute(&device, buffer, size, locality, elapsed, random, response, answered);
 }
 
+/*@ requires \valid_read(buffer + (0 .. size - 1)) && \valid(response) && record_size <= TPMSIM_RECORD_ROOM;
+  @ requires \separated(response, on_heap + (0 .. HEAP_MOST - 1),
+  @     record + (0 .. TPMSIM_RECORD_ROOM - 1),
+  @     &record_size, &is_behind, &latest, &stored_size, &stored_bytes, &written_size,
+  @     &written_text, &__fc_errno);
+  @ ensures record_size <= TPMSIM_RECORD_ROOM;
+  @ ensures \result ==> !is_behind && record_size == 0 && 10 <= response->size <= 4096;
+  @*/
 bool execute(const uint8_t *buffer, size_t size, uint8_t locality, struct response *response) {
     const uint8_t *random = random_bytes();
     if (random == NULL || (is_behind && !write_last())) return false;

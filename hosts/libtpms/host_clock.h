@@ -11,6 +11,7 @@ uint64_t time_of_day(void);
 void begin_host_clock(uint64_t begun);
 
 /* Returns the start time plus the elapsed time, which includes time during which the host slept. */
+/*@ assigns \nothing; */
 uint64_t host_clock(void);
 
 #endif

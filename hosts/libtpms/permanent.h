@@ -27,6 +27,9 @@ bool store_permanent(tpmsim *device);
 
 /* Makes swtpm store the image of a device if anything in it except the clock differs from the
  * stored image. */
+/*@ requires \valid(device);
+  @ assigns permanent_state, swtpm_called, stored_bytes, stored_size;
+  @*/
 bool keep_permanent(tpmsim *device);
 
 /* Clears the remembered state, which contains secrets. */

@@ -9,9 +9,13 @@
 enum { RANDOM_BYTES = 256 };
 
 /* Returns RANDOM_BYTES bytes that no command has drawn yet; NULL if the system provides none. */
+/*@ assigns random_state;
+  @ ensures \result == \null || (\valid_read(\result + (0 .. 255)) && is_block(\result, 256));
+  @*/
 const uint8_t *random_bytes(void);
 
 /* Notes that the first `count` of the returned bytes were drawn. */
+/*@ assigns random_state; */
 void random_bytes_were_drawn(size_t count);
 
 /* Clears all random bytes. */

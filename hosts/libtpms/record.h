@@ -15,9 +15,14 @@ bool begin_record(const uint8_t *text, size_t size);
 /* Appends a whole text. If this fails, reports the reason, and removes the incomplete text. If that
  * fails too, the next call overwrites it, so the caller passes the same text again. If there is no
  * record, nothing is written. */
+/*@ requires \valid_read(text + (0 .. size - 1));
+  @ assigns written_text, written_size, __fc_errno;
+  @ ensures \result ==> written_text == text && written_size == size;
+  @*/
 bool write_record(const uint8_t *text, size_t size);
 
 /* Whether there is a record. */
+/*@ assigns \nothing; */
 bool is_recorded(void);
 
 void end_record(void);

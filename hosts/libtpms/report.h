@@ -5,9 +5,11 @@
 #include <stdint.h>
 
 /* Writes a line, formatted like printf. The format has no newline at its end. */
+/*@ assigns \nothing; */
 void report(const char *format, ...) __attribute__((format(printf, 1, 2)));
 
 /* Describes what is wrong with a state, for a return code of the library (tpmsim_told). */
+/*@ assigns \nothing; */
 const char *words_of_told(uint8_t told);
 
 #endif

@@ -27,6 +27,13 @@ struct client {
     struct traffic *traffic;
 };
 
+/*@ predicate has_traffic(struct client *client) = \valid(client) && \valid(client->traffic) &&
+  @     client->traffic->came <= REQUEST_MOST &&
+  @     client->traffic->sent <= client->traffic->answer.size &&
+  @     client->traffic->answer.size <= ANSWER_MOST && \separated(client, client->traffic,
+  @     &__fc_errno);
+  @*/
+
 struct client *client_of(int socket, struct board *board, bool is_of_platform) {
     struct client *client = malloc(sizeof *client);
     int on = 1;
@@ -42,11 +49,13 @@ bool client_writes(const struct client *client) {
     return client->traffic && client->traffic->sent < client->traffic->answer.size;
 }
 
+/*@ assigns \nothing; */
 static bool is_later(int error) { return error == EAGAIN || error == EWOULDBLOCK; }
 
 /* Acknowledges received bytes at once. Clients send a request in pieces. Before each piece, their
  * hosts wait for the acknowledgement of the previous piece. Without this call, the acknowledgement
  * is delayed by 40 ms. */
+/*@ assigns \nothing; */
 static void acknowledge(const struct client *client) {
     int on = 1;
     setsockopt(client->socket, IPPROTO_TCP, TCP_QUICKACK, &on, sizeof on);
@@ -54,8 +63,19 @@ static void acknowledge(const struct client *client) {
 
 /* Writes the rest of the answer. GOES_ON means that the answer is sent, or that the rest can be
  * sent later. */
+/*@ requires has_traffic(client);
+  @ assigns client->traffic->sent, __fc_errno;
+  @ ensures has_traffic(client);
+  @ ensures client->traffic->sent == client->traffic->answer.size ==> \result == client->next ||
+  @     \result == ENDS;
+  @ ensures client->traffic->sent < client->traffic->answer.size ==> \result == GOES_ON ||
+  @     \result == ENDS;
+  @*/
 static enum outcome write_answer(struct client *client) {
     struct traffic *traffic = client->traffic;
+    /*@ loop invariant has_traffic(client);
+      @ loop assigns client->traffic->sent, __fc_errno;
+      @*/
     while (traffic->sent < traffic->answer.size) {
         ssize_t moved = send(client->socket, traffic->answer.bytes + traffic->sent,
                              traffic->answer.size - traffic->sent, MSG_NOSIGNAL);
@@ -68,6 +88,19 @@ static enum outcome write_answer(struct client *client) {
 
 /* Executes the first of the received requests, if it is complete, and starts to write its
  * answer. */
+/*@ requires has_traffic(client) && \valid(client->board) && \valid(reason) && \valid(is_done);
+  @ requires client->traffic->sent == client->traffic->answer.size;
+  @ requires are_apart(client->board, &client->traffic->request[0], &client->traffic->answer,
+  @     reason);
+  @ requires \separated(client, client->traffic, client->board, reason, is_done, &__fc_errno,
+  @     &device_state,
+  @     &asked_command, &asked_size, &asked_locality, &answered_size,
+  @     answered + (0 .. RESPONSE_MOST - 1));
+  @ ensures has_traffic(client) && client->traffic == \old(client->traffic);
+  @ ensures !*is_done ==> \result == GOES_ON &&
+  @     client->traffic->came == \old(client->traffic->came);
+  @ ensures *is_done ==> client->traffic->came <= \old(client->traffic->came);
+  @*/
 static enum outcome do_request(struct client *client, bool *is_done, struct reason *reason) {
     struct traffic *traffic = client->traffic;
     size_t size = request_size(traffic->request, traffic->came, client->is_of_platform);
@@ -76,6 +109,10 @@ static enum outcome do_request(struct client *client, bool *is_done, struct reas
     traffic->sent = 0;
     client->next = request_do(client->board, traffic->request, client->is_of_platform,
                               &traffic->answer, reason);
+    /*@ assert client->traffic == traffic; */
+    /*@ assert traffic->came == \at(client->traffic->came, Pre); */
+    /*@ assert traffic->sent == 0; */
+    /*@ assert has_traffic(client); */
     if (client->next == FAILS) return FAILS;
     traffic->came -= size;
     memmove(traffic->request, traffic->request + size, traffic->came);
@@ -91,6 +128,12 @@ static enum outcome do_requests(struct client *client, struct reason *reason) {
 }
 
 /* Reads once. Returns ENDS if the input has ended or failed. */
+/*@ requires has_traffic(client);
+  @ assigns client->traffic->came, client->traffic->request[0 .. REQUEST_MOST - 1], __fc_errno;
+  @ ensures has_traffic(client) && client->traffic->came >= \old(client->traffic->came);
+  @ ensures \forall integer i; 0 <= i < \old(client->traffic->came) ==>
+  @     client->traffic->request[i] == \old(client->traffic->request[i]);
+  @*/
 static enum outcome read_some(struct client *client) {
     struct traffic *traffic = client->traffic;
     ssize_t moved = recv(client->socket, traffic->request + traffic->came,

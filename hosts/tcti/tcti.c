@@ -30,19 +30,40 @@ struct context {
     uint8_t response[RESPONSE_ROOM];
 };
 
+/*@ predicate is_open(struct context *context) = context != \null && context->common.magic == MAGIC;
+  @ predicate is_memory(struct context *context) = context == \null || (\valid(context) &&
+  @     (is_open(context) ==> context->size <= RESPONSE_ROOM && context->locality <= 4));
+  @*/
+
 /* Returns the context; NULL if it is not a context of this module, or was finalized. */
+/*@ requires is_memory(handed);
+  @ assigns \nothing;
+  @ ensures is_open(handed) ? \result == handed : \result == \null;
+  @*/
 static struct context *context_of(TSS2_TCTI_CONTEXT *handed) {
     return handed && TSS2_TCTI_MAGIC(handed) == MAGIC ? (struct context *)handed : NULL;
 }
 
 static void tell_line(const char *sentence) { fprintf(stderr, "tcti-tpmsim: %s\n", sentence); }
 
+/*@ assigns \nothing;
+  @ ensures \result == code;
+  @*/
 static TSS2_RC tell(const struct reason *reason, TSS2_RC code) {
     tell_line(reason->text);
     return code;
 }
 
 /* Executes the command. When this returns, its response is ready. */
+/*@ requires is_memory(handed);
+  @ requires command == \null || \valid_read(command + (0 .. size - 1));
+  @ requires \separated(handed, command + (0 .. size - 1), &device_state);
+  @ assigns *handed, device_state;
+  @ ensures is_memory(handed);
+  @ ensures \result == TSS2_RC_SUCCESS ==> is_open(handed) && !\old(handed->waits) &&
+  @     handed->waits && 10 <= handed->size;
+  @ ensures \result != TSS2_RC_SUCCESS && is_open(handed) ==> handed->waits == \old(handed->waits);
+  @*/
 static TSS2_RC transmit(TSS2_TCTI_CONTEXT *handed, size_t size, const uint8_t *command) {
     struct context *context = context_of(handed);
     struct reason reason;
@@ -62,6 +83,30 @@ static TSS2_RC transmit(TSS2_TCTI_CONTEXT *handed, size_t size, const uint8_t *c
 
 /* Writes the response, or its size if the buffer is too small. No timeout can expire, because the
  * response is ready. */
+/*@ requires is_memory(handed) && (size == \null || \valid(size));
+  @ requires size != \null && response != \null ==> \valid(response + (0 .. *size - 1));
+  @ requires size != \null ==> \separated(handed, size, response + (0 .. *size - 1));
+  @ assigns *size, response[0 .. \old(*size) - 1], handed->waits;
+  @ behavior returns:
+  @     assumes is_open(handed) && handed->waits && timeout >= TSS2_TCTI_TIMEOUT_BLOCK;
+  @     assumes size != \null && response != \null && *size >= handed->size;
+  @     ensures \result == TSS2_RC_SUCCESS && !handed->waits && *size == handed->size;
+  @     ensures \forall integer i; 0 <= i < *size ==> response[i] == handed->response[i];
+  @     ensures \forall integer i; *size <= i < \old(*size) ==> response[i] == \old(response[i]);
+  @ behavior only_tells_the_size:
+  @     assumes is_open(handed) && handed->waits && timeout >= TSS2_TCTI_TIMEOUT_BLOCK;
+  @     assumes size != \null && (response == \null || *size < handed->size);
+  @     assigns *size;
+  @     ensures *size == handed->size;
+  @     ensures \result == (response == \null ? TSS2_RC_SUCCESS : TSS2_TCTI_RC_INSUFFICIENT_BUFFER);
+  @ behavior refuses:
+  @     assumes !is_open(handed) || !handed->waits || timeout < TSS2_TCTI_TIMEOUT_BLOCK ||
+  @         size == \null;
+  @     assigns \nothing;
+  @     ensures \result != TSS2_RC_SUCCESS;
+  @ complete behaviors;
+  @ disjoint behaviors;
+  @*/
 static TSS2_RC receive(TSS2_TCTI_CONTEXT *handed, size_t *size, uint8_t *response,
                        int32_t timeout) {
     struct context *context = context_of(handed);
@@ -96,6 +141,10 @@ static void finalize(TSS2_TCTI_CONTEXT *handed) {
 
 /* A transmitted command has already been executed, so it cannot be cancelled. Its response can be
  * received as usual. */
+/*@ requires is_memory(handed);
+  @ assigns \nothing;
+  @ ensures \result == TSS2_RC_SUCCESS <==> is_open(handed) && handed->waits;
+  @*/
 static TSS2_RC cancel(TSS2_TCTI_CONTEXT *handed) {
     struct context *context = context_of(handed);
     if (!context) return TSS2_TCTI_RC_BAD_CONTEXT;
@@ -110,6 +159,14 @@ static TSS2_RC get_poll_handles(TSS2_TCTI_CONTEXT *handed, TSS2_TCTI_POLL_HANDLE
     return count ? TSS2_TCTI_RC_NOT_IMPLEMENTED : TSS2_TCTI_RC_BAD_REFERENCE;
 }
 
+/*@ requires is_memory(handed);
+  @ assigns handed->locality;
+  @ ensures is_memory(handed);
+  @ ensures \result == TSS2_RC_SUCCESS <==> is_open(handed) && !handed->waits && locality <= 4;
+  @ ensures \result == TSS2_RC_SUCCESS ==> handed->locality == locality;
+  @ ensures \result != TSS2_RC_SUCCESS && is_open(handed) ==>
+  @     handed->locality == \old(handed->locality);
+  @*/
 static TSS2_RC set_locality(TSS2_TCTI_CONTEXT *handed, uint8_t locality) {
     struct context *context = context_of(handed);
     if (!context) return TSS2_TCTI_RC_BAD_CONTEXT;

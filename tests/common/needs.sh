@@ -14,6 +14,7 @@ package_of() {
     compiler-rt) echo "libclang-rt-$(version_of_clang)dev" ;;
     cryptography) echo python3-cryptography ;;
     dpkg-deb) echo dpkg ;;
+    frama-c) echo frama-c-base ;;
     go) echo golang-go ;;
     pytest-3) echo python3-pytest ;;
     qemu-aarch64) echo qemu-user ;;

@@ -1,0 +1,1 @@
+/* folder.c takes only the number of one system call from this header, and has it itself. */
