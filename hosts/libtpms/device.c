@@ -82,10 +82,10 @@ bool resume_device(uint64_t time) {
 bool last_was_written(void) { return !is_behind; }
 
 /*@ requires record_size <= TPMSIM_RECORD_ROOM;
-  @ assigns is_behind, record_size, written_text, written_size, permanent_state, swtpm_called,
-  @     stored_bytes,
-  @     stored_size, __fc_errno;
+  @ assigns is_behind, record_size, written_text, written_size, permanent_state, permanent_is_kept, swtpm_called,
+  @     stored_bytes, stored_size, __fc_errno;
   @ ensures \result <==> !is_behind;
+  @ ensures \result ==> permanent_is_kept == 1;
   @ ensures \result ==> written_text == &record[0] && written_size == \old(record_size) &&
   @     record_size == 0;
   @ ensures record_size == 0 || record_size == \old(record_size);
@@ -122,11 +122,10 @@ static uint8_t run(const uint8_t *buffer, size_t size, uint8_t locality, uint32_
 
 /*@ requires \valid_read(buffer + (0 .. size - 1)) && \valid(response) && record_size <= TPMSIM_RECORD_ROOM;
   @ requires \separated(response, on_heap + (0 .. HEAP_MOST - 1),
-  @     record + (0 .. TPMSIM_RECORD_ROOM - 1),
-  @     &record_size, &is_behind, &latest, &stored_size, &stored_bytes, &written_size,
+  @     record + (0 .. TPMSIM_RECORD_ROOM - 1), &record_size, &is_behind, &latest, &stored_size, &stored_bytes, &written_size,
   @     &written_text, &__fc_errno);
   @ ensures record_size <= TPMSIM_RECORD_ROOM;
-  @ ensures \result ==> !is_behind && record_size == 0 && 10 <= response->size <= 4096;
+  @ ensures \result ==> !is_behind && permanent_is_kept == 1 && record_size == 0 && 10 <= response->size <= 4096;
   @*/
 bool execute(const uint8_t *buffer, size_t size, uint8_t locality, struct response *response) {
     const uint8_t *random = random_bytes();

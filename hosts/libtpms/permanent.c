@@ -77,10 +77,13 @@ bool store_permanent(tpmsim *device) {
   @ ensures \result ==> stored_bytes == \old(stored_bytes) || stored_bytes == &image.bytes[0];
   @*/
 bool keep_permanent(tpmsim *device) {
-    if (is_permanent(device)) return true;
-    if (!store_permanent(device)) return false;
-    memcpy(kept.bytes, present.bytes, present.size);
-    kept.size = present.size;
+    if (!is_permanent(device)) {
+        if (!store_permanent(device)) return false;
+        memcpy(kept.bytes, present.bytes, present.size);
+        kept.size = present.size;
+    }
+    /*@ assert is_kept_by_device(&kept); */
+    /*@ ghost permanent_is_kept = 1; */
     return true;
 }
 

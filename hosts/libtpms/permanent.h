@@ -28,7 +28,8 @@ bool store_permanent(tpmsim *device);
 /* Makes swtpm store the image of a device if anything in it except the clock differs from the
  * stored image. */
 /*@ requires \valid(device);
-  @ assigns permanent_state, swtpm_called, stored_bytes, stored_size;
+  @ assigns permanent_state, permanent_is_kept, swtpm_called, stored_bytes, stored_size;
+  @ ensures \result ==> permanent_is_kept == 1;
   @*/
 bool keep_permanent(tpmsim *device);
 

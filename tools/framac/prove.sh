@@ -21,8 +21,6 @@ HOME=$work
 export HOME
 why3 config detect >"$work/detected" 2>&1 || { cat "$work/detected" && exit 1; }
 ln -s /usr/include/libtpms "$work/libtpms" || exit 1
-library=$top/library
-[ -d "$library" ] || library=$top/clients/c
 
 # prove HOSTS FILE FUNCTION..: proves the contracts of these functions.
 prove() {
@@ -31,7 +29,7 @@ prove() {
     shift 2
     functions=$(echo "$*" | tr ' ' ,)
     (cd "$hosts/${file%/*}" && frama-c -machdep gcc_x86_64 -c11 \
-        -cpp-extra-args="-I$here -I$work -I$library -I../kept -I../simulator -I../libtpms -include system.h" \
+        -cpp-extra-args="-I$here -I$work -I$top/clients/c -I../kept -I../simulator -I../libtpms -include system.h" \
         -rte-no-pointer-call -wp -wp-rte -wp-cache none -wp-prover cvc4 -wp-timeout "${TIMEOUT:-60}" \
         -wp-par "$(getconf _NPROCESSORS_ONLN)" -wp-fct "$functions" "${file##*/}") >"$work/output" 2>&1
     proved=$(sed -n 's|.*Proved goals: *\([0-9]*\) */ *\([0-9]*\)$|\1 \2|p' "$work/output")

@@ -140,6 +140,9 @@ extern const uint8_t *written_text;
 extern size_t written_size;
 extern int permanent_state, random_state;
 
+/* 1 after what the device keeps without power was stored. */
+/*@ ghost extern int permanent_is_kept; */
+
 /* What the device keeps without power, except its clock. */
 extern uint8_t device_kept[32768];
 extern size_t device_kept_size;
