@@ -16,8 +16,14 @@ host=${1:-}
 hosts=$(CDPATH='' cd "${2:-$top/hosts}" && pwd -P) || exit 1
 work=$(mktemp -d) || exit 1
 trap 'rm -rf "$work"' EXIT
+precision=2
 case $host in
-tcti) own='tcti/tcti.c tcti/loaded.c' kept='draws folder fork_mark host image keeping kept past reason secret standing told transfer words written' ;;
+tcti)
+    own='tcti/tcti.c tcti/loaded.c'
+    kept='draws folder fork_mark host image keeping kept past reason secret standing told transfer words written'
+    # With 2, the analysis takes more than ten minutes.
+    precision=1
+    ;;
 libtpms)
     own='libtpms/callbacks.c libtpms/commands.c libtpms/device.c libtpms/foreign.c libtpms/host_clock.c libtpms/launch.c
         libtpms/older.c libtpms/permanent.c libtpms/power.c libtpms/randomness.c libtpms/record.c libtpms/report.c
@@ -46,7 +52,7 @@ for name in $kept; do files="$files $work/kept/$name.c"; done
 # shellcheck disable=SC2086 # word splitting is intended
 (cd "$work" && frama-c -machdep gcc_x86_64 -c11 \
     -cpp-extra-args="-I$here/eva -I$work/headers -I$here -I$top/clients/c -Ikept -Isimulator -Ilibtpms -Itcti -include any.h" \
-    -no-unicode -eva -eva-precision "${PRECISION:-2}" -eva-split-return auto -eva-warn-undefined-pointer-comparison none \
+    -no-unicode -eva -eva-precision "${PRECISION:-$precision}" -eva-split-return auto -eva-warn-undefined-pointer-comparison none \
     "$here/eva/$host.c" $files -then -report -report-csv alarms.csv -report-no-proven) >"$work/output" 2>&1
 [ -s "$work/alarms.csv" ] || { cat "$work/output" && exit 1; }
 # The alarms in the sources: the file, the function, the kind, and the property that may not hold.

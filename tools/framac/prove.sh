@@ -1,8 +1,8 @@
 #!/bin/sh
 # Proves contracts of the hosts' functions with Frama-C's plug-in WP. The contracts are comments in the sources,
 # /*@ .. */, in the language ACSL. system.h has the contracts of the calls that are not proved: those of the system
-# and of the library. Together with a contract, this proves that the function does not overflow a number, and does not
-# access memory outside of its arguments. Prints a line for each file. The status is 1 if a goal is not valid.
+# and of the library. Together with a contract, this proves that the function does not overflow a signed number, and
+# does not access memory outside of its arguments. Prints a line for each file. The status is 1 if a goal is not valid.
 #
 #   tools/framac/prove.sh                        all functions in tools/framac/proved
 #   tools/framac/prove.sh HOSTS FILE FUNCTION..  these functions of HOSTS/FILE; HOSTS is a copy of the folder hosts
