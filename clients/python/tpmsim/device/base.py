@@ -183,6 +183,26 @@ class Transport(ABC):
         """
         raise Unsupported("there are no snapshots")
 
+    def refuse_next(self, command: str, check: str, code: int | str | None = None) -> None:
+        """Makes the next command with this name be refused by a check of the table, such as `A2`,
+        and with a code, such as `LOCKOUT`, if the check has several. Just before that command, the
+        least change is made to the state under which the device refuses it so. If no known change
+        does this, that command raises Unrefusable instead, and is not executed.
+
+        The device stays changed, so that a client finds what it was told: an index that was locked
+        is still locked. `snapshot` before and `restore` afterwards return to the unchanged device.
+
+        >>> with Device() as device:
+        ...     tpm = Caller(device)
+        ...     tpm.start_up()
+        ...     device.refuse_next("StartAuthSession", "A4")
+        ...     tpm.session()
+        Traceback (most recent call last):
+            ...
+        tpmsim.caller.entries.Refused: StartAuthSession: SESSION_MEMORY (903), by A4
+        """
+        raise Unsupported("a device without a state text cannot be changed")
+
     def close(self) -> None:
         """Closes the device, or the connection to it, as leaving a `with` block does. If the device
         has an image file, this also saves the clock to it.

@@ -20,6 +20,8 @@ from tpmsim.device.library import AnsweredInC, beside, CHECKS, IMAGE_FAULTS, lib
 from tpmsim.device.library import NO_MEMORY, RESPONSE_BYTES, STATE_FAULTS, TEXT_BYTES
 from tpmsim.device.served import LocatedDevice
 from tpmsim.device.told import Path, RANDOM_BYTES
+from tpmsim.refuse.finding import Event
+from tpmsim.refuse.pending import Pending
 
 NAME, LOCK_NAME = "libtpmsim-kept.so.0", "lock"
 REASON_BYTES, MOST_KEPT = 4608, 99
@@ -127,6 +129,7 @@ class KeptDevice(LocatedDevice):
         cuts: bool = False,
     ) -> None:
         super().__init__()
+        self.pending = Pending()
         self.path, self.completes = os.path.abspath(folder), completes
         path = os.fsencode(folder)
         if b"\0" in path:
@@ -198,7 +201,22 @@ class KeptDevice(LocatedDevice):
         """Calls the C host for this device; raises an exception if the call fails."""
         check(*self.told(call, *given))
 
+    def refuse_next(self, command: str, check: str, code: int | str | None = None) -> None:
+        """Makes the next command with this name of this object be refused, as on other devices. The
+        changed state is restored for every process, so that no earlier context can be loaded.
+        """
+        self.pending.add(command, check, code)
+
+    def change_for(self, buffer: bytes) -> None:
+        """Changes the state so that the command meets the refusal that is pending for it."""
+        event = Event(buffer, self.locality, completes=self.completes)
+        found = self.pending.met(self.state(), event)
+        if found is not None and found.words:
+            self.restore(Snapshot(found.text, self.locality))
+
     def execute(self, buffer: bytes) -> Answered:
+        if self.pending.has(buffer):
+            self.change_for(buffer)
         response, answered = ctypes.create_string_buffer(RESPONSE_BYTES), AnsweredInC()
         self.ask(
             *(self.host.tpmsim_kept_execute, buffer, len(buffer), self.locality),

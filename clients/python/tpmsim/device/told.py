@@ -14,6 +14,8 @@ from tpmsim.model import image as images, state_text
 from tpmsim.model.completion import Completion
 from tpmsim.model.machine import MANUFACTURED, Model
 from tpmsim.model.state_text import Layer
+from tpmsim.refuse.finding import Event
+from tpmsim.refuse.pending import Pending
 from tpmsim.standard.aes_tables import encrypt_block
 
 RANDOM_BYTES = 256
@@ -57,6 +59,7 @@ class Device(Transport):
         super().__init__()
         self.image = None if image is None else pathlib.Path(image)
         self.seed, self.drawings, self.at, self.elapsed = seed, 0, 0, 0
+        self.pending = Pending()
 
     @classmethod
     def open(cls, image: bytes, seed: bytes | None = None) -> Self:
@@ -167,10 +170,25 @@ class Device(Transport):
         Answered(response=b'\\x80\\x01\\x00\\x00\\x00\\n\\x00\\x00\\x00\\x00', check='ok')
         """
         self.look_whole()
-        event = self.answer(buffer, self.at, self.elapsed, self.drawn())
+        random = self.drawn()
+        if self.pending.has(buffer):
+            self.change_for(buffer, random)
+        event = self.answer(buffer, self.at, self.elapsed, random)
         self.elapsed = 0
         self.events.append(event)
         return Answered(event.response, event.check)
+
+    def refuse_next(self, command: str, check: str, code: int | str | None = None) -> None:
+        self.pending.add(command, check, code)
+
+    def change_for(self, buffer: bytes, random: bytes) -> None:
+        """Changes the state so that the command meets the refusal that is pending for it. If that
+        needs a change, `trace` then starts with the changed state.
+        """
+        event = Event(buffer, self.at, random, self.elapsed)
+        found = self.pending.met(self.state(), event)
+        if found is not None and found.words:
+            self.restore(Snapshot(found.text, self.at, self.elapsed, begun=found.text))
 
     def power_cycle(self) -> None:
         """Power-cycles the device, which then expects TPM2_Startup.

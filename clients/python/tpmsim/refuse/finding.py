@@ -1,0 +1,184 @@
+"""Finds the least change of a device's state under which a command meets a row. The model in Python
+tries each named change on a copy of the state.
+"""
+
+from __future__ import annotations
+
+import itertools
+from dataclasses import dataclass
+from typing import Iterator
+
+from tpmsim.faults import TpmsimError
+from tpmsim.model import image, state_text
+from tpmsim.model.completion import Completion
+from tpmsim.model.machine import Model
+from tpmsim.refuse import device_changes, entity_changes, session_changes
+from tpmsim.refuse.change import Asked, Change
+from tpmsim.standard import frames, NUMBERED
+
+# The check of a response that the completing layer makes itself.
+LAYER = "layer"
+
+
+class Unrefusable(TpmsimError):
+    """No change of the state that is known makes the command meet this row; the message says which
+    row it met instead.
+    """
+
+
+@dataclass(frozen=True, order=True)
+class Met:
+    """The row that a command met: a check, or `ok`, and the response code."""
+
+    check: str
+    code: int
+
+    @property
+    def is_refusal(self) -> bool:
+        return self.code != 0
+
+    def __str__(self) -> str:
+        return "ok" if not self.is_refusal else f"{self.check} {self.code:03x}"
+
+
+@dataclass(frozen=True)
+class Event:
+    """A command with all that its row depends on apart from the state. `completes` says whether the
+    completing layer is above the device.
+    """
+
+    buffer: bytes
+    locality: int = 0
+    random: bytes = bytes(256)
+    elapsed: int = 0
+    completes: bool = False
+
+    @property
+    def name(self) -> str:
+        return name_of(self.buffer)
+
+
+def name_of(buffer: bytes) -> str:
+    """Returns the name of a buffer's command; its number in hex if the device does not have it."""
+    number = int.from_bytes(buffer[6:10], "big")
+    return NUMBERED[number].name if number in NUMBERED else f"{number:08x}"
+
+
+@dataclass(frozen=True)
+class Wanted:
+    """A refusal: a check, and its response code if a check has several."""
+
+    check: str
+    code: int | None = None
+
+    @classmethod
+    def of(cls, check: str, code: int | str | None = None) -> Wanted:
+        """Returns a refusal by a check, such as `A2`, and a code as a number or by its name, such
+        as `LOCKOUT` or `AUTH_FAIL/s1`.
+        """
+        return cls(check, frames.code_of(code) if isinstance(code, str) else code)
+
+    def is_met(self, met: Met) -> bool:
+        is_code = self.code is None or self.code == met.code
+        return met.is_refusal and self.check == met.check and is_code
+
+    def __str__(self) -> str:
+        return self.check if self.code is None else f"{self.check} {self.code:03x}"
+
+
+@dataclass(frozen=True)
+class Found:
+    """The words for a change, the state text after it, and the row that the command then meets."""
+
+    words: str
+    text: bytes
+    met: Met
+
+
+def executed(model: Model, layer: state_text.Layer | None, event: Event) -> Met:
+    """Executes a command on a model, and returns its row."""
+    given = event.buffer, event.locality, event.random, event.elapsed
+    if not event.completes:
+        outcome = model.execute(*given)
+        return Met(outcome.row.check, code_in(outcome.response))
+    completion = Completion.of(layer) if layer else Completion()
+    done = completion.execute(model, given, model.execute, model.place)
+    is_layers = done.outcome.response != done.own.response
+    return Met(LAYER if is_layers else done.own.row.check, code_in(done.outcome.response))
+
+
+def code_in(response: bytes) -> int:
+    return int.from_bytes(response[6:10], "big")
+
+
+def single(model: Model, asked: Asked, locality: int) -> Iterator[Change]:
+    """Yields each change of one thing, the least first: what another program may do to a device,
+    then what leaves Names, then what changes them.
+    """
+    yield from device_changes.of_slots(asked)
+    yield from device_changes.of_pcrs(asked)
+    yield from entity_changes.removals(model, asked)
+    yield from session_changes.of_sessions(model, asked, locality)
+    yield from entity_changes.values(model, asked)
+    yield from device_changes.of_hierarchies(asked)
+    yield from device_changes.of_protections(model, asked)
+    yield from entity_changes.names(model, asked)
+    yield from device_changes.of_power(model)
+
+
+def double(model: Model, asked: Asked) -> Iterator[Change]:
+    """Yields changes of two things: whether an entity is protected, and its value or the lockout."""
+    firsts = list(entity_changes.protections(model, asked))
+    seconds = [*entity_changes.values(model, asked), *device_changes.of_protections(model, asked)]
+    for first, second in itertools.product(firsts, seconds):
+        yield first.then(second)
+
+
+def tried(text: bytes, event: Event) -> Iterator[Found]:
+    """Yields the row that a command meets in the state of `text`, and after each change of it. A
+    change after which the state is none that a device can be in is left out.
+    """
+    model, layer = state_text.open_state(text)
+    asked = Asked.of(event.buffer, model)
+    unchanged = Change("", lambda it: None)
+    changes = itertools.chain(
+        [unchanged], single(model, asked, event.locality), double(model, asked)
+    )
+    for change in changes:
+        found = after(text, event, change)
+        if found is not None:
+            yield found
+
+
+def after(text: bytes, event: Event, change: Change) -> Found | None:
+    """Returns the row that a command meets after a change; None if no device is in such a state."""
+    model, layer = state_text.open_state(text)
+    change.act(model)
+    changed = state_text.state_text(model, layer) if change.words else text
+    try:
+        model, layer = state_text.open_state(changed)
+    except image.Fault:
+        return None
+    return Found(change.words, changed, executed(model, layer, event))
+
+
+def rows_near(text: bytes, event: Event) -> list[Found]:
+    """Returns each refusal that a command would meet after a change, with the least such change."""
+    found = dict[Met, Found]()
+    for it in tried(text, event):
+        if it.met.is_refusal and it.words:
+            found.setdefault(it.met, it)
+    return list(found.values())
+
+
+def found(text: bytes, event: Event, wanted: Wanted) -> Found:
+    """Returns the least change under which a command meets a row; raises Unrefusable if there is
+    none.
+    """
+    count, now = 0, None
+    for count, it in enumerate(tried(text, event)):
+        now = now or it.met
+        if wanted.is_met(it.met):
+            return it
+    words = f"{event.name} cannot be refused by {wanted} here: it meets {now}"
+    raise Unrefusable(f"{words}, and none of {count} changes of the state makes it meet {wanted}")
