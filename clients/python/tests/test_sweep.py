@@ -1,0 +1,279 @@
+"""Tests tpmsim-sweep: small clients that do one thing wrong, and what is reported about each."""
+
+import contextlib
+import io
+import json
+import os
+import pathlib
+import socket
+import sys
+import tempfile
+import time
+import unittest
+
+from tpmsim.caller import area, Caller
+from tpmsim.device import Device, KeptDevice, library, ServedDevice, SwtpmDevice
+from tpmsim.refuse.finding import Event, Met
+from tpmsim.standard import RH_OWNER
+from tpmsim.sweep import main
+from tpmsim.sweep.findings import Finding
+from tpmsim.sweep.refusals import FAKED, Only, planned, Refusal, refusals_of
+from tpmsim.sweep.runs import run, Settings
+from tpmsim.sweep.server import Server
+from tpmsim.sweep.tpm import SweptTpm
+
+# The first lines of each client. It ends with status 3 if a command is refused elsewhere.
+BEGIN = """
+import os, signal, sys, time
+from tpmsim.caller import Caller, Refused
+from tpmsim.device import ServedDevice
+tpm = Caller(ServedDevice(os.environ["TPMSIM_SOCKET"]))
+def read():
+    return tpm.send(tpm.reading(0x01000001, 4, by=0x40000001))["data"]
+try:
+    session = tpm.session()
+    try:
+        read()
+    except Refused as refused:
+        pass
+"""
+
+END = """
+    tpm.call("FlushContext", flushHandle=session.handle)
+except Refused:
+    sys.exit(3)
+"""
+
+# What each client does when its TPM2_NV_Read is refused, and what is found.
+CLIENTS = {
+    "right": ("        tpm.call('FlushContext', flushHandle=session.handle); sys.exit(1)", []),
+    "dies": (
+        "        os.kill(os.getpid(), signal.SIGABRT)",
+        [Finding.DIES, Finding.LEAVES_SESSION],
+    ),
+    "hangs": ("        time.sleep(3600)", [Finding.HANGS]),
+    "succeeds": (
+        "        tpm.call('FlushContext', flushHandle=session.handle); sys.exit(0)",
+        [Finding.SUCCEEDS],
+    ),
+    "goes on": (
+        "        tpm.call('GetRandom', bytesRequested=2)",
+        [Finding.SUCCEEDS, Finding.GOES_ON],
+    ),
+    "leaves": ("        sys.exit(1)", [Finding.LEAVES_SESSION]),
+}
+
+
+def client(name):
+    """Returns the words of a client that reads an index within a session."""
+    act, _ = CLIENTS[name]
+    rest = "    tpm.call('GetRandom', bytesRequested=2)\n" if name == "goes on" else ""
+    text = BEGIN.replace("        pass", act)
+    if name == "goes on":
+        text = text.replace(act, "        pass")
+    return sys.executable, "-c", text + rest + END
+
+
+def state():
+    """Returns the state text of a device with an index."""
+    with Device(seed=b"sweep") as device:
+        tpm = Caller(device)
+        tpm.start_up()
+        index = tpm.define(area(0x01000001, "ownerread|ownerwrite|read_stclear", size=4))
+        tpm.send(tpm.writing(index, b"data", by=RH_OWNER))
+        return bytes(device.snapshot())
+
+
+def settings(words, seconds=30):
+    return Settings(tuple(words), state(), seconds)
+
+
+def main_of(*words):
+    """Runs the program; returns its status, its output and its errors."""
+    output, errors = io.StringIO(), io.StringIO()
+    with contextlib.redirect_stdout(output), contextlib.redirect_stderr(errors):
+        status = main.main(*map(str, words))
+    return status, output.getvalue(), errors.getvalue()
+
+
+@unittest.skipUnless(library.is_there(), "there is no library")
+class Sweeps(unittest.TestCase):
+    def setUp(self):
+        self.folder = pathlib.Path(self.enterContext(tempfile.TemporaryDirectory()))
+        self.text = self.folder / "state"
+        self.text.write_bytes(state())
+        package = str(pathlib.Path(main.__file__).parents[2])
+        old = os.environ.get("PYTHONPATH")
+        os.environ["PYTHONPATH"] = package
+        self.addCleanup(self.put_back, old)
+
+    @staticmethod
+    def put_back(old):
+        if old is None:
+            del os.environ["PYTHONPATH"]
+        else:
+            os.environ["PYTHONPATH"] = old
+
+    def swept(self, name, *more):
+        """Returns the status of a sweep of a client whose TPM2_NV_Read is refused by A2, and the
+        report.
+        """
+        words = "--from", self.text, "--only", "NV_Read:A2", "--json", *more, "--", *client(name)
+        status, output, errors = main_of(*words)
+        self.assertEqual(errors, "")
+        return status, json.loads(output)
+
+    def test_each_fault_of_a_client_is_found_by_name(self):
+        for name, (_, wanted) in CLIENTS.items():
+            with self.subTest(name):
+                more = ("--timeout", "15") if name == "hangs" else ()
+                status, found = self.swept(name, *more)
+                self.assertEqual([it["check"] for it in found["runs"]], ["A2"])
+                self.assertEqual(found["runs"][0]["findings"], [it.value for it in wanted])
+                self.assertEqual(found["unrefused"]["findings"], [])
+                self.assertEqual(status, 1 if wanted else 0)
+
+    def test_the_run_without_a_refusal_is_unchanged(self):
+        words = sys.executable, "-c", BEGIN.replace("pass", "raise") + "    print(read())" + END
+        ran = run(settings(words), keeps=True)
+        self.assertEqual((ran.status, ran.output), (0, b"b'data'\n"), ran.errors)
+        self.assertEqual(ran.names, ["StartAuthSession", "NV_Read", "NV_Read", "FlushContext"])
+        self.assertEqual({it.met for it in ran.sent}, {Met("ok", 0)})
+        self.assertEqual(ran.left, frozenset())
+        again = run(settings(words))
+        self.assertEqual((again.output, again.sent), (ran.output, ran.sent))
+
+    def test_each_planned_refusal_is_met(self):
+        ran = run(settings(client("right")), keeps=True)
+        refusals = planned(ran.events, [], None)
+        self.assertGreater(len(refusals), 15)
+        for refusal in refusals[::5]:
+            done = run(settings(client("right")), refusal)
+            self.assertEqual(done.trouble, "", refusal)
+            self.assertEqual(done.sent[refusal.at].met, refusal.met, refusal)
+
+    def test_what_the_change_placed_is_not_left_by_the_client(self):
+        refusal = Refusal(0, "StartAuthSession", Met("A4", 0x903))
+        ran = run(settings(client("right")), refusal)
+        self.assertEqual((ran.status, ran.left, ran.trouble), (3, frozenset(), ""))
+
+    def test_another_client_is_not_refused(self):
+        refusal = Refusal(0, "NV_Read", Met("A2", 0x148))
+        ran = run(settings(client("right")), refusal)
+        self.assertEqual(ran.trouble, "the client sent StartAuthSession, and not NV_Read")
+        ran = run(settings(client("right")), Refusal(9, "NV_Read", Met("A2", 0x148)))
+        self.assertEqual(ran.trouble, "the client did not send this command")
+
+    def test_text_and_page(self):
+        page = self.folder / "page.html"
+        words = "--from", self.text, "--only", "NV_Read", "--limit", "2", "-j", "2"
+        status, output, _ = main_of(*words, "--html", page, "--", *client("leaves"))
+        self.assertEqual(status, 1)
+        self.assertIn("2 NV_Read G6 28b HANDLE/h2: 01000001 is gone\n    status 1\n", output)
+        self.assertIn("    FINDING: leaves a session loaded\n", output)
+        self.assertTrue(output.endswith("findings: 2 leaves a session loaded\n"), output)
+        self.assertEqual(page.read_text("utf-8").count('<tr class="found">'), 2)
+
+    def test_a_session_left_without_a_refusal_is_found(self):
+        words = sys.executable, "-c", BEGIN.partition("    try:")[0] + "except Refused: sys.exit(1)"
+        status, output, _ = main_of("--limit", "1", "--", *words)
+        self.assertEqual(status, 1)
+        self.assertIn("    FINDING: leaves a session loaded: 02000000\n", output)
+
+    def test_a_device_in_a_folder_stays_as_it_is(self):
+        with KeptDevice(self.folder / "tpm") as kept:
+            kept.restore(self.text.read_bytes())
+            before = kept.snapshot()
+            words = "--state", self.folder / "tpm", "--only", "NV_Read:A2", "--", *client("right")
+            self.assertEqual(main_of(*words)[0], 0)
+            self.assertEqual(kept.snapshot(), before)
+
+    def test_each_run_in_its_own_copy(self):
+        (self.folder / "work").mkdir()
+        (self.folder / "work" / "given").write_text("given")
+        text = BEGIN + "    assert os.listdir() == ['given']; open('made', 'w').close()\n" + END
+        words = "--copy", self.folder / "work", "--from", self.text, "--limit", "3", "-j", "2"
+        _, output, errors = main_of(*words, "--", sys.executable, "-c", text)
+        self.assertEqual(errors, "")
+        self.assertIn("3 runs with a refusal", output)
+        self.assertEqual(os.listdir(self.folder / "work"), ["given"])
+
+    def test_what_a_client_leaves_running_is_ended(self):
+        text = "import os, time\nchild = os.fork()\nif not child: time.sleep(3600)\nprint(child)"
+        ran = run(settings((sys.executable, "-c", text)))
+        stat = pathlib.Path("/proc", ran.output.decode().strip(), "stat")
+        until = time.monotonic() + 60
+        while stat.exists() and ") Z " not in stat.read_text():
+            self.assertLess(time.monotonic(), until)
+            time.sleep(0.01)
+
+    def test_wrong_use(self):
+        for words, said in (
+            ((), "there is no COMMAND after --"),
+            (("--", "true"), "the command sends nothing to the TPM"),
+            (("--", "false"), "the command ends with status 1, even unrefused"),
+            (("--", "/nowhere"), "No such file or directory: '/nowhere'"),
+            (("--jobs", "0", "--", "true"), "argument -j/--jobs"),
+            (("--only", "NV_Forget", "--", "true"), "argument --only"),
+            (("--state", self.folder, "--", "true"), "contains no device"),
+            (("--state", ".", "--from", ".", "--", "true"), "--state and --from name two devices"),
+            (("--from", __file__, "--", "true"), "Magic"),
+            (("--copy", "/nowhere", "--", "true"), "/nowhere is no folder"),
+        ):
+            with self.subTest(words):
+                status, output, errors = main_of(*words)
+                self.assertEqual((status, output), (2, ""))
+                self.assertTrue(errors.startswith("tpmsim-sweep: "), errors)
+                self.assertIn(said, errors)
+
+    def test_help(self):
+        status, output, _ = main_of("--help")
+        self.assertEqual(status, 0)
+        self.assertTrue(output.startswith("Usage: tpmsim-sweep [OPTION]... -- COMMAND"))
+        for finding in Finding:
+            self.assertIn(f"\n  {finding.value} ", output)
+
+
+class Plans(unittest.TestCase):
+    def test_only_and_limit(self):
+        with Device() as device:
+            Caller(device).start_up()
+            events = [
+                (bytes(device.snapshot()), Event(bytes.fromhex(it)))
+                for it in ("80010000000c0000017b0004", "80010000000a00000181")
+            ]
+        every = planned(events, [], None)
+        self.assertEqual([it.name for it in every], ["GetRandom"] * 4 + ["ReadClock"] * 4)
+        self.assertEqual(planned(events, [], 3), every[:3])
+        self.assertEqual(planned(events, [Only.of("ReadClock")], None), every[4:])
+        self.assertEqual(planned(events, [Only.of("ReadClock:G5")], None), every[4:5])
+        self.assertEqual([it.met.code for it in every if it.is_faked], [*FAKED, *FAKED])
+        self.assertEqual(every[0], next(refusals_of(0, *events[0])))
+
+
+@unittest.skipUnless(library.is_there(), "there is no library")
+class Served(unittest.TestCase):
+    def test_a_unix_socket_and_the_protocol_of_swtpm(self):
+        tpm = SweptTpm(state())
+        self.addCleanup(tpm.close)
+        with Server(tpm.execute, tpm.power_cycle) as server:
+            places = ("127.0.0.1", server.port), ("127.0.0.1", server.port + 1)
+            with ServedDevice(server.path) as one, SwtpmDevice(*places) as other:
+                Caller(one).call("GetRandom", bytesRequested=2)
+                other.locality = 3
+                Caller(other).call("PCR_Extend", 17, digests="sha256:" + "00" * 32)
+                other.power_cycle()
+                Caller(other).start_up()
+            cut = socket.create_connection(places[0])
+            cut.sendall(b"\x80\x01\x00\x00")
+            cut.close()
+            with ServedDevice(server.path) as one:
+                Caller(one).call("ReadClock")
+        self.assertEqual(
+            [it.name for it in tpm.sent], ["GetRandom", "PCR_Extend", "Startup", "ReadClock"]
+        )
+        self.assertFalse(os.path.exists(server.path))
+
+
+if __name__ == "__main__":
+    unittest.main()

@@ -1,0 +1,118 @@
+"""Serves a TPM to one run of a client: on a Unix socket, and by swtpm's protocol on two TCP ports."""
+
+from __future__ import annotations
+
+import os
+import selectors
+import socket
+import tempfile
+import threading
+from typing import Callable, Self
+
+from tpmsim.sweep.protocols import Commands, Control, Execute, Locality
+
+HOST, RECEIVED_AT_ONCE = "127.0.0.1", 65_536
+
+# How long a client may take to read a response, in seconds.
+SEND_SECONDS = 10
+
+Protocol = Commands | Control
+
+
+def listeners_of_ports() -> tuple[socket.socket, socket.socket]:
+    """Returns listening sockets at a free port and at the next one."""
+    while True:
+        first = socket.create_server((HOST, 0))
+        try:
+            return first, socket.create_server((HOST, first.getsockname()[1] + 1))
+        except (OSError, OverflowError):
+            first.close()
+
+
+class Server:
+    """Serves a TPM in a thread of its own until `close`."""
+
+    def __init__(self, execute: Execute, power_cycle: Callable[[], None]) -> None:
+        self.execute, self.power_cycle, self.locality = execute, power_cycle, Locality()
+        self.folder = tempfile.TemporaryDirectory(prefix="tpmsim-sweep-")
+        self.path = os.path.join(self.folder.name, "tpm.sock")
+        self.selector = selectors.DefaultSelector()
+        self.data, self.control = listeners_of_ports()
+        self.port = self.data.getsockname()[1]
+        unix = socket.socket(socket.AF_UNIX)
+        unix.bind(self.path)
+        unix.listen()
+        for listener, made in (
+            (unix, self.commands),
+            (self.data, self.commands),
+            (self.control, self.requests),
+        ):
+            self.selector.register(listener, selectors.EVENT_READ, made)
+        self.ending, self.end = socket.socketpair()
+        self.selector.register(self.ending, selectors.EVENT_READ, None)
+        self.thread = threading.Thread(target=self.serve)
+        self.thread.start()
+
+    def commands(self) -> Protocol:
+        return Commands(self.execute, self.locality)
+
+    def requests(self) -> Protocol:
+        return Control(self.locality, self.power_cycle)
+
+    def serve(self) -> None:
+        """Answers all connections until `close` sends a byte."""
+        while True:
+            for key, _ in self.selector.select():
+                place = key.fileobj
+                assert isinstance(place, socket.socket)
+                if place is self.ending:
+                    return
+                if isinstance(key.data, (Commands, Control)):
+                    self.receive(place, key.data)
+                else:
+                    self.accept(place, key.data)
+
+    def accept(self, listener: socket.socket, made: Callable[[], Protocol]) -> None:
+        connection, _ = listener.accept()
+        connection.settimeout(SEND_SECONDS)
+        if connection.family == socket.AF_INET:
+            connection.setsockopt(socket.IPPROTO_TCP, socket.TCP_NODELAY, 1)
+        self.selector.register(connection, selectors.EVENT_READ, made())
+
+    def receive(self, connection: socket.socket, protocol: Protocol) -> None:
+        """Answers what a client sent; forgets a connection that has ended."""
+        try:
+            data = connection.recv(RECEIVED_AT_ONCE)
+            if data:
+                connection.sendall(protocol.answers(data))
+                return
+        except OSError:
+            pass  # the client is gone
+        self.selector.unregister(connection)
+        connection.close()
+
+    @property
+    def environment(self) -> dict[str, str]:
+        """The variables by which a client finds the TPM."""
+        tcti = f"swtpm:host={HOST},port={self.port}"
+        return {
+            **{"TPM2TOOLS_TCTI": tcti, "TCTI": tcti},
+            **{"TPMSIM_SOCKET": self.path, "TPMSIM_PORT": str(self.port)},
+        }
+
+    def close(self) -> None:
+        """Ends the thread, and closes all sockets."""
+        self.end.send(b"\0")
+        self.thread.join()
+        for key in list(self.selector.get_map().values()):
+            assert isinstance(key.fileobj, socket.socket)
+            key.fileobj.close()
+        self.selector.close()
+        self.end.close()
+        self.folder.cleanup()
+
+    def __enter__(self) -> Self:
+        return self
+
+    def __exit__(self, *given: object) -> None:
+        self.close()
