@@ -37,4 +37,4 @@ _tpmsim() {
 }
 
 complete -F _tpmsim tpmsim tpmsim-audit tpmsim-compare tpmsim-coverage tpmsim-explain tpmsim-refusals \
-    tpmsim-script tpmsim-simulator
+    tpmsim-script tpmsim-simulator tpmsim-sweep
