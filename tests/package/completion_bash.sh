@@ -26,7 +26,7 @@ CODE
 mkdir bin coming files files/deep
 ln -s "$program" bin/tpmsim
 for tool in explain audit; do ln -s "$top/tools/$tool.py" "bin/tpmsim-$tool"; done
-for tool in refusals coverage; do
+for tool in refusals coverage sweep; do
     printf '#!/bin/sh\nexec "%s/tools/python.sh" -m tpmsim.%s.main "$@"\n' "$top" "$tool" >"bin/tpmsim-$tool"
     chmod +x "bin/tpmsim-$tool"
 done
@@ -57,6 +57,9 @@ tpmsim-refusals|--
 tpmsim-refusals|--state|files/s
 tpmsim-coverage|--
 tpmsim-coverage|files/s
+tpmsim-sweep|--
+tpmsim-sweep|--state|f
+tpmsim-sweep|--from|files/s
 CODE
 
 echo '== what it has, and is not completed'

@@ -27,10 +27,10 @@ sweep -- false
 sweep --unknown -- true
 
 echo '== the output in README'
-sed -n '/^tpmsim-sweep -- /p' "$top/clients/python/README.md" >command
+sed -n '/^tpmsim-sweep -- /p' "$top/clients/python/README.md" >command_line
 sed -n '/^unrefused: /,/^```/p' "$top/clients/python/README.md" | grep -v '^```' >wanted
 # shellcheck disable=SC2046 # the command's words
-sweep --limit 1 $(cut -d ' ' -f 2- command) | grep -vxFf wanted
+sweep --limit 1 $(cut -d ' ' -f 2- command_line) | grep -vxFf wanted
 
 echo '== examples/clients'
 for script in createpolicy unseal; do

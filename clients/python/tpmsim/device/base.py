@@ -189,7 +189,7 @@ class Transport(ABC):
         least change is made to the state under which the device refuses it so. If no known change
         does this, that command raises Unrefusable instead, and is not executed.
 
-        The device stays changed, so that a client finds what it was told: an index that was locked
+        The device stays changed, so that a client finds a consistent one: an index that was locked
         is still locked. `snapshot` before and `restore` afterwards return to the unchanged device.
 
         >>> with Device() as device:

@@ -136,7 +136,7 @@ def double(model: Model, asked: Asked) -> Iterator[Change]:
 
 def tried(text: bytes, event: Event) -> Iterator[Found]:
     """Yields the row that a command meets in the state of `text`, and after each change of it. A
-    change after which the state is none that a device can be in is left out.
+    change that leads to an impossible state is left out.
     """
     model, layer = state_text.open_state(text)
     asked = Asked.of(event.buffer, model)
