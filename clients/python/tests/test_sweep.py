@@ -5,14 +5,16 @@ import io
 import json
 import os
 import pathlib
+import signal
 import socket
+import subprocess
 import sys
 import tempfile
 import time
 import unittest
 
 from tpmsim.caller import area, Caller
-from tpmsim.device import Device, KeptDevice, library, ServedDevice, SwtpmDevice
+from tpmsim.device import Device, DeviceEnded, KeptDevice, library, ServedDevice, SwtpmDevice
 from tpmsim.refuse.finding import Event, Met
 from tpmsim.standard import RH_OWNER
 from tpmsim.sweep import main
@@ -207,6 +209,16 @@ class Sweeps(unittest.TestCase):
             self.assertLess(time.monotonic(), until)
             time.sleep(0.01)
 
+    def test_an_interrupt_ends_the_sweep(self):
+        words = sys.executable, "-m", "tpmsim.sweep.main", "--from", str(self.text), "--"
+        words = *words, *client("right")
+        with subprocess.Popen(words, stdout=subprocess.PIPE) as process:
+            first = process.stdout.readline()
+            process.send_signal(signal.SIGINT)
+            said = process.stdout.read()
+        self.assertEqual((process.returncode, first[:11]), (130, b"unrefused: "))
+        self.assertLess(said.count(b"\n"), 10)
+
     def test_wrong_use(self):
         for words, said in (
             ((), "there is no COMMAND after --"),
@@ -273,6 +285,14 @@ class Served(unittest.TestCase):
             [it.name for it in tpm.sent], ["GetRandom", "PCR_Extend", "Startup", "ReadClock"]
         )
         self.assertFalse(os.path.exists(server.path))
+
+    def test_a_fault_ends_the_client_and_is_raised(self):
+        def fails(buffer, locality):
+            raise ZeroDivisionError
+
+        with self.assertRaises(ZeroDivisionError), Server(fails, lambda: None) as server:
+            with ServedDevice(server.path) as device, self.assertRaises(DeviceEnded):
+                device.execute(bytes(10))
 
 
 if __name__ == "__main__":

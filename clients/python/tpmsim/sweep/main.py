@@ -25,7 +25,7 @@ from tpmsim.sweep.runs import Settings
 from tpmsim.sweep.sweeping import begun, go_on, NoSweep, Sweep
 
 NAME = "tpmsim-sweep"
-FOUND, WRONG = 1, 2
+FOUND, WRONG, INTERRUPTED = 1, 2, 130
 
 # How long a run lasts at most, in seconds, unless --timeout says otherwise.
 SECONDS = 30.0
@@ -167,6 +167,8 @@ def main(*words: str) -> int:
         if isinstance(fault, Wrong):
             print(f"Try '{NAME} --help' for more information.", file=sys.stderr)
         return WRONG
+    except KeyboardInterrupt:
+        return INTERRUPTED
     return FOUND if sweep.count else 0
 
 

@@ -79,7 +79,7 @@ def value_of_run(ran: Ran) -> Value:
     }
 
 
-def value_of(refused: Refused) -> Value:
+def value_of(refused: Refused, base: Ran) -> Value:
     refusal = refused.refusal
     return {
         "place": refusal.at + 1,
@@ -90,7 +90,7 @@ def value_of(refused: Refused) -> Value:
         "change": refusal.words,
         "faked": refusal.is_faked,
         "trouble": refused.ran.trouble,
-        "same_output": None,
+        "same_output": refused.ran.output == base.output,
         "findings": [it.value for it in refused.findings],
         **value_of_run(refused.ran),
     }
@@ -98,16 +98,11 @@ def value_of(refused: Refused) -> Value:
 
 def as_json(words: tuple[str, ...], sweep: Sweep) -> str:
     """Returns a sweep as JSON."""
-    runs = []
-    for refused in sweep.refused:
-        value = value_of(refused)
-        value["same_output"] = refused.ran.output == sweep.base.output
-        runs.append(value)
     found = [it.value for it in sweep.findings]
     told = {
         "client": shlex.join(words),
         "unrefused": {**value_of_run(sweep.base), "findings": found},
-        "runs": runs,
+        "runs": [value_of(it, sweep.base) for it in sweep.refused],
         "findings": by_name(sweep),
     }
     return json.dumps(told, indent=1)

@@ -2,11 +2,12 @@
 
 from __future__ import annotations
 
+import contextlib
 import os
 import selectors
 import socket
 import tempfile
-import threading
+from concurrent.futures import ThreadPoolExecutor
 from typing import Callable, Self
 
 from tpmsim.sweep.protocols import Commands, Control, Execute, Locality
@@ -50,8 +51,8 @@ class Server:
             self.selector.register(listener, selectors.EVENT_READ, made)
         self.ending, self.end = socket.socketpair()
         self.selector.register(self.ending, selectors.EVENT_READ, None)
-        self.thread = threading.Thread(target=self.serve)
-        self.thread.start()
+        self.pool = ThreadPoolExecutor(1)
+        self.served = self.pool.submit(self.serve)
 
     def commands(self) -> Protocol:
         return Commands(self.execute, self.locality)
@@ -60,17 +61,30 @@ class Server:
         return Control(self.locality, self.power_cycle)
 
     def serve(self) -> None:
-        """Answers all connections until `close` sends a byte."""
-        while True:
-            for key, _ in self.selector.select():
-                place = key.fileobj
-                assert isinstance(place, socket.socket)
-                if place is self.ending:
-                    return
-                if isinstance(key.data, (Commands, Control)):
-                    self.receive(place, key.data)
-                else:
-                    self.accept(place, key.data)
+        """Answers all connections until `close` sends a byte, and then closes all sockets. A fault
+        closes them too, so that the client ends.
+        """
+        try:
+            while self.serves_next():
+                pass
+        finally:
+            for key in list(self.selector.get_map().values()):
+                assert isinstance(key.fileobj, socket.socket)
+                key.fileobj.close()
+            self.selector.close()
+
+    def serves_next(self) -> bool:
+        """Answers what has arrived; returns whether more may come."""
+        for key, _ in self.selector.select():
+            place = key.fileobj
+            assert isinstance(place, socket.socket)
+            if place is self.ending:
+                return False
+            if isinstance(key.data, (Commands, Control)):
+                self.receive(place, key.data)
+            else:
+                self.accept(place, key.data)
+        return True
 
     def accept(self, listener: socket.socket, made: Callable[[], Protocol]) -> None:
         connection, _ = listener.accept()
@@ -101,15 +115,13 @@ class Server:
         }
 
     def close(self) -> None:
-        """Ends the thread, and closes all sockets."""
-        self.end.send(b"\0")
-        self.thread.join()
-        for key in list(self.selector.get_map().values()):
-            assert isinstance(key.fileobj, socket.socket)
-            key.fileobj.close()
-        self.selector.close()
+        """Ends the thread. Raises what ended it before, if anything did."""
+        with contextlib.suppress(BrokenPipeError):
+            self.end.send(b"\0")
         self.end.close()
         self.folder.cleanup()
+        self.pool.shutdown()
+        self.served.result()
 
     def __enter__(self) -> Self:
         return self

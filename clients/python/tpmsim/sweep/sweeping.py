@@ -69,13 +69,18 @@ def go_on(
     jobs: int,
     watch: Callable[[Refused], None] = lambda refused: None,
 ) -> None:
-    """Makes a run for each refusal, `jobs` at once. Calls `watch` with each run, in order."""
+    """Makes a run for each refusal, `jobs` at once. Calls `watch` with each run, in order. After an
+    interrupt, the runs that have begun are awaited, and no other begins.
+    """
 
     def tried(refusal: Refusal) -> Refused:
         ran = run(settings, refusal)
         return Refused(refusal, ran, findings_of(ran, sweep.base, refusal))
 
-    with ThreadPoolExecutor(jobs) as pool:
+    pool = ThreadPoolExecutor(jobs)
+    try:
         for refused in pool.map(tried, refusals):
             sweep.refused.append(refused)
             watch(refused)
+    finally:
+        pool.shutdown(cancel_futures=True)
