@@ -126,9 +126,14 @@ def single(model: Model, asked: Asked, locality: int) -> Iterator[Change]:
     yield from device_changes.of_power(model)
 
 
-def double(model: Model, asked: Asked) -> Iterator[Change]:
-    """Yields changes of two things: whether an entity is protected, and its value or the lockout."""
-    firsts = list(entity_changes.protections(model, asked))
+def several(model: Model, asked: Asked) -> Iterator[Change]:
+    """Yields changes of two or three things: whether an entity, a session or a policy depends on a
+    protected value, and that value or the lockout.
+    """
+    protections = list(entity_changes.protections(model, asked))
+    demands = list(session_changes.demands(model, asked))
+    firsts = [*protections, *session_changes.bindings(model, asked), *demands]
+    firsts += [one.then(other) for one, other in itertools.product(demands, protections)]
     seconds = [*entity_changes.values(model, asked), *device_changes.of_protections(model, asked)]
     for first, second in itertools.product(firsts, seconds):
         yield first.then(second)
@@ -142,7 +147,7 @@ def tried(text: bytes, event: Event) -> Iterator[Found]:
     asked = Asked.of(event.buffer, model)
     unchanged = Change("", lambda it: None)
     changes = itertools.chain(
-        [unchanged], single(model, asked, event.locality), double(model, asked)
+        [unchanged], single(model, asked, event.locality), several(model, asked)
     )
     for change in changes:
         found = after(text, event, change)

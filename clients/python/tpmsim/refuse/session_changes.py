@@ -6,6 +6,7 @@ from typing import Any, Iterator
 
 from tpmsim.model.machine import HANDLE_KINDS, Model, PLACE_BITS
 from tpmsim.model.policy_state import Session
+from tpmsim.model.protection import TRIES
 from tpmsim.refuse.change import Asked, Change, hexed, OTHER_VALUE
 from tpmsim.standard import ALG_NULL, CC, digest, digest_bytes, policy, SE_HMAC, SE_POLICY
 from tpmsim.standard import SE_TRIAL
@@ -65,6 +66,29 @@ def of_keys(handle: int, session: Session) -> Iterator[Change]:
         yield on_session("has no cipher", handle, cipher=ALG_NULL, masks=None)
 
 
+def bound(handle: int, session: Session) -> Change:
+    """Returns the change after which a session is bound to a protected value, with another key."""
+    words = "is bound to a protected value"
+    key = digest(session.algorithm, OTHER_VALUE)
+    fields = {"is_bound": True, "key": key, "bind_auth": OTHER_VALUE, "bind_protection": TRIES}
+    return on_session(words, handle, **fields)
+
+
+def bindings(model: Model, asked: Asked) -> Iterator[Change]:
+    """Yields a change that binds each session of an entry to a protected value."""
+    for entry in asked.entries:
+        if entry.handle in model.sessions:
+            yield bound(entry.handle, model.sessions[entry.handle])
+
+
+def demands(model: Model, asked: Asked) -> Iterator[Change]:
+    """Yields a change after which each policy of an entry demands the authorization value."""
+    for entry in asked.entries:
+        if entry.handle in model.sessions and model.sessions[entry.handle].kind != SE_HMAC:
+            demand = policy.AUTH_VALUE
+            yield on_policy(f"demands the {demand}", entry.handle, demand=demand)
+
+
 def of_counter(handle: int) -> Change:
     """Returns the change after which the policy compares PCRs that have changed since."""
 
@@ -108,3 +132,4 @@ def of_sessions(model: Model, asked: Asked, locality: int) -> Iterator[Change]:
             yield from of_policy(handle, session, locality)
         yield from of_keys(handle, session)
         yield of_other_kind(handle, session)
+    yield from bindings(model, asked)
