@@ -159,6 +159,27 @@ class Sweeps(unittest.TestCase):
         ran = run(settings(client("right")), refusal)
         self.assertEqual((ran.status, ran.left, ran.trouble), (3, frozenset(), ""))
 
+    def test_a_name_is_another_from_the_start(self):
+        """An HMAC covers the Name, so that the index is locked before the client reads its Name."""
+        text = BEGIN.replace(
+            "tpm.reading(0x01000001, 4, by=0x40000001)", "tpm.reading(0x01000001, 4, session)"
+        ).replace("    try:", "    tpm.call('NV_ReadPublic', 0x01000001)\n    try:", 1)
+        knows = "    tpm.auth_values[0x01000001] = b'pin'\n"
+        text = text.replace("        pass", "        sys.exit(4)") + END
+        text = text.replace("    tpm.call('NV_ReadPublic'", f"{knows}    tpm.call('NV_ReadPublic'")
+        with Device(seed=b"sweep") as device:
+            tpm = Caller(device)
+            tpm.start_up()
+            public = area(0x01000001, "authread|authwrite|read_stclear", size=4)
+            index = tpm.define(public, auth=b"pin")
+            tpm.send(tpm.writing(index, b"data", b"pin"))
+            self.text.write_bytes(bytes(device.snapshot()))
+        words = "--from", self.text, "--only", "NV_Read:A2", "--", sys.executable, "-c", text
+        _, output, errors = main_of(*words)
+        self.assertEqual(errors, "")
+        self.assertIn("NV_Read A2 148 NV_LOCKED: 01000001 has READLOCKED from the start\n", output)
+        self.assertIn("    status 4\n", output)
+
     def test_another_client_is_not_refused(self):
         refusal = Refusal(0, "NV_Read", Met("A2", 0x148))
         ran = run(settings(client("right")), refusal)
@@ -260,7 +281,8 @@ class Plans(unittest.TestCase):
         self.assertEqual(planned(events, [Only.of("ReadClock")], None), every[4:])
         self.assertEqual(planned(events, [Only.of("ReadClock:G5")], None), every[4:5])
         self.assertEqual([it.met.code for it in every if it.is_faked], [*FAKED, *FAKED])
-        self.assertEqual(every[0], next(refusals_of(0, *events[0])))
+        start = events[0][0]
+        self.assertEqual(every[0], next(refusals_of(0, start, *events[0])))
 
 
 @unittest.skipUnless(library.is_there(), "there is no library")

@@ -2,6 +2,7 @@
 table.
 """
 
-from tpmsim.refuse.finding import Found, Met, rows_near, Unrefusable, Wanted
+from tpmsim.refuse.finding import Found, Met, rows_from_start, rows_near
+from tpmsim.refuse.finding import Unrefusable, Wanted
 
-__all__ = ["Found", "Met", "rows_near", "Unrefusable", "Wanted"]
+__all__ = ["Found", "Met", "rows_from_start", "rows_near", "Unrefusable", "Wanted"]

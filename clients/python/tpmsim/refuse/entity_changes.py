@@ -100,12 +100,12 @@ def index_names(handle: int, index: Index) -> Iterator[Change]:
     locks = nv.Attribute.WRITEDEFINE | nv.Attribute.WRITE_STCLEAR
     words = "has no attribute for a write lock"
     yield change_index(words, handle, with_attributes, cleared=locks)
-    for kind in nv.Type:
-        if kind != index.public.kind:
-            yield change_index(f"is of type {kind.name}", handle, typed, kind=kind)
     if index.public.kind == nv.Type.ORDINARY and index.public.data_size:
         for size in dict.fromkeys((index.public.data_size // 2, 0)):
             yield change_index(f"has {size} bytes", handle, resized, size=size)
+    for kind in nv.Type:
+        if kind != index.public.kind:
+            yield change_index(f"is of type {kind.name}", handle, typed, kind=kind)
     yield from index_policies(handle, index)
 
 

@@ -176,6 +176,36 @@ def rows_near(text: bytes, event: Event) -> list[Found]:
     return list(found.values())
 
 
+def authorized(text: bytes, event: Event, change: Change) -> Met:
+    """Returns the row that a command meets after a change, if the client knew the changed Names
+    when it computed its HMACs.
+    """
+    model, layer = state_text.open_state(text)
+    change.act(model)
+    setattr(model, "accepts", lambda *given: True)
+    return executed(model, layer, event)
+
+
+def rows_from_start(start: bytes, text: bytes, event: Event) -> list[Found]:
+    """Returns refusals that a command in the state `text` would meet if a Name had been another one
+    since the state `start`, where the client began. The text of each is the changed `start`. The
+    row is only expected, since the client may act otherwise.
+    """
+    asked = Asked.of(event.buffer, state_text.open_state(text)[0])
+    model, layer = state_text.open_state(start)
+    found = dict[Met, Found]()
+    for change in entity_changes.names(model, asked):
+        met = authorized(text, event, change)
+        if not met.is_refusal or met in found:
+            continue
+        changed, _ = state_text.open_state(start)
+        change.act(changed)
+        begun = state_text.state_text(changed, layer)
+        if state_text.fault_of(begun) is None:
+            found[met] = Found(f"{change.words} from the start", begun, met)
+    return list(found.values())
+
+
 def found(text: bytes, event: Event, wanted: Wanted) -> Found:
     """Returns the least change under which a command meets a row; raises Unrefusable if there is
     none.

@@ -4,7 +4,8 @@ First COMMAND runs as it is, with a device that it reaches, and each command tha
 recorded. Then COMMAND runs again for each command and each row of the table that this command can
 meet after a change of the device's state alone: an index is locked, a slot is taken, a session is
 gone, an authorization value is another. Before the command the state is changed so, and the device
-refuses. It stays changed until the run ends. Also RETRY, YIELDED and TESTING are answered once
+refuses. It stays changed until the run ends. If an HMAC covers a Name that the change affects, the
+state is changed from the start of the run, so that COMMAND knows the new Name. Also RETRY, YIELDED and TESTING are answered once
 instead of each command; these are marked as faked.
 """
 

@@ -4,10 +4,10 @@ met in a state near its own, and the warnings of the standard that this device n
 
 from __future__ import annotations
 
-from dataclasses import dataclass
-from typing import Iterable, Iterator
+from dataclasses import dataclass, field
+from typing import Iterator
 
-from tpmsim.refuse.finding import Event, Met, rows_near
+from tpmsim.refuse.finding import Event, Met, rows_from_start, rows_near
 from tpmsim.standard.frames import spelled_code
 
 # Warnings that a TPM may give at any time. They are faked: the command is not executed.
@@ -18,13 +18,15 @@ FAKED = {0x922: "RETRY", 0x908: "YIELDED", 0x90A: "TESTING"}
 @dataclass(frozen=True)
 class Refusal:
     """A refusal of one command of a run: the position of the command from 0, its name, the row that
-    it meets, and the change of the state, if the refusal is not faked.
+    it meets, and the change of the state, if the refusal is not faked. If the state is changed from
+    the start of the run, `start` is its text.
     """
 
     at: int
     name: str
     met: Met
     words: str = ""
+    start: bytes | None = field(default=None, repr=False)
 
     @property
     def is_faked(self) -> bool:
@@ -60,21 +62,26 @@ class Only:
         return self.name == refusal.name and self.check in ("", refusal.met.check)
 
 
-def refusals_of(at: int, text: bytes, event: Event) -> Iterator[Refusal]:
-    """Yields the refusals of a command that a client sent to a device in the state of `text`."""
-    for found in rows_near(text, event):
+def refusals_of(at: int, start: bytes, text: bytes, event: Event) -> Iterator[Refusal]:
+    """Yields the refusals of a command that a client sent to a device in the state of `text`, which
+    was in the state `start` when the client began.
+    """
+    near = rows_near(text, event)
+    for found in near:
         yield Refusal(at, event.name, found.met, found.words)
+    met = {it.met for it in near}
+    for found in rows_from_start(start, text, event):
+        if found.met not in met:
+            yield Refusal(at, event.name, found.met, found.words, found.text)
     for code in FAKED:
         yield Refusal(at, event.name, Met(FAKED_CHECK, code))
 
 
-def planned(
-    sent: Iterable[tuple[bytes, Event]], only: list[Only], limit: int | None
-) -> list[Refusal]:
+def planned(sent: list[tuple[bytes, Event]], only: list[Only], limit: int | None) -> list[Refusal]:
     """Returns the refusals to try, in the order of the commands."""
     found = list[Refusal]()
     for at, (text, event) in enumerate(sent):
         if not only or any(it.name == event.name for it in only):
-            found += refusals_of(at, text, event)
+            found += refusals_of(at, sent[0][0], text, event)
     chosen = [it for it in found if not only or any(each.allows(it) for each in only)]
     return chosen[:limit]

@@ -57,6 +57,8 @@ class SweptTpm:
     """
 
     def __init__(self, text: bytes, refusal: Refusal | None = None, keeps: bool = False) -> None:
+        if refusal is not None and refusal.start is not None:
+            text = refusal.start
         self.device = CompletingDevice(seed=SEED)
         self.device.restore(text)
         self.refusal, self.keeps = refusal, keeps
@@ -83,9 +85,19 @@ class SweptTpm:
                 self.trouble = f"the client sent {event.name}, and not {refusal.name}"
             elif refusal.is_faked:
                 return self.faked(event, refusal)
+            elif refusal.start is not None:
+                return self.refused_from_start(event, refusal)
             else:
                 self.change_for(event, refusal)
         return self.answered(event)
+
+    def refused_from_start(self, event: Event, refusal: Refusal) -> bytes:
+        """Executes a command that the changed state should refuse, and compares its row."""
+        response = self.answered(event)
+        met = self.sent[-1].met
+        self.is_met = met == refusal.met
+        self.trouble = "" if self.is_met else f"it meets {met}, and not {refusal.met}"
+        return response
 
     def faked(self, event: Event, refusal: Refusal) -> bytes:
         """Returns a refusal without executing the command."""
