@@ -1,5 +1,9 @@
 """Tests refusals on demand: each named change brings its row, and the proved device answers."""
 
+import contextlib
+import io
+import pathlib
+import re
 import tempfile
 import unittest
 
@@ -11,6 +15,8 @@ from tpmsim.model import state_text
 from tpmsim.refuse import rows_near, Unrefusable, Wanted
 from tpmsim.refuse.finding import Event, found, Met
 from tpmsim.standard import CC, RH_OWNER
+
+README = pathlib.Path(__file__).resolve().parents[1] / "README.md"
 
 # A command, a check, a code, and the words for the least change under which the example of the
 # command meets this row.
@@ -105,6 +111,14 @@ class Changes(unittest.TestCase):
 
 
 class RefuseNext(unittest.TestCase):
+    def test_readme(self):
+        """The README's example runs, and prints what its comments say."""
+        _, _, section = README.read_text("utf-8").partition("## Refusals on demand")
+        code, printed = section.split("```python\n")[1].split("```")[0], io.StringIO()
+        with contextlib.redirect_stdout(printed):
+            exec(code, {})
+        self.assertEqual(printed.getvalue().splitlines(), re.findall(r"  # (.*)", code))
+
     def test_the_device_stays_changed(self):
         for made in Device, ModelDevice:
             with self.subTest(made.__name__), made() as device:

@@ -5,8 +5,8 @@ recorded. Then COMMAND runs again for each command and each row of the table tha
 meet after a change of the device's state alone: an index is locked, a slot is taken, a session is
 gone, an authorization value is another. Before the command the state is changed so, and the device
 refuses. It stays changed until the run ends. If an HMAC covers a Name that the change affects, the
-state is changed from the start of the run, so that COMMAND knows the new Name. Also RETRY, YIELDED and TESTING are answered once
-instead of each command; these are marked as faked.
+state is changed from the start of the run, so that COMMAND knows the new Name. Also RETRY, YIELDED
+and TESTING are answered once instead of each command; these are marked as faked.
 """
 
 from __future__ import annotations
