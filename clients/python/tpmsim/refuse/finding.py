@@ -10,7 +10,8 @@ from typing import Iterator
 
 from tpmsim.faults import TpmsimError
 from tpmsim.model import image, state_text
-from tpmsim.model.completion import Completion
+from tpmsim.model.completion import Completion, CONTEXT_LOAD, CONTEXT_SAVE, STIR_RANDOM
+from tpmsim.model.general import HEADER_CHECKS
 from tpmsim.model.machine import Model
 from tpmsim.refuse import device_changes, entity_changes, session_changes
 from tpmsim.refuse.change import Asked, Change
@@ -18,6 +19,9 @@ from tpmsim.standard import frames, NUMBERED
 
 # The check of a response that the completing layer makes itself.
 LAYER = "layer"
+
+# Commands that only the completing layer has, by the names in Part 3.
+LAYER_NAMES = {STIR_RANDOM: "StirRandom", CONTEXT_LOAD: "ContextLoad", CONTEXT_SAVE: "ContextSave"}
 
 
 class Unrefusable(TpmsimError):
@@ -59,9 +63,10 @@ class Event:
 
 
 def name_of(buffer: bytes) -> str:
-    """Returns the name of a buffer's command; its number in hex if the device does not have it."""
+    """Returns the name of a buffer's command; its number in hex if it is unknown here."""
     number = int.from_bytes(buffer[6:10], "big")
-    return NUMBERED[number].name if number in NUMBERED else f"{number:08x}"
+    own = NUMBERED[number].name if number in NUMBERED else f"{number:08x}"
+    return LAYER_NAMES.get(number, own)
 
 
 @dataclass(frozen=True)
@@ -168,10 +173,13 @@ def after(text: bytes, event: Event, change: Change) -> Found | None:
 
 
 def rows_near(text: bytes, event: Event) -> list[Found]:
-    """Returns each refusal that a command would meet after a change, with the least such change."""
+    """Returns each refusal that a command would meet after a change, with the least such change. A
+    refusal of the header does not depend on the state, except of a command of the completing layer,
+    which a device that is not started does not know.
+    """
     found = dict[Met, Found]()
     for it in tried(text, event):
-        if it.met.is_refusal and it.words:
+        if it.met.is_refusal and it.words and it.met.check not in HEADER_CHECKS:
             found.setdefault(it.met, it)
     return list(found.values())
 

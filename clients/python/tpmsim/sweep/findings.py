@@ -8,9 +8,9 @@ from tpmsim.sweep.refusals import Refusal
 from tpmsim.sweep.runs import Ran
 from tpmsim.sweep.tpm import sessions_in
 
-# Commands that a client sends to clean up. TPM2_ContextSave has no name in the device.
+# Commands that a client sends to clean up.
 FLUSH = "FlushContext"
-CLEANING = FLUSH, "00000162"
+CLEANING = FLUSH, "ContextSave"
 
 # The check that refuses every command until TPM2_Startup.
 NOT_STARTED = "G5"
@@ -42,10 +42,11 @@ def recovers(ran: Ran, at: int, name: str) -> bool:
 
 def goes_on(ran: Ran, base: Ran, at: int) -> bool:
     """Returns whether the client sent the commands that follow in its run without a refusal, and
-    not only those that clean up.
+    one of them was accepted that does not only clean up.
     """
     after, wanted = ran.names[at + 1 :], base.names[at + 1 :]
-    return wanted[: len(after)] == after and any(it not in CLEANING for it in after)
+    accepted = [it.name for it in ran.sent[at + 1 :] if not it.met.is_refusal]
+    return wanted[: len(after)] == after and any(it not in CLEANING for it in accepted)
 
 
 def can_clean(ran: Ran, refusal: Refusal) -> bool:

@@ -19,6 +19,7 @@ from typing import NoReturn
 from tpmsim.caller import Caller
 from tpmsim.device import BadImage, BadState, Device, DeviceEnded, KeptDevice
 from tpmsim.faults import TpmsimError
+from tpmsim.refuse.finding import LAYER_NAMES
 from tpmsim.standard import CC
 from tpmsim.sweep import page, report
 from tpmsim.sweep.refusals import Only, planned
@@ -61,7 +62,7 @@ Findings:
   dies                           a signal ends COMMAND, though not without the refusal
   hangs                          COMMAND does not end in time
   success although refused       the status is 0, and the command was not sent again with success
-  goes on as if nothing had been COMMAND sends what it sends unrefused, and not only to clean up
+  goes on as if nothing had been COMMAND sends what it sends unrefused, with success
   leaves a session loaded        more sessions than unrefused; or, unrefused, any session at all
   leaves an object loaded        more transient objects than unrefused
 
@@ -108,7 +109,7 @@ def natural(word: str) -> int:
 def only_of(word: str) -> Only:
     """Returns the limit to a command; raises ValueError if the device has no such command."""
     only = Only.of(word)
-    if only.name not in CC.__members__:
+    if only.name not in (*CC.__members__, *LAYER_NAMES.values()):
         raise ValueError
     return only
 
