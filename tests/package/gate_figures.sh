@@ -4,7 +4,7 @@ tests=$(cd "$(dirname "$0")/.." && pwd -P)
 . "$tests/common/cases.sh"
 needs git python3
 top=${tests%/*}
-git -C "$top" rev-parse -q --verify HEAD >head 2>&1 || skip 'there is no clone of the repository'
+git -C "$top" rev-parse -q --verify HEAD >revision 2>&1 || skip 'there is no clone of the repository'
 [ "$(git -C "$top" rev-parse --is-shallow-repository)" = false ] || skip 'there is no history in this clone'
 
 # figures FILE: checks figures, and prints what is wrong.
