@@ -12,7 +12,8 @@ chmod +x none/cc
 (cd "$top" && tar cf - --exclude=out --exclude=must-fail --exclude=__pycache__ CHANGELOG.md Makefile \
     README.md HANDLES crates/tpmsim crates/tpmsim_library crates.txt hosts dist \
     crates/tpm_journal_text/src/head.rt tests/__init__.py tests/made.sums tests/common \
-    docs examples clients/c clients/python/packing clients/python/pyproject.toml clients/python/tpmsim \
+    docs examples clients/c clients/python/README.md clients/python/packing clients/python/pyproject.toml \
+    clients/python/tpmsim \
     clients/js/package.json clients/rust/Cargo.toml tools tpmsim .gitignore) |
     tar xf - -C copy
 cd copy || exit 1
