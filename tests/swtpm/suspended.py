@@ -17,7 +17,9 @@ import sys
 import tempfile
 from typing import Any, Iterator
 
-sys.path.insert(0, str(pathlib.Path(__file__).resolve().parents[2] / "clients" / "python" / "tests"))
+sys.path.insert(
+    0, str(pathlib.Path(__file__).resolve().parents[2] / "clients" / "python" / "tests")
+)
 
 from completed_scripts import Scripts  # noqa: E402
 from tests.at_random import random_script  # noqa: E402
