@@ -7,11 +7,11 @@
 #   make hosts                      builds the modules for libtss2 and swtpm, and the simulator, in out/
 #   make install PREFIX=/usr/local  installs the contents of dist/; DESTDIR is a folder that precedes PREFIX
 #   make deb                        makes the package for Debian in out/; make deb-arm64 makes it for ARM64
-#   make crate, make wheel          make the packages for Rust and Python in out/
+#   make crate, make wheel, make go make the packages for Rust, Python and Go in out/
 PREFIX = /usr/local
 DESTDIR =
 
-.PHONY: check dist dist-arm64 dist-web hosts install deb deb-arm64 crate wheel
+.PHONY: check dist dist-arm64 dist-web hosts install deb deb-arm64 crate wheel go
 
 check:
 	tools/before_commit.sh
@@ -48,3 +48,6 @@ crate:
 
 wheel:
 	tools/wheel.py
+
+go:
+	tools/go_module.py

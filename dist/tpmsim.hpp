@@ -11,13 +11,22 @@
 #ifndef TPMSIM_HPP
 #define TPMSIM_HPP
 
+#if __cplusplus < 201703L
+#error "tpmsim.hpp needs C++17 or later: compile with -std=c++17"
+#else
+
 #include "tpmsim.h"
+#if __has_include("tpmsim_names.h")
+#include "tpmsim_names.h"
+#endif
 #include <array>
 #include <cerrno>
+#include <chrono>
 #include <cstddef>
 #include <cstdint>
 #include <functional>
 #include <iterator>
+#include <limits>
 #include <optional>
 #include <stdexcept>
 #include <string>
@@ -30,9 +39,10 @@
 
 namespace libtpmsim {
 
-/* What a call returns: a number of tpmsim_told, or NO_RANDOM if the system has no random bytes. */
+/* What a call returns: a number of tpmsim_told; NO_RANDOM if the system has no random bytes; or NO_TIME
+   if more than 4,294,967,295 milliseconds would pass before a command. */
 using Told = std::uint8_t;
-inline constexpr Told NO_RANDOM = 255;
+inline constexpr Told NO_RANDOM = 255, NO_TIME = 254;
 
 /* Returns the name that tpmsim.h gives to the result of a call. */
 inline std::string name_of(Told told) {
@@ -42,7 +52,8 @@ inline std::string name_of(Told told) {
         "NO_JOURNAL",    "DAMAGED",       "OTHERWISE",    "STATE_SHORT",  "STATE_MAGIC",
         "STATE_VERSION", "STATE_LENGTH",  "STATE_DIGEST", "STATE_BODY",   "NO_WORD",
         "NO_ANSWER",     "STATE_EARLIER"};
-    return std::string("TPMSIM_") + (told < std::size(names) ? names[told] : "NO_RANDOM");
+    if (told < std::size(names)) return std::string("TPMSIM_") + names[told];
+    return told == NO_TIME ? "TPMSIM_NO_TIME" : "TPMSIM_NO_RANDOM";
 }
 
 #ifdef __cpp_exceptions
@@ -75,9 +86,98 @@ inline constexpr std::array<std::uint8_t, 12> startup{0x80, 1, 0, 0, 0, 12, 0, 0
 struct Response {
     std::vector<std::uint8_t> bytes; /* the whole response; empty if nothing was executed */
     std::uint32_t code = 0;          /* the response code, TPM_RC; 0 if the command was accepted */
-    std::uint32_t command = 0;       /* the command code, TPM_CC; 0 if the buffer contains none */
+    std::uint32_t command = 0;       /* the command code, TPM_CC, of any command; 0 if the buffer contains none */
     std::string check;               /* "ok", or the check that refused, such as "G9" in docs/table */
 };
+
+/* Returns bytes in hex. */
+inline std::string hex_of(Bytes bytes) {
+    static constexpr char digits[] = "0123456789abcdef";
+    std::string text;
+    for (std::size_t at = 0; at < bytes.size(); at++) {
+        text += digits[bytes.data()[at] >> 4];
+        text += digits[bytes.data()[at] & 15];
+    }
+    return text;
+}
+
+/* Returns a refusal in words, such as "GetRandom: INITIALIZE (100), by G5". Without tpmsim_names.h, the
+   words are numbers. */
+inline std::string words_of(const Response &response) {
+#ifdef TPMSIM_NAMES_H
+    char code[TPMSIM_CODE_TEXT_SIZE];
+    return std::string(tpmsim_command_name(response.command)) + ": " +
+           tpmsim_code_text(response.code, code) + ", by " + response.check;
+#else
+    const auto word = [](std::uint32_t number) {
+        const std::array<std::uint8_t, 2> bytes{static_cast<std::uint8_t>(number >> 8 & 0xff),
+                                                static_cast<std::uint8_t>(number & 0xff)};
+        return hex_of(bytes);
+    };
+    return "command " + word(response.command) + ": code " + word(response.code) + ", by " + response.check;
+#endif
+}
+
+#ifdef __cpp_exceptions
+/* What `accepted` throws: the refusal of a command. */
+struct Refusal : std::runtime_error {
+    Response response;
+    explicit Refusal(Response it) : runtime_error(words_of(it)), response(std::move(it)) {}
+};
+#endif
+
+/* The first 256 bytes of SHAKE256 (FIPS 202) of a text. */
+inline std::array<std::uint8_t, 256> shake256(const std::string &text) {
+    static constexpr std::uint64_t constants[] = {
+        0x0000000000000001, 0x0000000000008082, 0x800000000000808a, 0x8000000080008000,
+        0x000000000000808b, 0x0000000080000001, 0x8000000080008081, 0x8000000000008009,
+        0x000000000000008a, 0x0000000000000088, 0x0000000080008009, 0x000000008000000a,
+        0x000000008000808b, 0x800000000000008b, 0x8000000000008089, 0x8000000000008003,
+        0x8000000000008002, 0x8000000000000080, 0x000000000000800a, 0x800000008000000a,
+        0x8000000080008081, 0x8000000000008080, 0x0000000080000001, 0x8000000080008008};
+    /* The steps rho and pi, lane by lane: the target of each lane. The number of bits is 1, 3, 6, 10, .. */
+    static constexpr std::size_t targets[] = {10, 7,  11, 17, 18, 3, 5,  16, 8,  21, 24, 4,
+                                              15, 23, 19, 13, 12, 2, 20, 14, 22, 9,  6,  1};
+    static constexpr std::size_t rate = 136;
+    std::array<std::uint64_t, 25> lanes{};
+    const auto turn = [](std::uint64_t lane, unsigned bits) {
+        return bits == 0 ? lane : lane << bits | lane >> (64 - bits);
+    };
+    const auto add = [&lanes](std::size_t at, unsigned byte) {
+        lanes[at / 8] ^= std::uint64_t{byte} << (at % 8 * 8);
+    };
+    const auto permute = [&lanes, turn] {
+        for (const std::uint64_t constant : constants) {
+            std::array<std::uint64_t, 5> parity{};
+            for (std::size_t at = 0; at < 25; at++) parity[at % 5] ^= lanes[at];
+            for (std::size_t at = 0; at < 25; at++)
+                lanes[at] ^= parity[(at + 4) % 5] ^ turn(parity[(at + 1) % 5], 1);
+            std::uint64_t moved = lanes[1];
+            for (unsigned step = 0; step < 24; step++)
+                moved = std::exchange(lanes[targets[step]], turn(moved, (step + 1) * (step + 2) / 2 % 64));
+            for (std::size_t row = 0; row < 25; row += 5) {
+                std::array<std::uint64_t, 5> before;
+                for (std::size_t x = 0; x < 5; x++) before[x] = lanes[row + x];
+                for (std::size_t x = 0; x < 5; x++)
+                    lanes[row + x] ^= ~before[(x + 1) % 5] & before[(x + 2) % 5];
+            }
+            lanes[0] ^= constant;
+        }
+    };
+    for (std::size_t at = 0; at < text.size(); at++) {
+        add(at % rate, static_cast<std::uint8_t>(text[at]));
+        if (at % rate == rate - 1) permute();
+    }
+    add(text.size() % rate, 0x1f);
+    add(rate - 1, 0x80);
+    permute();
+    std::array<std::uint8_t, 256> out;
+    for (std::size_t at = 0; at < out.size(); at++) {
+        if (at == rate) permute();
+        out[at] = static_cast<std::uint8_t>(lanes[at % rate / 8] >> (at % rate % 8 * 8));
+    }
+    return out;
+}
 
 /* A source of random bytes: fills this many bytes, and returns whether it succeeded. */
 using Random = std::function<bool(std::uint8_t *, std::size_t)>;
@@ -93,10 +193,24 @@ inline bool system_random(std::uint8_t *start, std::size_t size) {
     return true;
 }
 
+/* The random bytes of a device from a seed, which are the same in Rust, Go, Python and JavaScript: those of the new
+   device are SHAKE256 of the seed, and those of command N are SHAKE256 of the seed and N in decimal. */
+class Seed {
+    std::string text;
+    std::uint64_t count = 0;
+
+  public:
+    explicit Seed(std::string it) : text(std::move(it)) {}
+    std::array<std::uint8_t, 256> of_device() const { return shake256(text); }
+    std::array<std::uint8_t, 256> next() { return shake256(text + std::to_string(++count)); }
+};
+
 class Device {
     tpmsim holder{};
     Random random;
     std::array<std::uint8_t, 256> drawable{}; /* the random bytes that the next command may draw */
+    std::optional<Seed> seed;
+    std::optional<std::string> lines; /* the log */
 
     explicit Device(Random source) : random(std::move(source)) {}
     bool draw(std::size_t count) { return random(drawable.data(), count); }
@@ -111,14 +225,29 @@ class Device {
         if (told == TPMSIM_DONE && !device.draw(256)) told = NO_RANDOM;
         return told == TPMSIM_DONE ? std::optional(std::move(device)) : std::nullopt;
     }
-    template <class Call> Response executed(Call call, Bytes buffer, Told &told) {
+    /* Begins the log with the state and the circumstances of the next command. */
+    void log_state() {
+        if (!lines) return;
+        lines = "# state " + hex_of(snapshot()) + "\n";
+    }
+    void log_command(bool completes, Bytes buffer, Bytes drawn, Bytes response) {
+        if (!lines) return;
+        if (completes) *lines += "# completed\n";
+        *lines += "loc " + std::to_string(locality) + "\n";
+        if (elapsed_ms) *lines += "wait " + std::to_string(elapsed_ms) + "\n";
+        if (drawn.size()) *lines += "entropy " + hex_of(drawn) + "\n";
+        *lines += "cmd " + hex_of(buffer) + "\n# " + hex_of(response) + "\n";
+    }
+    template <class Call> Response executed(Call call, bool completes, Bytes buffer, Told &told) {
         std::array<std::uint8_t, 4096> out;
         tpmsim_answered answered;
+        if (seed) drawable = seed->next();
         told = call(&holder, start_of(buffer), buffer.size(), locality, elapsed_ms, drawable.data(),
                     out.data(), &answered);
         if (told != TPMSIM_DONE) return {};
+        log_command(completes, buffer, {drawable.data(), answered.drawn}, {out.data(), answered.size});
         elapsed_ms = 0;
-        if (!draw(answered.drawn)) { /* without new bytes, the next command would draw these again */
+        if (!seed && !draw(answered.drawn)) { /* without new bytes, the next command would draw these again */
             told = NO_RANDOM;
             tpmsim_free(&holder);
         }
@@ -126,7 +255,10 @@ class Device {
         for (std::size_t at = 6; at < 10; at++) code = code << 8 | out[at];
         char check[5];
         tpmsim_check_text(answered.check, check);
-        return {{out.data(), out.data() + answered.size}, code, answered.code, check};
+        std::uint32_t command = answered.code;
+        for (std::size_t at = 6; answered.code == 0 && buffer.size() >= 10 && at < 10; at++)
+            command = command << 8 | buffer.data()[at];
+        return {{out.data(), out.data() + answered.size}, code, command, check};
     }
     template <class Call> std::vector<std::uint8_t> written(Call call) {
         std::vector<std::uint8_t> text(TPMSIM_STATE_SIZE);
@@ -140,11 +272,14 @@ class Device {
 
     Device(Device &&other) noexcept
         : holder(std::exchange(other.holder, {})), random(std::move(other.random)),
-          drawable(other.drawable), locality(other.locality), elapsed_ms(other.elapsed_ms) {}
+          drawable(other.drawable), seed(std::move(other.seed)), lines(std::move(other.lines)),
+          locality(other.locality), elapsed_ms(other.elapsed_ms) {}
     Device &operator=(Device other) noexcept {
         std::swap(holder, other.holder);
         std::swap(random, other.random);
         std::swap(drawable, other.drawable);
+        std::swap(seed, other.seed);
+        std::swap(lines, other.lines);
         std::swap(locality, other.locality);
         std::swap(elapsed_ms, other.elapsed_ms);
         return *this;
@@ -163,14 +298,43 @@ class Device {
             return tpmsim_open(&device.holder, start_of(image), image.size());
         });
     }
-    Response execute(Bytes buffer, Told &told) { return executed(tpmsim_execute, buffer, told); }
+    /* Makes a new device from a seed: its secrets and random bytes are the same in each run. */
+    static std::optional<Device> from_seed(Told &told, std::string seed) {
+        Device device((Random(system_random)));
+        device.seed.emplace(std::move(seed));
+        device.drawable = device.seed->of_device();
+        told = tpmsim_manufacture(&device.holder, device.drawable.data());
+        return told == TPMSIM_DONE ? std::optional(std::move(device)) : std::nullopt;
+    }
+    Response execute(Bytes buffer, Told &told) { return executed(tpmsim_execute, false, buffer, told); }
     /* Executes a command with the completing layer above the device. */
-    Response complete(Bytes buffer, Told &told) { return executed(tpmsim_complete, buffer, told); }
-    /* Restores the device from a state text. */
+    Response complete(Bytes buffer, Told &told) { return executed(tpmsim_complete, true, buffer, told); }
+    /* Restores the device from a state text. The log begins again. */
     void restore(Bytes text, Told &told) {
         told = tpmsim_restore(&holder, start_of(text), text.size());
+        if (told == TPMSIM_DONE) log_state();
     }
-    void power_cycle() { tpmsim_power_cycle(&holder); }
+    void power_cycle() {
+        tpmsim_power_cycle(&holder);
+        if (lines) *lines += "power\n";
+    }
+    /* Sets the locality of the next commands, 0 to 4. */
+    void set_locality(unsigned number, Told &told) {
+        told = number > 4 ? Told{TPMSIM_NO_LOCALITY} : Told{TPMSIM_DONE};
+        if (told == TPMSIM_DONE) locality = static_cast<std::uint8_t>(number);
+    }
+    /* Lets time pass before the next command. The call returns at once: it only advances the device's time. */
+    void wait(std::chrono::milliseconds time, Told &told) {
+        const auto most = std::numeric_limits<std::uint32_t>::max() - elapsed_ms;
+        told = time.count() < 0 || time.count() > std::int64_t{most} ? NO_TIME : Told{TPMSIM_DONE};
+        if (told == TPMSIM_DONE) elapsed_ms += static_cast<std::uint32_t>(time.count());
+    }
+    /* Begins a log from the current state. `log` returns it, for tpmsim-explain; it contains all secrets. */
+    void begin_log() {
+        lines.emplace();
+        log_state();
+    }
+    std::string log() const { return lines.value_or(std::string()); }
     std::vector<std::uint8_t> save() { return written(tpmsim_save); }         /* the image */
     std::vector<std::uint8_t> snapshot() { return written(tpmsim_snapshot); } /* the state text */
 
@@ -191,6 +355,22 @@ class Device {
     static Device open(Bytes image) {
         return *or_throw([&](Told &told) { return open(image, told); });
     }
+    static Device from_seed(std::string seed) {
+        return *or_throw([&](Told &told) { return from_seed(told, seed); });
+    }
+    /* Executes a command, and returns the bytes after the header of its response. Throws a Refusal if the device
+       refuses the command. */
+    std::vector<std::uint8_t> accepted(Bytes buffer) {
+        Response response = execute(buffer);
+        if (response.code != 0) throw Refusal(std::move(response));
+        return {response.bytes.begin() + 10, response.bytes.end()};
+    }
+    void set_locality(unsigned number) {
+        or_throw([&](Told &told) { return set_locality(number, told), 0; });
+    }
+    void wait(std::chrono::milliseconds time) {
+        or_throw([&](Told &told) { return wait(time, told), 0; });
+    }
     Response execute(Bytes buffer) {
         return or_throw([&](Told &told) { return execute(buffer, told); });
     }
@@ -205,4 +385,5 @@ class Device {
 
 } // namespace libtpmsim
 
+#endif
 #endif

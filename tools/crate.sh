@@ -19,12 +19,20 @@ work=$(mktemp -d) || exit 1
 trap 'rm -rf "$work"' EXIT
 PATH=$PATH:${HOME:-/root}/.cargo/bin
 command -v cargo >"$work/found" || fail 'there is no cargo'
+
+# copy_libraries FOLDER MACHINE: copies the libraries in FOLDER to where the package of MACHINE looks for them.
+copy_libraries() {
+    mkdir -p "$work/rust/native/$2" &&
+        cp "$1/libtpmsim.a" "$1/libtpmsim.so.0" "$1/libtpmsim-kept.so.0" "$work/rust/native/$2/"
+}
+
 # Cargo writes files next to those that it reads. Therefore it runs in a copy of the package, which contains the
-# library for each machine.
-mkdir -p "$work/rust/native/x86_64" "$work/rust/native/aarch64" || fail 'there is no folder for a copy'
-{ (cd clients/rust && cp -r Cargo.toml README.md build.rs examples src tests "$work/rust/") &&
-    cp dist/libtpmsim.a "$work/rust/native/x86_64/" &&
-    cp dist/aarch64/libtpmsim.a "$work/rust/native/aarch64/"; } || fail 'the package is not copied'
+# libraries for each machine.
+mkdir "$work/rust" || fail 'there is no folder for a copy'
+(cd clients/rust && cp -r Cargo.toml README.md build.rs examples src tests "$work/rust/") ||
+    fail 'the package is not copied'
+copy_libraries dist x86_64 || fail 'the libraries for x86-64 are not copied'
+copy_libraries dist/aarch64 aarch64 || fail 'the libraries for ARM64 are not copied'
 unset TPMSIM_LIB_DIR
 (cd "$work/rust" && cargo package --offline --allow-dirty --target-dir "$work/target") \
     >"$work/said" 2>&1 || fail 'cargo makes no package'

@@ -17,7 +17,7 @@ sys.path[:0] = [str(PYTHON), str(PYTHON / "tests")]
 
 import house  # noqa: E402
 import table_rules  # noqa: E402
-from tpmsim.standard import CC  # noqa: E402
+from tpmsim.standard.command_names import NAMES  # noqa: E402
 from tpmsim.standard.frames import CODES  # noqa: E402
 
 GO = """\
@@ -30,9 +30,21 @@ package tpmsim
 var codes = map[Code]string{
 %s}
 
-// commands maps the codes of the implemented commands to their names (Part 2, section 6.5.2).
+// commands maps the codes of all commands, implemented or not, to their names (Part 2, section
+// 6.5.2).
 var commands = map[uint32]string{
 %s}
+"""
+
+JAVASCRIPT = """\
+// The names of commands. tools/generated.py writes this file; do not change it.
+
+/**
+ * The codes of all commands, implemented or not, and their names (TPM 2.0 Library, Part 2, section 6.5.2).
+ * @type {Map<number, string>}
+ */
+export const COMMANDS = new Map([
+%s]);
 """
 
 RUST = """\
@@ -44,27 +56,77 @@ RUST = """\
 pub(crate) const CODES: &[(u32, &str)] = &[
 %s];
 
-/// The codes of the implemented commands, and their names (Part 2, section 6.5.2).
+/// The codes of all commands, implemented or not, and their names (Part 2, section 6.5.2).
 pub(crate) const COMMANDS: &[(u32, &str)] = &[
 %s];
+"""
+
+C = """\
+/* The names of response codes and of commands (TPM 2.0 Library, Part 2, sections 6.6.3 and 6.5.2), without TPM_RC_ and
+   TPM2_. tools/generated.py writes this file; do not change it. */
+#ifndef TPMSIM_NAMES_H
+#define TPMSIM_NAMES_H
+
+#include <stdint.h>
+#include <stdio.h>
+
+/* The size of a buffer for tpmsim_code_text. */
+enum { TPMSIM_CODE_TEXT_SIZE = 40 };
+
+/* Returns the name of a response code without the handle, parameter or session to which it refers, such as
+   "AUTH_FAIL" for 0x98e; or "unknown" for a code that tpmsim never returns. */
+static inline const char *tpmsim_code_name(uint32_t code) {
+    switch (code & 0x080 ? code & 0x0bf : code) {
+    case 0x000: return "SUCCESS";
+%s    default: return "unknown";
+    }
+}
+
+/* Writes a response code as text, such as "AUTH_FAIL/s1 (98E)", and returns the text. */
+static inline const char *tpmsim_code_text(uint32_t code, char text[TPMSIM_CODE_TEXT_SIZE]) {
+    const char *name = tpmsim_code_name(code);
+    unsigned number = (unsigned)code, place = number >> 8 & 0xf;
+
+    if (number == 0)
+        snprintf(text, TPMSIM_CODE_TEXT_SIZE, "%%s", name);
+    else if (!(number & 0x080) || number < 0x100)
+        snprintf(text, TPMSIM_CODE_TEXT_SIZE, "%%s (%%03X)", name, number);
+    else if (number & 0x040)
+        snprintf(text, TPMSIM_CODE_TEXT_SIZE, "%%s/p%%u (%%03X)", name, place, number);
+    else
+        snprintf(text, TPMSIM_CODE_TEXT_SIZE, "%%s/%%c%%u (%%03X)", name, place & 8 ? 's' : 'h', place & 7, number);
+    return text;
+}
+
+/* Returns the name of a command, implemented or not, such as "RSA_Decrypt" for 0x159; or "unknown command". */
+static inline const char *tpmsim_command_name(uint32_t command) {
+    switch (command) {
+%s    default: return "unknown command";
+    }
+}
+
+#endif
 """
 
 
 def names(text: str, entry: str) -> str:
     """Returns the names of response codes and of commands, in a text with a place for each of the
-    two lists, whose entries have this form.
+    two lists, whose entries have this form. A text with one place has only the names of commands.
     """
     codes = {number: name for name, number in CODES.items()}
-    commands = {int(it): it.name for it in CC}
+    commands = {number: name for number, name in NAMES.items() if number < 0x1000}
     lists = [
         "".join(entry % it + "\n" for it in sorted(table.items())) for table in (codes, commands)
     ]
-    return text % tuple(lists)
+    return text % tuple(lists[-text.count("\n%s") :])
 
 
 # Each file, and the function that makes it.
 FILES: dict[str, Callable[[], str]] = {
+    "clients/c/tpmsim_names.h": lambda: names(C, '    case 0x%03x: return "%s";'),
     "clients/go/names.go": lambda: names(GO, '\t0x%03x: "%s",'),
+    "clients/js/src/names.js": lambda: names(JAVASCRIPT, '  [0x%03x, "%s"],'),
+    "clients/python/tpmsim/explain/codes.json": table_rules.codes_text,
     "clients/python/tpmsim/explain/rules.json": table_rules.text,
     "clients/rust/src/names.rs": lambda: names(RUST, '    (0x%03x, "%s"),'),
     "docs/house.svg": house.picture,
@@ -81,6 +143,9 @@ def make_all(folder: pathlib.Path) -> list[str]:
 
 
 if __name__ == "__main__":
-    if len(sys.argv) != 2:
-        sys.exit("usage: tools/generated.py FOLDER")
+    if "--help" in sys.argv[1:]:
+        print((__doc__ or "").strip())
+        sys.exit()
+    if len(sys.argv) != 2 or sys.argv[1].startswith("-"):
+        sys.exit("usage: tools/generated.py FOLDER; see tools/generated.py --help")
     print(*make_all(pathlib.Path(sys.argv[1])), sep="\n")

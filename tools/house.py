@@ -7,6 +7,7 @@ colour shows its group, which is a heading of crates.txt.
 """
 
 import re
+import sys
 from dataclasses import dataclass
 from html import escape
 from pathlib import Path
@@ -120,4 +121,4 @@ def picture() -> str:
 
 
 if __name__ == "__main__":
-    print(picture(), end="")
+    print((__doc__ or "").strip() + "\n" if "--help" in sys.argv[1:] else picture(), end="")

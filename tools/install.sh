@@ -78,10 +78,28 @@ put_library() {
     put 644 dist/tpmsim.h include/tpmsim.h
     put 644 hosts/kept/tpmsim_kept.h include/tpmsim_kept.h
     put 644 dist/tpmsim.hpp include/tpmsim.hpp
+    for header in tpmsim_log.h tpmsim_names.h; do
+        put 644 "clients/c/$header" "include/$header"
+    done
     # shellcheck disable=SC2016 # pkg-config expands the variables
-    sed -e "1iprefix=$prefix\nincludedir=\${prefix}/include\nlibdir=\${prefix}/$libraries\n" \
-        -e 's/-I[$]{pcfiledir}/-I${includedir}/' -e 's/-L[$]{pcfiledir}/-L${libdir}/' \
-        dist/tpmsim.pc >"$work/tpmsim.pc" && put 644 "$work/tpmsim.pc" "$libraries/pkgconfig/tpmsim.pc"
+    for file in tpmsim.pc tpmsim-kept.pc; do
+        sed -e "1iprefix=$prefix\nincludedir=\${prefix}/include\nlibdir=\${prefix}/$libraries\n" \
+            -e 's/-I[$]{pcfiledir}/-I${includedir}/' -e 's/-L[$]{pcfiledir}/-L${libdir}/' \
+            "clients/c/$file" >"$work/$file" && put 644 "$work/$file" "$libraries/pkgconfig/$file"
+    done
+    put_cmake
+}
+
+# put_cmake: installs the files with which CMake finds the library. Their paths are relative, so that a copy of the
+# installation works too.
+put_cmake() {
+    version=$(sed -n 's/^Version: //p' clients/c/tpmsim.pc)
+    minor=${version#*.}
+    includes=$(realpath -ms "--relative-to=/$libraries/cmake/tpmsim" /include)
+    for file in tpmsimConfig.cmake tpmsimConfigVersion.cmake; do
+        sed -e "s|@INCLUDES@|$includes|; s|@VERSION@|$version|; s|@MAJOR@|${version%%.*}|; s|@MINOR@|${minor%%.*}|" \
+            "tools/packaging/$file" >"$work/$file" && put 644 "$work/$file" "$libraries/cmake/tpmsim/$file"
+    done
 }
 
 put_modules() {
@@ -147,11 +165,15 @@ put_documents() {
         link tpmsim "share/bash-completion/completions/tpmsim-$tool"
     done
     put 644 tools/packaging/_tpmsim "$functions/_tpmsim"
+    put 644 tools/packaging/tpmsim.fish share/fish/vendor_completions.d/tpmsim.fish
     put 644 "$proved" share/doc/tpmsim/PROVED
     tools/man/documents.py "${DESTDIR:-}" "$prefix/share/doc/tpmsim" \
         "dist/PROVED=$prefix/share/doc/tpmsim/PROVED" "dist/tpmsim.h=$prefix/include/tpmsim.h" \
         "clients/c/tpmsim.h=$prefix/include/tpmsim.h" "dist/tpmsim.hpp=$prefix/include/tpmsim.hpp" \
         "clients/c/tpmsim.hpp=$prefix/include/tpmsim.hpp" \
+        "clients/c/tpmsim_log.h=$prefix/include/tpmsim_log.h" \
+        "clients/c/tpmsim_names.h=$prefix/include/tpmsim_names.h" \
+        "hosts/kept/tpmsim_kept.h=$prefix/include/tpmsim_kept.h" \
         "dist/tpmsim.pc=$prefix/$libraries/pkgconfig/tpmsim.pc" || fail 'the documents are not written'
 }
 

@@ -48,6 +48,9 @@ def listed() -> str:
 
 def main() -> int:
     """Compares the list with the document, or writes it."""
+    if "--help" in sys.argv[1:]:
+        print((__doc__ or "").strip())
+        return 0
     page = PAGE.read_text()
     before, rest = page.split(BEGIN)
     after = rest.split(END)[1]

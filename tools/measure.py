@@ -7,8 +7,8 @@ It writes no figures if the gate failed, or if `rt ci` took a proof from an earl
 `tools/measure.py WORDS..` measures another command, prints the figures and writes nothing. Runs
 only on Linux.
 
-`tools/measure.py --wrong REFUSED TRIED` stores how many of the wrong bodies that the gate does not
-try were refused.
+`tools/measure.py --wrong` stores how many of the wrong bodies that the gate does not try are known to
+be refused by the current crates.
 """
 
 import json
@@ -164,7 +164,10 @@ def measure_gate() -> int:
     """Runs the gate, and writes its figures if it was run from nothing and passed."""
     stolen_before = stolen()
     lines, status, minutes, uses = run(["sh", ".ci/run"])
-    told = {**figures(lines, minutes, uses), "stolen_processor_minutes": round(stolen() - stolen_before, 1)}
+    told = {
+        **figures(lines, minutes, uses),
+        "stolen_processor_minutes": round(stolen() - stolen_before, 1),
+    }
     why = why_not_written(lines, status)
     if why:
         print(f"tools/measure.py: docs/gate.json is as it was: {why}", file=sys.stderr)
@@ -175,9 +178,13 @@ def measure_gate() -> int:
 
 def main(words: list[str]) -> int:
     """Runs the gate, or the command in the arguments."""
+    if words[:1] == ["--help"]:
+        print((__doc__ or "").strip())
+        return 0
     if words[:1] == ["--wrong"]:
         where = {"date": date.today().isoformat(), "commit": output_of("git", "rev-parse", "HEAD")}
-        write("wrong_bodies", {**where, "refused": int(words[1]), "tried": int(words[2])})
+        known = output_of("tools/soak/wrong_bodies.py", "--known").split()
+        write("wrong_bodies", {**where, "refused": int(known[0]), "written": int(known[2])})
         return 0
     if not words:
         return measure_gate()

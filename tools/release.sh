@@ -5,7 +5,8 @@
 #
 #   tools/release.sh [FOLDER]   in FOLDER; by default in out/vVERSION
 #
-# CHANGELOG.md must begin with the version's section, `## VERSION, DATE`; the working tree must be the same as
+# CHANGELOG.md must begin with the version's section, `## Unreleased (VERSION)`, which the script dates and commits,
+# or `## VERSION, DATE`; the working tree must be the same as
 # the last commit; and dist/ must be built from its sources. Needs git, dpkg-deb, tar, gzip and python3.
 set -u
 told_folder=${1:+$(realpath -m "$1")}
@@ -22,14 +23,22 @@ fail() {
 faults() {
     [ -z "$(git status --porcelain)" ] || echo 'something differs from the last commit'
     tools/version.sh >"$work/versions" || cat "$work/versions"
-    head -n 5 CHANGELOG.md | grep -q "^## $version, [0-9]\{4\}-[0-9][0-9]-[0-9][0-9]\$" ||
-        echo "CHANGELOG.md does not begin with the section \"## $version, DATE\""
+    head -n 5 CHANGELOG.md | grep -q -e "^## $version, [0-9]\{4\}-[0-9][0-9]-[0-9][0-9]\$" \
+        -e "^## Unreleased ($version)\$" ||
+        echo "CHANGELOG.md does not begin with the section \"## $version, DATE\" or \"## Unreleased ($version)\""
     ! git rev-parse -q --verify "refs/tags/v$version" >"$work/found" ||
         echo "the tag v$version is there"
     is_proved sources "$(sources_checksum)" || echo "$shipped was proved of other sources than these"
     is_proved 'library sources' "$(sources_checksum tpmsim_library)" ||
         echo "$archive was proved of other sources than these"
     [ ! -e "$folder" ] || echo "$folder is there"
+}
+
+# Gives an unreleased section of CHANGELOG.md the heading of a release of today, and commits this.
+date_section() {
+    head -n 5 CHANGELOG.md | grep -q "^## Unreleased ($version)\$" || return 0
+    sed -i "1,5s/^## Unreleased ($version)\$/## $version, $(date -u +%F)/" CHANGELOG.md &&
+        git commit -q -m "Release $version" CHANGELOG.md
 }
 
 # Prints the section of CHANGELOG.md about the version.
@@ -54,14 +63,16 @@ folder=${told_folder:-out/v$version}
 faults=$(faults)
 [ -z "$faults" ] || fail "there is no release: $faults"
 
+date_section || fail 'CHANGELOG.md is not dated and committed'
 name=tpmsim-$version
 if ! { mkdir -p "$folder" && notes >"$folder/NOTES.md" && cp dist/PROVED "$folder/"; }; then
     fail "$folder is not written"
 fi
-package=$(tools/deb.sh "$folder") || exit 1
+packages=$(tools/deb.sh "$folder") || exit 1
 git archive --format=tar --prefix="$name/" HEAD | gzip -9n >"$folder/$name.tar.gz" ||
     fail 'the sources are not packed'
-(cd "$folder" && sha256sum NOTES.md PROVED "$name.tar.gz" "${package##*/}" >SHA256SUMS) ||
+# shellcheck disable=SC2046 # the names are words
+(cd "$folder" && sha256sum NOTES.md PROVED "$name.tar.gz" $(echo "$packages" | sed 's|.*/||') >SHA256SUMS) ||
     fail 'there are no checksums'
 git tag -a -F "$folder/NOTES.md" --cleanup=verbatim "v$version" || fail 'the tag is not made'
 if ! milliseconds=$(answering); then

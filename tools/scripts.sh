@@ -17,7 +17,8 @@
 #
 # The tests work in folders in memory, if there is enough memory, or in TMPDIR, if that is set.
 #
-# NAME.tpm is run as `PROGRAM run NAME.tpm`, or as `tpmsim_lists <NAME.tpm`, and NAME.sh as `sh NAME.sh PROGRAM`. A
+# NAME.tpm is run as `PROGRAM run NAME.tpm`, or as `tpmsim_lists <NAME.tpm`, and NAME.sh as `sh NAME.sh PROGRAM`. The
+# scripts in tests/complete are run as `PROGRAM run --complete NAME.tpm`, and not with tpmsim_lists. A
 # shell test whose name begins with lists_ is run only with tpmsim_lists. A shell test whose name begins with
 # library_ or attached_ is run with dist/libtpmsim.a. All other shell tests are run with the other programs. NAME.out
 # is the expected standard output, NAME.err the expected standard error (no file: empty), and NAME.status the
@@ -101,15 +102,25 @@ check_made() {
     fi
 }
 
+# is_complete TEST: succeeds if a script is for devices of the complete profile.
+is_complete() {
+    case $1 in
+    */tests/complete/*.tpm) true ;;
+    *) false ;;
+    esac
+}
+
 # check_script TEST PROGRAM: queues both tests of a script, without and with --trace.
 check_script() {
+    profile=
+    ! is_complete "$1" || profile='--complete '
     if is_made "$1"; then
-        check_made "$1" "$2" "${1%.tpm}.out"
-        check_made "$1" "$2" "${1%.tpm}.trace" --trace
+        check_made "$1" "$2" "${1%.tpm}.out" "${profile% }"
+        check_made "$1" "$2" "${1%.tpm}.trace" "$profile--trace"
     else
         of_script=$made_in/${1#"$top/"}
-        check "$1" "$2" "${1%.tpm}.out"
-        check_made "$of_script" "$2" "${of_script%.tpm}.trace" --trace
+        check "$1" "$2" "${1%.tpm}.out" "${profile% }"
+        check_made "$of_script" "$2" "${of_script%.tpm}.trace" "$profile--trace"
     fi
 }
 
@@ -258,6 +269,8 @@ ends_well() {
 [ -x "$lists" ] || missing "$lists"
 for test do
     [ "$asked" != shipped ] || continue
+    # tpmsim_lists makes devices of the symmetric profile alone.
+    ! is_complete "$test" || continue
     case $test in
     */lists_*.sh)
         if [ -x "$lists" ]; then

@@ -34,6 +34,7 @@ versions() {
         echo "$(of_header "$folder/tpmsim.h") $folder/tpmsim.h"
         echo "$(sed -n 's/^Version: //p' "$folder/tpmsim.pc") $folder/tpmsim.pc"
     done
+    echo "$(sed -n 's/^Version: //p' clients/c/tpmsim-kept.pc) clients/c/tpmsim-kept.pc"
     echo "$(of_journals crates/tpm_journal_text/src/head.rt) crates/tpm_journal_text/src/head.rt"
     echo "$(sed -n 's/^version = "\(.*\)"$/\1/p' clients/python/pyproject.toml) clients/python/pyproject.toml"
     echo "$(sed -n 's/^  "version": "\(.*\)",$/\1/p' clients/js/package.json) clients/js/package.json"

@@ -182,6 +182,9 @@ def held() -> list[Path]:
 
 
 def main(names: list[str]) -> int:
+    if "--help" in names:
+        print((__doc__ or "").strip())
+        return 0
     entries, count = lexicon(), 0
     for path in map(Path, names) if names else held():
         for line in found_in(path, entries):

@@ -26,8 +26,10 @@ TOP = HERE.parent
 sys.path[:0] = [str(TOP / "clients" / "python"), str(TOP)]
 
 from tpmsim.explain import dissection, words  # noqa: E402
-from tpmsim.standard import CC, handle_kinds, lines, nv, objects  # noqa: E402
-from tpmsim.standard.command_names import NOT_SERVED  # noqa: E402
+from tpmsim.explain.codes import CHECKS  # noqa: E402
+from tpmsim.standard import CC, handle_kinds, lines, NAMED, NUMBERED, nv, objects  # noqa: E402
+from tpmsim.standard.command_names import NAMES  # noqa: E402
+from tpmsim.standard.response_codes import LAYERS, MEANINGS  # noqa: E402
 from tests.common import places  # noqa: E402
 
 PAGE = HERE / "page"
@@ -92,18 +94,40 @@ def version() -> str:
     return found[1] if found else ""
 
 
+COMMENT_COLUMNS = 100
+
+
+def unwrapped(text: str) -> str:
+    """Returns a script in which each paragraph of a comment is one line, which the page wraps itself.
+    The examples wrap their comments at column 100, so a line goes on in the next one if that one's
+    first word did not fit.
+    """
+    found: list[str] = []
+    room = 0
+    for line in text.split("\n"):
+        word = line.removeprefix("# ").split(" ")[0]
+        if line.startswith("# ") and found and found[-1].startswith("# ") and room <= len(word):
+            found[-1] += line.removeprefix("#")
+        else:
+            found.append(line)
+        room = COMMENT_COLUMNS - len(line)
+    return "\n".join(found)
+
+
 def facts(docs: str) -> Value:
     sections = sections_of_table()
     kinds = {it.value: lines.WORDS[it].name for it in lines.WORDS}
     return {
-        "commands": [command_value(it, sections) for it in sorted(CC, key=lambda it: str(it.name))],
-        "otherCommands": {str(number): name for number, name in NOT_SERVED.items()},
+        "commands": [command_value(NAMED[it], sections) for it in sorted(NAMED)],
+        "otherCommands": {
+            str(number): name for number, name in sorted(NAMES.items()) if number not in NUMBERED
+        },
         "handleKinds": {
             kind.value: handle_kind_value(form) for kind, form in handle_kinds.HANDLES.items()
         },
         "kindWords": kinds,
         "rules": rules_value(),
-        "examples": [[it.stem, it.read_text("utf-8")] for it in places.named(*EXAMPLES)],
+        "examples": [[it.stem, unwrapped(it.read_text("utf-8"))] for it in places.named(*EXAMPLES)],
         "algorithms": words.ALGORITHMS,
         "handleNames": {name.decode("ascii"): it for name, it in lines.HANDLE_NAMES.items()},
         "ofFirstByte": words.OF_FIRST_BYTE,
@@ -117,6 +141,12 @@ def facts(docs: str) -> Value:
         "tickets": dissection.TICKETS,
         "tags": dissection.TAGS,
         "pcrs": len(handle_kinds.PCRS),
+        "codes": {
+            it.number: [it.name, it.words, [at[:2] for at in CHECKS.get(f"{it.number:03X}", [])]]
+            for it in MEANINGS.values()
+        },
+        "layers": LAYERS,
+        "stories": json.loads((PAGE / "stories.json").read_text("utf-8")),
         "docs": docs,
         "version": version(),
     }
@@ -196,7 +226,8 @@ def hash_word(text: str) -> str:
 def policy(style: str, code: str) -> str:
     return (
         f"default-src 'none'; style-src {hash_word(style)}; "
-        f"script-src {hash_word(code)} 'wasm-unsafe-eval'; base-uri 'none'; form-action 'none'"
+        f"script-src {hash_word(code)} 'wasm-unsafe-eval'; img-src data:; "
+        "base-uri 'none'; form-action 'none'"
     )
 
 

@@ -14,6 +14,9 @@ type Code uint32
 // Success is the code of a command that was accepted.
 const Success = Code(0)
 
+// noSuchCommand is the number of the check that refuses commands which the TPM does not have.
+const noSuchCommand = 4
+
 // CodeOf returns the code of a response of at least 10 bytes.
 func CodeOf(response []byte) Code {
 	return Code(binary.BigEndian.Uint32(response[headerBytes-4 : headerBytes]))
@@ -64,7 +67,7 @@ func (code Code) String() string {
 
 // A Refusal is the error of a command that the TPM refused.
 type Refusal struct {
-	Command uint32 // TPM_CC; 0 if none was found
+	Command uint32 // TPM_CC, also of a command that the TPM does not have; 0 if there is none
 	Code    Code
 	check   uint8
 }
@@ -87,6 +90,9 @@ func (it *Refusal) Error() string {
 	name, known := commands[it.Command]
 	if !known {
 		name = "unknown command"
+	}
+	if it.check == noSuchCommand {
+		name = fmt.Sprintf("%s (%X): tpmsim has no such command", name, it.Command)
 	}
 	return fmt.Sprintf("%s: %v, by %s", name, it.Code, it.Check())
 }

@@ -4,7 +4,7 @@ import (
 	"fmt"
 	"log"
 
-	"tpmsim"
+	"example.org/tpmsim"
 )
 
 // TPM2_GetRandom of four bytes.

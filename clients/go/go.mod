@@ -1,3 +1,3 @@
-module tpmsim
+module example.org/tpmsim
 
 go 1.19

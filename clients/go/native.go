@@ -1,8 +1,12 @@
+//go:build linux && cgo && (amd64 || arm64)
+
 package tpmsim
 
-// #cgo CFLAGS: -I${SRCDIR}/../c
-// #cgo linux,amd64 LDFLAGS: -L${SRCDIR}/../../dist
-// #cgo linux,arm64 LDFLAGS: -L${SRCDIR}/../../dist/aarch64
+// The packed module contains the header and the libraries. In a clone, they are in other folders.
+
+// #cgo CFLAGS: -I${SRCDIR} -I${SRCDIR}/../c
+// #cgo amd64 LDFLAGS: -L${SRCDIR}/native/amd64 -L${SRCDIR}/../../dist
+// #cgo arm64 LDFLAGS: -L${SRCDIR}/native/arm64 -L${SRCDIR}/../../dist/aarch64
 // #cgo LDFLAGS: -l:libtpmsim.a
 // #include "tpmsim.h"
 import "C"
@@ -10,6 +14,9 @@ import "C"
 import (
 	"fmt"
 	"unsafe"
+
+	_ "example.org/tpmsim/native/amd64" // the folders of the library in the packed module
+	_ "example.org/tpmsim/native/arm64"
 )
 
 const (

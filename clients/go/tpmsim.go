@@ -1,3 +1,5 @@
+//go:build linux && cgo && (amd64 || arm64)
+
 // Package tpmsim is a TPM 2.0 in your process, for tests.
 //
 //	tpm, err := tpmsim.Open()
@@ -169,6 +171,9 @@ func (tpm *TPM) accepted(command []byte) ([]byte, error) {
 		return nil, err
 	}
 	if code := CodeOf(told.response); code != Success {
+		if told.command == 0 && len(command) >= headerBytes {
+			told.command = uint32(CodeOf(command)) // the two codes are at the same offset
+		}
 		return nil, &Refusal{told.command, code, told.check}
 	}
 	return told.response[headerBytes:], nil

@@ -156,7 +156,7 @@ func TestARefusalIsTold(t *testing.T) {
 		{nil, "unknown command: COMMAND_SIZE (142), by G1"},
 		{command(0x17e, 0, 0, 0), "PCR_Read: INSUFFICIENT/p1 (1DA), by G11"},
 		{startup, "Startup: INITIALIZE (100), by G5"},
-		{command(0xbad), "unknown command: COMMAND_CODE (143), by G4"},
+		{command(0xbad), "unknown command (BAD): tpmsim has no such command: COMMAND_CODE (143), by G4"},
 		{flush(), "FlushContext: HANDLE/p1 (1CB), by A2"},
 	} {
 		_, err := tpm.Execute(it.buffer)
@@ -262,8 +262,27 @@ func TestItIsAFile(t *testing.T) {
 func TestTheLayer(t *testing.T) {
 	stirRandom := command(0x146, 0, 1, 7)
 	_, err := open(t).Execute(stirRandom)
-	wantRefusal(t, err, "unknown command: COMMAND_CODE (143), by G4")
+	wantRefusal(t, err, "StirRandom (146): tpmsim has no such command: COMMAND_CODE (143), by G4")
+	_, err = open(t).Execute(command(0xbad))
+	wantRefusal(t, err, "unknown command (BAD): tpmsim has no such command: COMMAND_CODE (143), by G4")
 	accept(t, open(t, WithCompletion()), stirRandom)
+}
+
+// Of go-tpm, the templates RSASRKTemplate and ECCSRKTemplate.
+func TestAsymmetricTemplatesAreRefused(t *testing.T) {
+	tpm := open(t)
+	for _, parameters := range []string{
+		"0001000b00030472000000060080004300100800000000000000",
+		"0023000b000304720000000600800043001000030010 00000000",
+	} {
+		template, err := hex.DecodeString(strings.ReplaceAll(parameters, " ", ""))
+		succeed(t, err)
+		buffer := []byte{0x40, 0, 0, 1, 0, 0, 0, 9, 0x40, 0, 0, 9, 0, 0, 0, 0, 0, 0, 4, 0, 0, 0, 0, 0, byte(len(template))}
+		createPrimary := command(0x131, append(append(buffer, template...), 0, 0, 0, 0, 0, 0)...)
+		createPrimary[1] = 2
+		_, err = tpm.Execute(createPrimary)
+		wantRefusal(t, err, "CreatePrimary: TYPE/p2 (2CA), by G11")
+	}
 }
 
 func TestItIsClosedOnce(t *testing.T) {

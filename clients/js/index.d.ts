@@ -1,7 +1,17 @@
 // The types of the package: a TPM 2.0 in a page or a process.
 
 /** The module or its bytes. By default, `tpmsim.wasm` next to the package is loaded once. */
-export type ModuleSource = BufferSource | WebAssembly.Module;
+export type ModuleSource = ArrayBufferView | ArrayBuffer | CompiledModule;
+
+/** A WebAssembly.Module, without a need for the types of the DOM. */
+export type CompiledModule = object;
+
+declare global {
+  interface SymbolConstructor {
+    /** Declared by the types of node and by TypeScript 5.2, too. */
+    readonly dispose: unique symbol;
+  }
+}
 
 export interface Making {
   /** The seed of the random bytes. The same seed results in the same bytes in each run, and in
@@ -78,6 +88,8 @@ export class Device {
   execute(command: Uint8Array, event?: Event): Answer;
   /** Executes a command in words, such as `GetRandom 4`. */
   do(line: string, event?: Event): Answer;
+  /** Executes a command, as bytes or in words. Throws Refused if the device refuses it. */
+  accepted(command: Uint8Array | string, event?: Event): Answer;
   /** Plays a script line by line, as the caller iterates over its events. Throws BadLine at an
    * invalid line. */
   play(script: string | Uint8Array): Generator<PlayedCommand | PlayedPower, void, undefined>;
@@ -95,8 +107,14 @@ export class Device {
   snapshot(): Uint8Array;
   /** Restores the device from a state text. If it throws BadState, nothing changes. */
   restore(state: Uint8Array): void;
+  /** Begins a log from the current state of the device. Without this call, there is no log. */
+  beginLog(): void;
+  /** The log, which tpmsim-explain reads, or an empty string. It contains all secrets. */
+  readonly log: string;
   /** Frees the device's memory after clearing it. Each later call throws DeviceEnded. */
   dispose(): void;
+  /** The same as `dispose`, for `using`. */
+  [Symbol.dispose](): void;
   /** Commands and response codes in words. */
   readonly words: Words;
 }
@@ -137,8 +155,8 @@ export class BadImage extends Error {
   fault: string;
 }
 
-/** Thrown if bytes are not a state text. The fault is Short, Magic, Version, Length, Digest or
- * Body. */
+/** Thrown if bytes are not a state text. The fault is Short, Magic, Version, Length, Digest, Body or
+ * Earlier (version 1). */
 export class BadState extends Error {
   private constructor();
   fault: string;
@@ -154,6 +172,15 @@ export class BadLine extends Error {
   wanted: string;
   /** The line of the script, counted from 1, or 0 if there is no script. */
   line: number;
+}
+
+/** Thrown by `accepted` if the device refuses the command. */
+export class Refused extends Error {
+  private constructor();
+  /** The response code, TPM_RC. */
+  code: number;
+  meaning: Meaning | null;
+  answer: Answer;
 }
 
 /** Thrown if the device has been disposed of. */

@@ -82,7 +82,7 @@ enum tpmsim_told {
     TPMSIM_STATE_SHORT = 13,
     /* The bytes do not begin with TPMS. */
     TPMSIM_STATE_MAGIC = 14,
-    /* The version of the state text is not 1 or 2. */
+    /* The version of the state text is not 1, 2 or 3. */
     TPMSIM_STATE_VERSION = 15,
     /* The length field does not match the number of bytes. */
     TPMSIM_STATE_LENGTH = 16,
@@ -94,9 +94,7 @@ enum tpmsim_told {
     TPMSIM_NO_WORD = 19,
     /* The keeper has no response to a TPM command. */
     TPMSIM_NO_ANSWER = 20,
-    /* The journal begins with a state text of version 1, whose completing layer gave different
-       responses. Save the device with the library that wrote the journal (tpmsim_snapshot), and
-       restore it with this one. */
+    /* The state text has version 1, which is no longer read. */
     TPMSIM_STATE_EARLIER = 21
 };
 
@@ -226,7 +224,7 @@ size_t tpmsim_snapshot(tpmsim *device, uint8_t *buffer, size_t size);
    counters, failed tries and nonces.
 
    Returns TPMSIM_DONE; TPMSIM_STATE_SHORT to TPMSIM_STATE_BODY if the bytes are not a state text;
-   or, whatever the bytes are, TPMSIM_NO_MEMORY. */
+   TPMSIM_STATE_EARLIER if it has version 1; or, whatever the bytes are, TPMSIM_NO_MEMORY. */
 uint8_t tpmsim_restore(tpmsim *device, const uint8_t *text, size_t size);
 
 /* Power-cycles the device, and writes the head of its new journal to the front of `buffer`, if all of it

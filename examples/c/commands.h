@@ -81,6 +81,7 @@ static inline void begin(tpm *it) {
     need(!tpmsim_manufacture(&it->device, it->random), "there is no memory");
     need(getrandom(it->random, 256, 0) == 256, "there are no random bytes");
     tpmsim_execute(&it->device, startup, sizeof startup, 0, 0, it->random, it->response, &it->told);
+    need(!number_at(it->response + 6, 4), "TPM2_Startup is refused");
 }
 
 /* Appends an authorization area with one entry. */

@@ -2,6 +2,6 @@ module vault
 
 go 1.19
 
-require tpmsim v0.1.0
+require example.org/tpmsim v0.1.0
 
-replace tpmsim => ../../clients/go
+replace example.org/tpmsim => ../../clients/go

@@ -4,26 +4,12 @@ import (
 	"bytes"
 	"testing"
 
-	"tpmsim"
+	"example.org/tpmsim"
+	"example.org/tpmsim/tpmsimtest"
 )
 
-// open makes a device for a test.
-func open(t *testing.T, options ...tpmsim.Option) *tpmsim.TPM {
-	t.Helper()
-	tpm, err := tpmsim.Open(options...)
-	if err != nil {
-		t.Fatal(err)
-	}
-	t.Cleanup(func() {
-		if err := tpm.Close(); err != nil {
-			t.Error(err)
-		}
-	})
-	return tpm
-}
-
 func TestNewBytes(t *testing.T) {
-	tpm := open(t)
+	tpm := tpmsimtest.Open(t)
 	first, err := RandomBytes(tpm, 16)
 	if err != nil {
 		t.Fatal(err)
@@ -35,15 +21,15 @@ func TestNewBytes(t *testing.T) {
 }
 
 func TestNotStarted(t *testing.T) {
-	if _, err := RandomBytes(open(t, tpmsim.WithoutStartup()), 16); err == nil {
+	if _, err := RandomBytes(tpmsimtest.Open(t, tpmsim.WithoutStartup()), 16); err == nil {
 		t.Fatal("a device that is not started answers")
 	}
 }
 
 func TestSeed(t *testing.T) {
 	seed := tpmsim.WithSeed([]byte("mine"))
-	first, _ := RandomBytes(open(t, seed), 16)
-	second, _ := RandomBytes(open(t, seed), 16)
+	first, _ := RandomBytes(tpmsimtest.Open(t, seed), 16)
+	second, _ := RandomBytes(tpmsimtest.Open(t, seed), 16)
 	if !bytes.Equal(first, second) {
 		t.Fatal("a seed draws other bytes")
 	}

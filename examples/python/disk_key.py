@@ -25,9 +25,15 @@ or
 def unseal(tpm: Caller, handle: int, policy: str) -> str:
     """Returns the disk's key, or the reason for the refusal."""
     try:
-        return tpm.send(tpm.unsealing(handle, tpm.policy(policy)))["outData"].decode()
+        use = tpm.policy(policy)
     except Refused as refused:
         return str(refused)
+    try:
+        return tpm.send(tpm.unsealing(handle, use))["outData"].decode()
+    except Refused as refused:
+        return str(refused)
+    finally:
+        tpm.send(tpm.flush(use.session.handle))
 
 
 with Device() as device:

@@ -24,13 +24,15 @@ def unseal(tpm: Caller, index: int, version: int) -> str:
     words = policy_of(tpm, index, version)
     parent = tpm.create_primary(storage_key())
     made = tpm.create(parent, sealed(attributes=HERE, auth_policy=digest_of(words)), data=KEY)
-    handle = tpm.load(parent, made)
+    loaded = [parent, tpm.load(parent, made)]
     try:
-        return tpm.send(tpm.unsealing(handle, tpm.policy(words)))["outData"].decode()
+        use = tpm.policy(words)
+        loaded.append(use.session.handle)
+        return tpm.send(tpm.unsealing(loaded[1], use))["outData"].decode()
     except Refused as refused:
         return str(refused)
     finally:
-        for it in handle, parent:
+        for it in loaded:
             tpm.send(tpm.flush(it))
 
 

@@ -156,7 +156,7 @@ static bool make(struct keeping *keeping, const tpmsim_ask *ask, struct reason *
 
 static bool name(struct keeping *keeping, struct reason *reason) {
     int folder = keeping->folder.descriptor;
-    if (!past_keep(&keeping->folder, keeping->keep, reason) ||
+    if (!past_keep(&keeping->folder, keeping->keep, keeping->keeps_by_default, reason) ||
         renameat(folder, NEW_NAME, folder, JOURNAL_NAME) != 0) {
         remove_new(keeping);
         return false;
@@ -260,7 +260,8 @@ static bool refuse_fault(struct keeping *keeping, uint8_t fault, int error, stru
                        : fault == TPMSIM_FAULT_NAME ? NEW_NAME
                                                     : JOURNAL_NAME;
     if (*reason->text) return false;
-    if (fault == TPMSIM_FAULT_DAMAGED) return refuse_damage(keeping, reason);
+    if (fault == TPMSIM_FAULT_DAMAGED && keeping->folder.path)
+        return refuse_damage(keeping, reason);
     tpmsim_fault_text(fault, said, sizeof said - 1);
     refuse(reason, keeping_name(keeping), keeping->folder.path ? file : NULL, said, error);
     if (fault == TPMSIM_FAULT_MEMORY) reason->told = TPMSIM_NO_MEMORY;
@@ -329,6 +330,7 @@ bool keeping_open(struct keeping *keeping, const struct kept_options *options,
                   struct reason *reason) {
     keeping->journal = keeping->fresh = keeping->folder.descriptor = keeping->folder.lock = -1;
     keeping->keep = options->keep;
+    keeping->keeps_by_default = options->keeps_by_default;
     if (options->folder &&
         !folder_open(&keeping->folder, options->folder, !options->is_there, reason))
         return false;

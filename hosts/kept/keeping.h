@@ -22,8 +22,9 @@ struct keeping {
     uint64_t number, size;
     /* The task that requested the new journal file. */
     tpmsim_ask made;
-    /* The number of past journals to keep. */
+    /* The number of past journals to keep, and whether it is a default. */
     unsigned keep;
+    bool keeps_by_default;
     /* The bytes to write, or the bytes that were read; `read` is their number. */
     uint8_t *buffer;
     size_t buffer_size, read;

@@ -93,8 +93,9 @@ static bool open_any(struct kept *kept, const struct kept_options *options, stru
     int there = folder->path ? folder_look(folder, JOURNAL_NAME, &status, reason) : 0;
     if (there < 0) return false;
     if (there == 0 && !options->is_there) return begin(kept, options->image, reason);
-    return there == 1 ? show_or_take_head(kept, options, reason)
-                      : refuse(reason, folder->path, JOURNAL_NAME, "is not there", 0);
+    if (there == 1) return show_or_take_head(kept, options, reason);
+    return refuse(reason, keeping_name(&kept->keeping), folder->path ? JOURNAL_NAME : NULL,
+                  "is not there", 0);
 }
 
 struct kept *kept_open(const struct kept_options *options, struct reason *reason) {

@@ -35,6 +35,8 @@ struct kept_options {
     uint8_t force;
     /* The number of past journals to keep in the folder, 0 to PAST_MOST of past.h. */
     unsigned keep;
+    /* Whether `keep` is a default. Then a file system without hard links keeps none. */
+    bool keeps_by_default;
     /* Whether the completing layer is on. */
     bool completes;
     /* If true, a folder without a device is a fault. Otherwise a new device is made there. */

@@ -39,7 +39,13 @@ static bool move_on(const struct folder *folder, unsigned count, struct reason *
     return true;
 }
 
-bool past_keep(const struct folder *folder, unsigned count, struct reason *reason) {
+/* Whether this error means that the file system has no hard links, or may not have this one. */
+static bool lacks_links(int error) {
+    return error == EPERM || error == EOPNOTSUPP || error == ENOSYS || error == EMLINK;
+}
+
+bool past_keep(const struct folder *folder, unsigned count, bool is_default,
+               struct reason *reason) {
     struct stat journal, last;
     if (count == 0) return true;
     int there = folder_look(folder, JOURNAL, &journal, reason);
@@ -50,5 +56,6 @@ bool past_keep(const struct folder *folder, unsigned count, struct reason *reaso
     if (is_last == 1 && is_same_file(&journal, &last)) return true;
     if (!move_on(folder, count, reason)) return false;
     return linkat(folder->descriptor, JOURNAL, folder->descriptor, LAST, 0) == 0 ||
+           (is_default && lacks_links(errno)) ||
            refuse(reason, folder->path, LAST, "cannot be made", errno);
 }

@@ -7,7 +7,9 @@ enum { PAST_MOST = 99 };
 
 /* Links the current journal, which is about to be replaced, as journal.1. First increments the
  * numbers of the past journals up to the lowest free number, so that at most `count` journals
- * stay. */
-bool past_keep(const struct folder *folder, unsigned count, struct reason *reason);
+ * stay. With `is_default` the user has not asked for it: then it is no failure if the file system
+ * has no hard links. */
+bool past_keep(const struct folder *folder, unsigned count, bool is_default,
+               struct reason *reason);
 
 #endif

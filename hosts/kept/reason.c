@@ -13,8 +13,12 @@ static void keep_in_one_line(char text[REASON_ROOM]) {
 bool refuse(struct reason *reason, const char *about, const char *name, const char *said,
             int error) {
     int kept = errno;
+    char number[32];
     const char *words = error ? strerrordesc_np(error) : NULL;
-    if (error && !words) words = "an error without a name";
+    if (error && !words) {
+        snprintf(number, sizeof number, "error %d", error);
+        words = number;
+    }
     snprintf(reason->text, sizeof reason->text, "%s%s%s %s%s%s", about, name ? "/" : "",
              name ? name : "", said, words ? ": " : "", words ? words : "");
     keep_in_one_line(reason->text);

@@ -19,7 +19,7 @@ const char *told_words(uint8_t told) {
     case TPMSIM_STATE_DIGEST: return "holds a damaged state text: its digest is another";
     case TPMSIM_STATE_BODY: return "holds a state text of no state that a device can be in";
     case TPMSIM_STATE_EARLIER:
-        return "holds a state of an earlier version: take a snapshot with that version, and restore it with this one";
+        return "holds a state text of version 1, which is no longer read: begin with a new device";
     case TPMSIM_NO_JOURNAL: return "is no journal of a device";
     case TPMSIM_DAMAGED: return "is damaged, and stays as it is";
     case TPMSIM_OTHERWISE:

@@ -3,11 +3,12 @@
 #include "past.h"
 #include "secret.h"
 #include "told.h"
+#include <errno.h>
 #include <string.h>
 
-enum word { STATE, COMPLETE, DEVICE, RM, CUT, KEEP, LOCALITY, IMAGE, RANDOM, FORCE, WORDS };
+enum word { STATE, COMPLETE, DEVICE, RM, NORM, CUT, KEEP, LOCALITY, IMAGE, RANDOM, FORCE, WORDS };
 
-static const char *const NAMES[WORDS] = {"state=", "complete",  "device", "rm",      "cut",
+static const char *const NAMES[WORDS] = {"state=", "complete",  "device", "rm",      "norm", "cut",
                                          "keep=",  "locality=", "image=", "random=", "force="};
 
 bool words_number(const char *text, size_t size, unsigned most, unsigned *number) {
@@ -87,6 +88,7 @@ static bool read_value(struct words *words, enum word word, const char *value, s
     case COMPLETE: return size == 0;
     case DEVICE: words->options.completes = false; return size == 0;
     case RM: words->flushes = true; return size == 0;
+    case NORM: return size == 0;
     case CUT: words->options.cuts = true; return size == 0;
     case KEEP: return size <= 2 && words_number(value, size, PAST_MOST, &words->options.keep);
     case LOCALITY: return read_locality(words, value, size);
@@ -107,7 +109,7 @@ static bool read_word(struct words *words, bool seen[WORDS], const char *text, s
     for (int i = 0; i < WORDS; i++) {
         size_t name = strlen(NAMES[i]);
         if (size < name || memcmp(text, NAMES[i], name) != 0) continue;
-        if (seen[i]) return refuse_word(text, "is the second word of its kind", reason);
+        if (seen[i]) return refuse_word(text, "is given twice", reason);
         seen[i] = true;
         if (!read_value(words, (enum word)i, text + name, size - name)) break;
         return true;
@@ -122,11 +124,28 @@ static bool has_folder(const bool seen[WORDS], enum word word, struct reason *re
            refuse(reason, NAMES[word], NULL, "is allowed only with state=DIR", 0);
 }
 
-/* If the words turn the completing layer both on and off, returns false and sets
- * `reason`. */
-static bool has_one_layer(const bool seen[WORDS], struct reason *reason) {
-    return !seen[COMPLETE] || !seen[DEVICE] ||
-           refuse(reason, NAMES[COMPLETE], NULL, "cannot be combined with device", 0);
+/* If two words contradict each other, returns false and sets `reason`. */
+static bool is_consistent(const bool seen[WORDS], struct reason *reason) {
+    if (seen[COMPLETE] && seen[DEVICE])
+        return refuse(reason, NAMES[COMPLETE], NULL, "cannot be combined with device", 0);
+    return !seen[RM] || !seen[NORM] ||
+           refuse(reason, NAMES[RM], NULL, "cannot be combined with norm", 0);
+}
+
+/* Whether this program is one of tpm2-tools: tpm2, tpm2_createprimary and so on. */
+static bool is_tool(void) {
+    const char *name = program_invocation_short_name;
+    return strcmp(name, "tpm2") == 0 || strncmp(name, "tpm2_", sizeof "tpm2_" - 1) == 0;
+}
+
+/* Sets what no word has set. */
+static void set_defaults(struct words *words, const bool seen[WORDS]) {
+    if (!seen[KEEP]) {
+        words->options.keep = WORDS_KEEP;
+        words->options.keeps_by_default = true;
+    }
+    if (!seen[RM] && !seen[NORM])
+        words->flushes = seen[STATE] && words->options.completes && is_tool();
 }
 
 /* Returns the offset after the word that starts at an offset: the next comma, or the end. */
@@ -152,7 +171,8 @@ static bool read_words(struct words *words, struct reason *reason) {
         words->text[end] = 0;
         if (!read_word(words, seen, words->text + at, end - at, reason)) return false;
     }
-    return has_one_layer(seen, reason) && has_folder(seen, FORCE, reason) &&
+    set_defaults(words, seen);
+    return is_consistent(seen, reason) && has_folder(seen, FORCE, reason) &&
            has_folder(seen, CUT, reason) && has_folder(seen, KEEP, reason) &&
            has_folder(seen, RM, reason);
 }

@@ -5,8 +5,11 @@
 
 /* The list of all words, for messages. */
 #define WORDS_WANTED                                                                               \
-    "state=DIR, device, complete, rm, cut, keep=0 to 99, locality=0 to 4, image=FILE, random=HEX, "  \
-    "force=never, force=power or force=always"
+    "state=DIR, device, complete, rm, norm, cut, keep=0 to 99, locality=0 to 4, image=FILE, "        \
+    "random=HEX, force=never, force=power or force=always"
+
+/* The number of past journals that stay in a folder if no word says otherwise. */
+enum { WORDS_KEEP = 1 };
 
 /* The parsed words. `options` points into `text`. The completing layer is on unless the words
  * include `device`. */
@@ -16,7 +19,9 @@ struct words {
     size_t size;
     struct kept_options options;
     uint8_t locality;
-    /* Whether a process, when it ends, flushes the objects and sessions that it loaded. */
+    /* Whether a process, when it ends, flushes the objects and sessions that it loaded. Without
+     * the words `rm` and `norm`, tools of tpm2-tools do if the folder has the completing layer:
+     * each tool reads what it needs from a context or a handle, as with a resource manager. */
     bool flushes;
     uint8_t random[256];
 };

@@ -34,7 +34,7 @@ bool begin_callbacks(void) {
         return false;
     }
     if (callbacks.tpm_nvram_init != NULL && callbacks.tpm_nvram_init() != TPM_SUCCESS) {
-        report("the place of the state is not ready");
+        report("swtpm did not prepare its folder for the state");
         return false;
     }
     if (callbacks.tpm_io_init != NULL && callbacks.tpm_io_init() != TPM_SUCCESS) {

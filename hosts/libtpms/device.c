@@ -42,23 +42,23 @@ static bool begin_with_head(size_t size) {
     return is_begun;
 }
 
-/* Replaces the device, which was opened from the permanent state, with the previous one: they differ
-   only in Clock and in the completing layer, which the permanent state does not contain. A state
-   text does not contain the journal's time, so no time passes for the device without power. */
-static bool take_previous(void) {
-    size_t size = tpmsim_snapshot(&previous, head, sizeof head);
-    uint8_t told = tpmsim_restore(&device, head, size);
+/* Makes a handle hold a copy of the device of another one. A state text does not contain the
+   journal's time, so no time passes for the copy until its journal starts. */
+static bool copy_device(tpmsim *from, tpmsim *to) {
+    size_t size = tpmsim_snapshot(from, head, sizeof head);
+    uint8_t told = tpmsim_restore(to, head, size);
     explicit_bzero(head, size);
-    if (told != TPMSIM_DONE) report("the device is not powered on: %s", words_of_told(told));
+    if (told != TPMSIM_DONE) report("the device is not continued: %s", words_of_told(told));
     return told == TPMSIM_DONE;
 }
 
 /* Starts the journal of a device whose power has come on. Writes its head and returns the size of
    the head; 0 if that fails. The completing layer of the previous device goes on, so that contexts
-   of objects load after a TPM Resume. The layer of another device starts again. */
+   of objects load after a TPM Resume: the previous device differs only in Clock and in the layer,
+   which the permanent state does not contain. The layer of another device starts again. */
 static size_t start_journal(void) {
     bool is_same = previous.private_ != NULL && is_permanent(&previous);
-    if (is_same && !take_previous()) return 0;
+    if (is_same && !copy_device(&previous, &device)) return 0;
     tpmsim_free(&previous);
     if (is_same) return tpmsim_journal_checkpoint(&device, latest, head, sizeof head);
     return tpmsim_journal_begin(&device, latest, head, sizeof head);
@@ -130,7 +130,7 @@ static uint8_t run(const uint8_t *buffer, size_t size, uint8_t locality, uint32_
 bool execute(const uint8_t *buffer, size_t size, uint8_t locality, struct response *response) {
     const uint8_t *random = random_bytes();
     if (random == NULL || (is_behind && !write_last())) return false;
-    tpmsim_answered answered;
+    tpmsim_answered answered = {0};
     uint64_t waited = host_clock() - latest;
     uint32_t elapsed = waited < UINT32_MAX ? (uint32_t)waited : UINT32_MAX;
     uint8_t told = run(buffer, size, locality, elapsed, random, response->bytes, &answered);
@@ -148,8 +148,7 @@ bool execute(const uint8_t *buffer, size_t size, uint8_t locality, struct respon
 static void keep_previous(void) {
     tpmsim_free(&previous);
     tpmsim_power_cycle(&device);
-    previous = device;
-    device.private_ = NULL;
+    (void)copy_device(&device, &previous);
 }
 
 void free_device(void) {

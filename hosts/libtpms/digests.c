@@ -41,7 +41,7 @@ static uint32_t sha1_function(int round, uint32_t b, uint32_t c, uint32_t d) {
 }
 
 static void sha1_block(uint32_t state[5], const uint8_t block[BLOCK_BYTES]) {
-    uint32_t words[SHA1_ROUNDS], a = state[0], b = state[1], c = state[2], d = state[3], e = state[4];
+    uint32_t words[SHA1_ROUNDS] = {0}, a = state[0], b = state[1], c = state[2], d = state[3], e = state[4];
     read_words(block, words);
     for (int i = WORDS; i < SHA1_ROUNDS; i++)
         words[i] = turned_left(words[i - 3] ^ words[i - 8] ^ words[i - 14] ^ words[i - 16], 1);
@@ -71,7 +71,7 @@ static void sha256_words(const uint8_t block[BLOCK_BYTES], uint32_t words[SHA256
 }
 
 static void sha256_block(uint32_t state[8], const uint8_t block[BLOCK_BYTES]) {
-    uint32_t words[SHA256_ROUNDS], now[8];
+    uint32_t words[SHA256_ROUNDS] = {0}, now[8];
     sha256_words(block, words);
     memcpy(now, state, sizeof now);
     for (int i = 0; i < SHA256_ROUNDS; i++) {

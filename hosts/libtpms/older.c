@@ -4,56 +4,66 @@
 #include "older.h"
 
 #include "report.h"
-#include "secret.h"
 
-#include <inttypes.h>
-#include <stdio.h>
-#include <stdlib.h>
 #include <string.h>
 
 static const char HEAD[] = "# tpmsim journal 1 ", THE_END[] = "# the end\n";
-enum { HEAD_BYTES = sizeof HEAD - 1, THE_END_BYTES = sizeof THE_END - 1 };
+
+/* The bytes of a journal, or of one of its lines. */
+struct text {
+    const uint8_t *first;
+    size_t size;
+};
+
+/* Returns the byte at an offset; 0 after the end. */
+static uint8_t byte_at(struct text text, size_t at) { return at < text.size ? text.first[at] : 0; }
+
+/* Whether this word is at an offset. */
+static bool is_at(struct text text, size_t at, const char *word) {
+    size_t i = 0;
+    while (word[i] && byte_at(text, at + i) == (uint8_t)word[i]) i++;
+    return word[i] == 0;
+}
 
 bool is_older_state(const uint8_t *text, size_t size) {
-    return size >= HEAD_BYTES && memcmp(text, HEAD, HEAD_BYTES) == 0;
+    return is_at((struct text){text, size}, 0, HEAD);
 }
 
-/* Returns the rest of a line that starts with a word; NULL if the line does not start with it. */
-static const char *after(const char *word, const char *line) {
-    size_t size = strlen(word);
-    return strncmp(line, word, size) == 0 ? line + size : NULL;
+/* Reads a number of at most `most` digits. It ends before a byte that is no digit of this base. */
+static uint64_t number_at(struct text text, size_t at, size_t base, size_t most) {
+    static const char DIGITS[] = "0123456789abcdef";
+    uint64_t number = 0;
+    const char *digit;
+    for (size_t end = at + most; at < end && (digit = memchr(DIGITS, byte_at(text, at), base)); at++)
+        number = base * number + (uint64_t)(digit - DIGITS);
+    return number;
 }
 
-static void read_line(const char *line, char *locality, struct moment *moment) {
-    const char *rest;
-    if ((rest = after("wait ", line)) != NULL) moment->time += strtoull(rest, NULL, 10);
-    if ((rest = after("loc ", line)) != NULL) *locality = *rest;
-    if (strcmp(line, "cmd ") != 0) return;
+static void read_line(struct text line, uint8_t *locality, struct moment *moment) {
+    if (is_at(line, 0, "wait ")) moment->time += number_at(line, sizeof "wait " - 1, 10, 20);
+    if (is_at(line, 0, "loc ")) *locality = byte_at(line, sizeof "loc " - 1);
+    if (line.size != sizeof "cmd " - 1 || !is_at(line, 0, "cmd ")) return;
     if (*locality == '4') moment->was_launched = true;
     if (*locality == '3') moment->was_launched = false;
 }
 
-/* Reads the moment at which an opened journal ends. Splits the text into lines in place. */
-static void read_moment(char *journal, struct moment *moment) {
-    char *left = NULL, locality = '0';
-    *moment = (struct moment){0};
-    (void)sscanf(journal + HEAD_BYTES, "%16" SCNx64, &moment->time);
-    for (char *line = strtok_r(journal, "\n", &left); line != NULL; line = strtok_r(NULL, "\n", &left))
-        read_line(line, &locality, moment);
+/* Reads the moment at which an opened journal ends. */
+static struct moment moment_of(struct text journal) {
+    struct moment moment = {.time = number_at(journal, sizeof HEAD - 1, 16, 16)};
+    uint8_t locality = '0';
+    for (size_t at = 0, end; at < journal.size; at = end + 1) {
+        for (end = at; end < journal.size && byte_at(journal, end) != '\n';) end++;
+        read_line((struct text){journal.first + at, end - at}, &locality, &moment);
+    }
+    return moment;
 }
 
 const char *open_older_state(tpmsim *device, const uint8_t *text, size_t size, struct moment *moment) {
-    size_t taken = 0, length = size - THE_END_BYTES;
-    if (size < THE_END_BYTES || memcmp(text + length, THE_END, THE_END_BYTES) != 0)
-        return "its end is missing";
+    size_t taken = 0, length = size - (sizeof THE_END - 1);
+    if (!is_at((struct text){text, size}, length, THE_END)) return "its end is missing";
     uint8_t told = tpmsim_journal_open(device, text, length, &taken);
     if (told != TPMSIM_DONE) return words_of_told(told);
     if (taken != length) return "its last record is cut off";
-    char *journal = malloc(length + 1);
-    if (journal == NULL) return words_of_told(TPMSIM_NO_MEMORY);
-    memcpy(journal, text, length);
-    journal[length] = 0;
-    read_moment(journal, moment);
-    secret_free(journal, length);
+    *moment = moment_of((struct text){text, length});
     return NULL;
 }

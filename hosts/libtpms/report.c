@@ -34,20 +34,20 @@ const char *words_of_told(uint8_t told) {
     case TPMSIM_NO_MEMORY: return "there is no memory";
     case TPMSIM_IMAGE_SHORT: return "its image has fewer than 42 bytes";
     case TPMSIM_IMAGE_MAGIC: return "its image does not begin with TPMI";
-    case TPMSIM_IMAGE_VERSION: return "its image is of a version that is not known";
+    case TPMSIM_IMAGE_VERSION: return "its image has a newer version; open it with the tpmsim that wrote it";
     case TPMSIM_IMAGE_LENGTH: return "its image is not as long as it says";
-    case TPMSIM_IMAGE_DIGEST: return "its image has another digest than it says";
-    case TPMSIM_IMAGE_BODY: return "its image spells no device";
+    case TPMSIM_IMAGE_DIGEST: return "its image is damaged: its digest differs";
+    case TPMSIM_IMAGE_BODY: return "its image is invalid: its fields contradict each other";
     case TPMSIM_STATE_SHORT: return "it is too short";
     case TPMSIM_STATE_MAGIC: return "it does not begin with TPMS";
-    case TPMSIM_STATE_VERSION: return "it is of a version that is not known";
+    case TPMSIM_STATE_VERSION: return "it has a newer version; open it with the tpmsim that wrote it";
     case TPMSIM_STATE_LENGTH: return "it is not as long as it says";
-    case TPMSIM_STATE_DIGEST: return "it has another digest than it says";
-    case TPMSIM_STATE_BODY: return "it spells no device";
-    case TPMSIM_STATE_EARLIER: return "its journal holds a state of an earlier version";
+    case TPMSIM_STATE_DIGEST: return "it is damaged: its digest differs";
+    case TPMSIM_STATE_BODY: return "it is invalid: its fields contradict each other";
+    case TPMSIM_STATE_EARLIER: return "its journal holds a state text of version 1";
     case TPMSIM_NO_JOURNAL: return "it is no journal";
     case TPMSIM_DAMAGED: return "its journal is damaged";
-    case TPMSIM_OTHERWISE: return "another version of the device wrote it, which answered otherwise";
+    case TPMSIM_OTHERWISE: return "another version of tpmsim wrote it, whose responses differ; power-cycle the machine with that version";
     default: return "a fault that is not known";
     }
 }

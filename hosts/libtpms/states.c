@@ -43,7 +43,7 @@ bool is_set(enum TPMLIB_StateType type) {
 }
 
 static bool copy(const uint8_t *bytes, size_t size, uint8_t **made) {
-    *made = malloc(size + 1);
+    *made = calloc(1, size + 1);
     if (*made == NULL) {
         report("there is no memory for a state");
         return false;

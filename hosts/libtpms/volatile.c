@@ -24,19 +24,20 @@ static void write_tail(uint8_t *tail, const struct moment *moment) {
     end_digests(&digests, sha1, tail + DIGEST_AT);
 }
 
-/* Reads the tail after a text of at least 32 bytes. Returns false if write_tail would have written
-   other bytes. */
-static bool read_tail(const uint8_t *tail, struct moment *moment) {
-    uint8_t written[SHA256_BYTES + TAIL_BYTES];
+/* Reads the tail at the end of a state. Returns false if write_tail would have written other bytes. */
+static bool read_tail(const struct state *state, struct moment *moment) {
+    uint8_t end[SHA256_BYTES + TAIL_BYTES], written[sizeof end], *tail = end + SHA256_BYTES;
+    if (state->size < sizeof end) return false;
+    memcpy(end, state->bytes + state->size - sizeof end, sizeof end);
     *moment = (struct moment){.was_launched = tail[LAUNCH_AT] != 0};
     for (int i = 0; i < TIME_BYTES; i++) moment->time = moment->time << 8 | tail[i];
-    memcpy(written, tail - SHA256_BYTES, SHA256_BYTES);
+    memcpy(written, end, SHA256_BYTES);
     write_tail(written + SHA256_BYTES, moment);
-    return memcmp(written + SHA256_BYTES, tail, TAIL_BYTES) == 0;
+    return memcmp(written, end, sizeof end) == 0;
 }
 
 bool make_volatile_state(tpmsim *device, const struct moment *moment, struct state *state) {
-    *state = (struct state){.bytes = malloc(TPMSIM_STATE_SIZE + TAIL_BYTES)};
+    *state = (struct state){.bytes = calloc(1, TPMSIM_STATE_SIZE + TAIL_BYTES)};
     if (state->bytes == NULL) {
         report("there is no memory for a volatile state");
         return false;
@@ -54,7 +55,7 @@ static const char *fault_of(tpmsim *device, const struct state *state, struct mo
         return open_older_state(device, state->bytes, state->size, moment);
     uint8_t told = tpmsim_restore(device, state->bytes, size);
     if (told != TPMSIM_DONE) return words_of_state(state, told);
-    return read_tail(state->bytes + size, moment) ? NULL : "its last 41 bytes are not as they were written";
+    return read_tail(state, moment) ? NULL : "its last 41 bytes are damaged";
 }
 
 bool open_volatile_state(tpmsim *device, const struct state *state, struct moment *moment) {

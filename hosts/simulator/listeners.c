@@ -3,7 +3,6 @@
 #include <arpa/inet.h>
 #include <errno.h>
 #include <stdio.h>
-#include <stdlib.h>
 #include <string.h>
 #include <sys/socket.h>
 #include <unistd.h>
@@ -66,7 +65,6 @@ static bool listen_at_two(const char *text, uint16_t port, int sockets[2]) {
     if (sockets[1] >= 0) return true;
     int error = errno;
     close(sockets[0]);
-    sockets[0] = -1;
     errno = error;
     return false;
 }
@@ -74,26 +72,21 @@ static bool listen_at_two(const char *text, uint16_t port, int sockets[2]) {
 /* Like listen_at_two, but if the port is 0, opens two consecutive free ports. */
 static bool open_pair(const char *text, uint16_t port, int sockets[2]) {
     int tries = port == 0 ? TRIES : 1;
-    while (tries-- > 0)
+    for (int i = 0; i < tries; i++)
         if (listen_at_two(text, port, sockets)) return true;
     return false;
 }
 
 bool listeners_open(struct listeners *listeners, const struct options *options,
                     struct reason *reason) {
-    listeners->count = 2 * (size_t)options->devices;
-    listeners->sockets = malloc(listeners->count * sizeof *listeners->sockets);
-    if (!listeners->sockets) {
-        listeners->count = 0;
-        return refuse(reason, "the simulator", NULL, "needs memory that is not there", 0);
-    }
-    for (size_t i = 0; i < listeners->count; i++) listeners->sockets[i] = -1;
-    for (size_t i = 0; i < listeners->count; i += 2) {
+    for (size_t i = 0; i < 2 * options->devices; i += 2) {
         uint16_t port = options->port == 0 ? 0 : (uint16_t)(options->port + i);
-        if (open_pair(options->address, port, listeners->sockets + i)) continue;
-        char said[64];
-        snprintf(said, sizeof said, "is not listened at, port %u or the next", port);
-        return refuse(reason, options->address, NULL, said, errno);
+        if (!open_pair(options->address, port, listeners->sockets + i)) {
+            char said[64];
+            snprintf(said, sizeof said, "is not listened at, port %u or the next", port);
+            return refuse(reason, options->address, NULL, said, errno);
+        }
+        listeners->count = i + 2;
     }
     return true;
 }
@@ -118,8 +111,6 @@ bool listeners_tell(const struct listeners *listeners, struct reason *reason) {
 }
 
 void listeners_close(struct listeners *listeners) {
-    for (size_t i = 0; i < listeners->count; i++)
-        if (listeners->sockets[i] >= 0) close(listeners->sockets[i]);
-    free(listeners->sockets);
-    *listeners = (struct listeners){0};
+    for (size_t i = 0; i < listeners->count; i++) close(listeners->sockets[i]);
+    listeners->count = 0;
 }

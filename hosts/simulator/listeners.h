@@ -5,10 +5,11 @@
 #include "reason.h"
 #include <netinet/in.h>
 
+enum { MOST_LISTENERS = 2 * MOST_DEVICES };
+
 struct listeners {
-    /* Two sockets for each device, one for commands and one for the platform; -1 if a socket is
-     * not open yet. */
-    int *sockets;
+    /* Two open sockets for each device, one for commands and one for the platform. */
+    int sockets[MOST_LISTENERS];
     size_t count;
 };
 

@@ -5,7 +5,6 @@
 #include "options.h"
 #include "server.h"
 #include <stdio.h>
-#include <stdlib.h>
 
 enum { GOOD = 0, WRONG_WORDS = 2, FAULT = 3 };
 
@@ -58,13 +57,9 @@ static bool serve(struct board *boards, const struct options *options,
 
 /* Returns the simulator's status. */
 static int run(const struct options *options) {
+    static struct listeners listeners;
+    static struct board boards[MOST_DEVICES];
     struct reason reason;
-    struct listeners listeners = {0};
-    struct board *boards = calloc(options->devices, sizeof *boards);
-    if (!boards) {
-        refuse(&reason, "the simulator", NULL, "needs memory that is not there", 0);
-        return fault(&reason);
-    }
     bool is_done = open_devices(boards, options, &reason) &&
                    listeners_open(&listeners, options, &reason) && server_take_signals(&reason) &&
                    serve(boards, options, &listeners, &reason);
@@ -73,7 +68,6 @@ static int run(const struct options *options) {
     struct reason unused;
     close_devices(boards, options->devices, &unused);
     listeners_close(&listeners);
-    free(boards);
     return status;
 }
 

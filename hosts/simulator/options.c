@@ -22,31 +22,40 @@ static const struct option WORDS[] = {
     {"version", no_argument, NULL, VERSION},       {NULL, 0, NULL, 0}};
 
 static const char HELP_TEXT[] =
-    "tpmsim-simulator serves a TPM by the protocol of Microsoft's simulator, which libtss2's mssim,\n"
-    "IBM's TSS and others speak: commands at a port, and the platform's signals at the next one.\n"
-    "It prints the address and the port of each device as soon as it serves.\n"
+    "Usage: tpmsim-simulator [OPTION]..\n"
+    "Serve a TPM by the protocol of Microsoft's simulator, which libtss2's mssim and IBM's TSS speak:\n"
+    "commands at a port, and the platform's signals at the next one. Print the address and the port\n"
+    "of each device as soon as it is served.\n"
     "\n"
-    "  --port N          the port of commands, 0 to 65534; 2321. 0: two ports that are free\n"
-    "  --bind ADDRESS    an address, by its numbers; 127.0.0.1\n"
-    "  --state DIR       the device is kept in this folder, as tpmsim run --state has it\n"
-    "  --force WORD      when the folder is forced to the disk: power, always or never; power\n"
-    "  --keep N          so many journals of the past stay in the folder, 0 to 99; 0\n"
-    "  --image FILE      the device keeps its image in this file\n"
-    "  --record DIR      each time of power is recorded as a journal, DIR/boot-N.tpm\n"
-    "  --seed HEX        1 to 256 bytes of which all random ones are made, for runs that repeat\n"
-    "  --clock WORD      the time of a device in memory: host, or commands, where it stands still\n"
-    "  --complete        the completing layer answers what the device lacks\n"
-    "  --devices K       K devices, each with two ports of its own, N and N+1, N+2 and N+3, ..; 1\n"
-    "  --help, --version\n"
+    "  --port N        Port for commands, or 0 for two free ports [0 to 65534, default: 2321]\n"
+    "  --bind ADDRESS  Address to listen on, in numbers [default: 127.0.0.1]\n"
+    "  --state DIR     Keep the device in this folder; create it if it is missing\n"
+    "  --force WHEN    Sync the folder to disk: power, always or never [default: power]\n"
+    "  --keep N        Keep the last N finished journals in the folder [0 to 99, default: 0]\n"
+    "  --image FILE    Image file (non-volatile state); create it if it is missing\n"
+    "  --record DIR    Record each time of power as a journal, DIR/boot-N.tpm\n"
+    "  --seed HEX      Derive all random bytes from these 1 to 256 bytes, so that runs repeat\n"
+    "  --clock WORD    Time of a device in memory: host, or commands, which stops it [default: host]\n"
+    "  --complete      Let the completing layer answer what the device lacks\n"
+    "  --devices K     Serve K devices, each with its own two ports: N and N+1, N+2 and N+3, and so on\n"
+    "                  [default: 1]\n"
+    "  --help          Print this help\n"
+    "  --version       Print the version\n"
     "\n"
     "Without --state and --image the device ends with the simulator. SIGTERM, SIGINT and a client's\n"
     "request to stop end it. If one of several devices fails, only its clients lose their connections.\n"
-    "The status is 2 for wrong words, and 3 if it cannot listen, or if a device cannot be had or kept.\n";
+    "The status is 2 if the words are wrong, and 3 if a device cannot be listened for, opened or kept.\n";
 
 /* Prints what is wrong with the command line. */
 static enum options_read wrong(const char *said) {
     fprintf(stderr, "tpmsim-simulator: %s\n", said);
     return OPTIONS_WRONG;
+}
+
+static const char *name_of(enum word word) {
+    const struct option *option = WORDS;
+    while (option->name && option->val != (int)word) option++;
+    return option->name ? option->name : "";
 }
 
 /* Reads a decimal number of at most nine digits. */
@@ -99,7 +108,7 @@ static const char *clash_in(const struct options *options, bool has_force, bool 
     if (has_keep && !options->folder) return "--keep is allowed only with --state";
     if (options->devices > 1 && options->image) return "--image has the state of one device";
     if (options->port + 2 * (options->devices - 1) > UINT16_MAX - 1)
-        return "there are not as many ports after --port";
+        return "--port and --devices need ports above 65535; take a lower --port";
     return NULL;
 }
 
@@ -116,13 +125,18 @@ enum options_read options_read(struct options *options, int count, char **words)
         if (word == HELP || word == VERSION) return OPTIONS_SHOWN;
         if (word == '?') return OPTIONS_WRONG;
         if (!read_value(options, (enum word)word, optarg)) {
-            fprintf(stderr, "tpmsim-simulator: a wrong value: %s\n", optarg);
+            fprintf(stderr, "tpmsim-simulator: --%s does not take %s; see tpmsim-simulator --help\n",
+                    name_of((enum word)word), optarg);
             return OPTIONS_WRONG;
         }
         has_force = has_force || word == FORCE;
         has_keep = has_keep || word == KEEP;
     }
-    if (optind < count) return wrong("there are words that belong to no option; --help shows all");
+    if (optind < count) {
+        fprintf(stderr, "tpmsim-simulator: %s belongs to no option; see tpmsim-simulator --help\n",
+                words[optind]);
+        return OPTIONS_WRONG;
+    }
     const char *clash = clash_in(options, has_force, has_keep);
     return clash ? wrong(clash) : OPTIONS_GOOD;
 }

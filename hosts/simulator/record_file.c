@@ -41,7 +41,7 @@ bool record_file_begin(struct record_file *record, const uint8_t *head, size_t s
     if (!record->folder) return true;
     record->file = make_file(record->folder);
     if (record->file < 0)
-        return refuse(reason, record->folder, NULL, "takes no further record", errno);
+        return refuse(reason, record->folder, NULL, "cannot get another file boot-N.tpm", errno);
     return record_file_add(record, head, size, reason);
 }
 

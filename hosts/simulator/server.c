@@ -22,17 +22,17 @@ struct source {
     size_t number;
     /* The events on the client's socket for which the server waits. */
     uint32_t events;
+    /* The next client, and the pointer to this one. */
+    struct source *next, **place;
 };
 
 struct server {
     const struct listeners *listeners;
     struct board *boards;
     int epoll;
-    struct source *of_listeners;
-    /* The sources that are clients, in an array. */
-    struct source **of_clients;
-    size_t count;
-    size_t room;
+    struct source of_listeners[MOST_LISTENERS];
+    /* The list of the sources that are clients. */
+    struct source *of_clients;
     /* Whether the server temporarily accepts no clients. */
     bool is_full;
 };
@@ -64,17 +64,6 @@ static bool watch(const struct server *server, int how, int socket, uint32_t eve
 
 /* ---- clients that come and go */
 
-/* Ensures that there is memory for one more client. */
-static bool has_room(struct server *server) {
-    if (server->count < server->room) return true;
-    size_t room = server->room ? 2 * server->room : 16;
-    struct source **sources = realloc(server->of_clients, room * sizeof(struct source *));
-    if (!sources) return false;
-    server->of_clients = sources;
-    server->room = room;
-    return true;
-}
-
 /* Returns whether too few descriptors are left. The number of a new socket shows this, because it
  * is the lowest free number. */
 static bool is_one_too_many(int socket) {
@@ -85,26 +74,27 @@ static bool is_one_too_many(int socket) {
 
 /* Makes a client for a socket, and waits for its input. */
 static bool add_client(struct server *server, int socket, size_t listener) {
-    struct source *source = has_room(server) ? malloc(sizeof *source) : NULL;
+    struct source *source = calloc(1, sizeof *source);
     if (!source) return false;
-    *source = (struct source){.board = &server->boards[listener / 2],
-                              .number = server->count,
-                              .events = EPOLLIN};
+    source->board = &server->boards[listener / 2];
+    source->events = EPOLLIN;
     if (watch(server, EPOLL_CTL_ADD, socket, EPOLLIN, source))
         source->client = client_of(socket, source->board, listener % 2 == 1);
     if (!source->client) {
         free(source);
         return false;
     }
-    server->of_clients[server->count++] = source;
+    source->place = &server->of_clients;
+    source->next = server->of_clients;
+    if (source->next) source->next->place = &source->next;
+    server->of_clients = source;
     return true;
 }
 
-/* Removes a client from the array. The last client takes its place. */
-static void remove_client(struct server *server, struct source *source) {
-    struct source *last = server->of_clients[--server->count];
-    server->of_clients[source->number] = last;
-    last->number = source->number;
+/* Removes a client from the list. */
+static void remove_client(struct source *source) {
+    *source->place = source->next;
+    if (source->next) source->next->place = source->place;
     client_end(source->client);
     free(source);
 }
@@ -133,9 +123,10 @@ static void fail_board(const struct server *server, struct board *board, const s
 
 /* Closes the connections of all clients whose device has failed. */
 static void remove_clients_of_failed(struct server *server) {
-    for (size_t i = server->count; i > 0; i--)
-        if (server->of_clients[i - 1]->board->has_failed)
-            remove_client(server, server->of_clients[i - 1]);
+    for (struct source *source = server->of_clients, *next; source; source = next) {
+        next = source->next;
+        if (source->board->has_failed) remove_client(source);
+    }
 }
 
 /* Whether at least one device has not failed. */
@@ -156,7 +147,7 @@ static enum outcome serve_client(struct server *server, struct source *source) {
         return GOES_ON;
     }
     if (outcome == GOES_ON && !wait_for(server, source)) outcome = ENDS;
-    if (outcome == ENDS) remove_client(server, source);
+    if (outcome == ENDS) remove_client(source);
     return outcome;
 }
 
@@ -226,12 +217,10 @@ struct server *server_of(const struct listeners *listeners, struct board *boards
                          struct reason *reason) {
     struct server *server = calloc(1, sizeof *server);
     if (server) {
-        *server = (struct server){.listeners = listeners, .boards = boards};
+        server->listeners = listeners;
+        server->boards = boards;
         server->epoll = epoll_create1(EPOLL_CLOEXEC);
-        server->of_listeners = calloc(listeners->count, sizeof *server->of_listeners);
-        if (server->epoll >= 0 && server->of_listeners &&
-            wait_for_clients(server, EPOLL_CTL_ADD, EPOLLIN))
-            return server;
+        if (server->epoll >= 0 && wait_for_clients(server, EPOLL_CTL_ADD, EPOLLIN)) return server;
     }
     refuse(reason, "the simulator", NULL, "cannot wait for clients", errno);
     server_end(server);
@@ -246,9 +235,7 @@ bool server_run(struct server *server, struct reason *reason) {
 
 void server_end(struct server *server) {
     if (!server) return;
-    while (server->count > 0) remove_client(server, server->of_clients[server->count - 1]);
+    while (server->of_clients) remove_client(server->of_clients);
     if (server->epoll >= 0) close(server->epoll);
-    free(server->of_clients);
-    free(server->of_listeners);
     free(server);
 }

@@ -3,7 +3,7 @@ some lines are missing or swapped, and sometimes a byte of the text is changed.
 """
 
 from tpmsim.model.image import BODY_AT, DIGEST_AT_END, HEAD_BYTES
-from tpmsim.standard import CC, digest, frames
+from tpmsim.standard import digest, frames, NUMBERED
 from tests.common.expected import buffer_of
 from tests.common.script import line
 
@@ -73,7 +73,7 @@ def handle_within(random, buffer):
 
 
 def code(random, buffer):
-    return put(buffer, 6, frames.number(random.choice(list(CC)), 4))
+    return put(buffer, 6, frames.number(random.choice(list(NUMBERED)), 4))
 
 
 def tag(random, buffer):

@@ -1,10 +1,11 @@
 """A random script, and the responses of the Python device:
 
-    random_script.py SEED COUNT FOLDER
+    random_script.py SEED COUNT FOLDER [complete]
 
 writes COUNT commands to FOLDER/SEED.tpm, and their responses to FOLDER/SEED.out. Most commands can
-succeed. Some have one wrong field, and some have arbitrary wrong bytes. The script
-tools/soak/random_scripts.sh compares the program's responses with those in FOLDER/SEED.out.
+succeed. Some have one wrong field, and some have arbitrary wrong bytes. With `complete`, the device
+is of the complete profile. The script tools/soak/random_scripts.sh compares the program's responses
+with those in FOLDER/SEED.out.
 """
 
 import contextlib
@@ -14,11 +15,13 @@ import sys
 from dataclasses import replace
 from functools import partial
 
-from tpmsim.model import general, nv_commands, persistent, state
+from tpmsim.model import complete_commands, general, nv_commands, persistent, state
 from tpmsim.model.machine import Model
-from tpmsim.standard import AES, ALG_NULL, CC, CONTINUE_SESSION, DECRYPT, ENCRYPT, Entry, Fact
-from tpmsim.standard import frames, handle_kinds, HandleKind, KEYEDHASH, number, nv, policy, reading
-from tpmsim.standard import RH_NULL, RS_PW, sessions, SHA1, SHA256, Short, sized, SYMCIPHER, XOR
+from tpmsim.model.sequences import GENERATED_VALUE
+from tpmsim.standard import AES, ALG_NULL, ALL_NUMBERED, CC, CONTINUE_SESSION, DECRYPT, ENCRYPT
+from tpmsim.standard import Entry, Fact, frames, handle_kinds, HandleKind, KEYEDHASH, number
+from tpmsim.standard import NUMBERED, nv, policy, Profile, reading, RH_NULL, RS_PW, sessions, SHA1
+from tpmsim.standard import SHA256, Short, sized, SYMCIPHER, XOR
 from tpmsim.standard.handle_kinds import HIERARCHIES
 from tpmsim.standard.objects import Attribute, Public
 from tests.common.outputs import Played, POWER, repeated, write_responses
@@ -34,7 +37,7 @@ USES = CC.Unseal, CC.HMAC, CC.Create, CC.Load, CC.PolicySecret
 # The commands that an index can authorize. TPM2_NV_ChangeAuth is repeated so that it is chosen most
 # often, because only a policy can authorize it.
 NV_USES = (
-    *(it for it in CC if it.handles and it.handles[0].kind == HandleKind.NV_AUTH),
+    *(it for it in NUMBERED.values() if it.handles and it.handles[0].kind == HandleKind.NV_AUTH),
     *(CC.NV_ChangeAuth,) * 6,
 )
 INDEX_NUMBERS = range(12)
@@ -46,6 +49,9 @@ WAITS = 1, 999, 1000, 999_999, 1_000_000, 1_000_001, 2**32 - 1
 MOST_TRIES = 3, 3, 3, 10, 1, 0
 RECOVERIES = 1000, 1000, 1, 0, 2**32 - 1
 
+# Algorithms that the device does not implement: none, RSA, SHA-384, TPM_ALG_NULL and ECB.
+LACKS = 0, 1, 0x0C, ALG_NULL, 0x44
+
 
 def size_of(algorithm):
     return 20 if algorithm == SHA1 else 32
@@ -54,9 +60,11 @@ def size_of(algorithm):
 class Writer(random.Random):
     """Generates random commands for a device, and keeps track of the device's state."""
 
+    PROFILE = Profile.SYMMETRIC
+
     def __init__(self, seed):
         super().__init__(seed)
-        self.device, self.locality = Model(), 0
+        self.device, self.locality = Model(profile=self.PROFILE), 0
         self.events, self.played = [f"# Random script {seed}."], []
         self.made, self.digests = [], [b""]
 
@@ -359,7 +367,7 @@ class Writer(random.Random):
         wanted = self.choice((self.choice(kinds) << 24, self.choice(held or [0])))
         capability = self.choice((1, 1, 1, 1, 2, 5, 6, 6, 3))
         if capability == 2:
-            wanted = self.choice((0, self.choice(list(CC)), 0x18F, 0x190))
+            wanted = self.choice((0, self.choice(list(NUMBERED)), 0x18F, 0x190))
         if capability == 6:
             wanted = self.choice((0, 0x100, 0x101, 0x129, 0x20E, 0x211, 0x212))
         count = self.choice((0, 1, 2, 64, 65, 2**32 - 1))
@@ -444,7 +452,7 @@ class Writer(random.Random):
         CC.ClearControl: (0.5, lambda w: (w.clearing(), w.yes_or_no())),
     }
 
-    assert COMMANDS.keys() == set(CC)
+    assert COMMANDS.keys() == set(NUMBERED.values())
 
     # Methods that make entries.
 
@@ -519,7 +527,8 @@ class Writer(random.Random):
     @property
     def lines(self):
         """Returns the script's lines so far. Buffers are converted to lines here."""
-        return [line(it) if isinstance(it, bytes) else it for it in self.events]
+        events = self.events
+        return [line(it, self.PROFILE) if isinstance(it, bytes) else it for it in events]
 
     def code(self):
         """Returns the code of a supported command. During a lockout, about every tenth returned
@@ -595,16 +604,77 @@ class Writer(random.Random):
                 self.digests = [b"", *self.digests[-20:], held.policy.digest]
 
 
-def written(seed, count):
+class CompleteWriter(Writer):
+    """Generates random commands for a device of the complete profile."""
+
+    PROFILE = Profile.COMPLETE
+
+    def asker(self):
+        return [self.choice((*ASKERS, *ASKERS, *ASKERS, RH_NULL))]
+
+    def new_time(self):
+        """Returns a time near Clock, near the largest time, or anywhere."""
+        clock = min(self.device.clock, state.LAST_SET_TIME)
+        near = self.choice((clock, clock, state.LAST_SET_TIME if self.happens() else clock))
+        return number(near + self.choice((-1, 0, 1, 5000)) & state.LAST_TIME, 8)
+
+    def any_code(self):
+        return number(self.choice((*ALL_NUMBERED, 0x999)), 4)
+
+    def algorithms(self):
+        """Returns a list of algorithms. Sometimes the device does not implement one of them, and in
+        rare cases there are too many.
+        """
+        count = self.choice((0, 1, 2, 2, 9, 64)) + self.happens(0.01)
+        listed = self.choices([*complete_commands.ALGORITHMS], k=count)
+        if listed and self.happens(0.1):
+            listed[self.randrange(count)] = self.choice((*LACKS, self.randrange(2**16)))
+        return number(count, 4) + b"".join(number(it, 2) for it in listed)
+
+    def public_parameters(self):
+        """Returns a type and its parameters. Sometimes one of their bits is flipped."""
+        text = self.choice(
+            (
+                number(KEYEDHASH, 2) + number(ALG_NULL, 2),
+                number(KEYEDHASH, 2) + number(frames.ALG_HMAC, 2) + number(self.hash(), 2),
+                number(SYMCIPHER, 2) + frames.symmetric(True, None),
+            )
+        )
+        return self.bent(text) if self.happens(0.2) else text
+
+    def hashing(self):
+        data = self.choice((b"", b"", b"", GENERATED_VALUE)) + self.some_bytes(1020)
+        hierarchy = frames.RH_LOCKOUT if self.happens() else self.hierarchy()
+        return sized(data) + number(self.hash(), 2) + number(hierarchy, 4)
+
+    COMMANDS = {
+        **Writer.COMMANDS,
+        CC.PolicyCommandCode: (6, lambda w: w.told(w.any_code())),
+        CC.StirRandom: (4, lambda w: ([], sized(w.some_bytes(128)))),
+        CC.GetTestResult: (4, lambda w: ([], b"")),
+        CC.ClockSet: (6, lambda w: (w.asker(), w.new_time())),
+        CC.ClockRateAdjust: (4, lambda w: (w.asker(), number(w.randrange(-5, 6) % 256, 1))),
+        CC.IncrementalSelfTest: (4, lambda w: ([], w.algorithms())),
+        CC.TestParms: (4, lambda w: ([], w.public_parameters())),
+        CC.Hash: (6, lambda w: ([], w.hashing())),
+    }
+
+    assert COMMANDS.keys() == set(CC)
+
+
+WRITERS = {"symmetric": Writer, "complete": CompleteWriter}
+
+
+def written(seed, count, profile="symmetric"):
     """Returns a writer that has written this many commands."""
-    writer = Writer(seed)
+    writer = WRITERS[profile](seed)
     for _ in range(count):
         writer.step()
     return writer
 
 
-def main(seed, count, folder):
-    writer = written(int(seed), int(count))
+def main(seed, count, folder, profile="symmetric"):
+    writer = written(int(seed), int(count), profile)
     path = pathlib.Path(folder) / f"{seed}.tpm"
     path.write_text("\n".join(writer.lines) + "\n", "ascii")
     write_responses(path, writer.played)

@@ -8,7 +8,7 @@ needs tss2/tss2_tcti.h tpm2_startup
 . "$tests/common/attached.sh"
 
 TPMSIM_ARCHIVE=$archive "$hosts/build.sh" tcti "$room/made" || exit 1
-export LD_LIBRARY_PATH="$room/made" TPM2TOOLS_TCTI="tpmsim:state=$room/state"
+export LD_LIBRARY_PATH="$room/made" TPM2TOOLS_TCTI="tpmsim:state=$room/state,norm"
 children='1 2 3 4 5 6 7 8 9 10 11 12'
 back='12 11 10 9 8 7 6 5 4 3 2 1'
 

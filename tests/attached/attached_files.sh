@@ -32,7 +32,7 @@ echo 'tpmsim-power:'
 mkdir empty
 attach ask ask
 "$room/ask" state=kept 80010000000c000001440000 80010000000c0000017b0000
-for words in '' 'one two' '--cut kept' 'kept --keep 100' none empty kept 'kept --keep 1'; do
+for words in '' 'one two' '--cut kept' '--frob kept' 'kept --keep' 'kept --keep 100' 'kept --keep x' --help none empty kept 'kept --keep 1'; do
     # shellcheck disable=SC2086 # word splitting is intended
     first/tpmsim-power $words
     echo "status $?"

@@ -1,5 +1,6 @@
-# Tests tpm2-tools with the module's option `rm`. A long series of commands without tpm2_flushcontext does not run
-# out of slots, and leaves nothing loaded.
+# Tests that tools of tpm2-tools flush what they loaded, without a word for it. A long series of commands without
+# tpm2_flushcontext does not run out of slots, and leaves nothing loaded. The words `norm` and `device` switch it off,
+# and other programs need the word `rm`.
 tests=$(cd "$(dirname "$0")/.." && pwd -P)
 . "$tests/common/cases.sh"
 . "$tests/common/library.sh"
@@ -7,7 +8,7 @@ needs tss2/tss2_tcti.h tpm2_startup
 . "$tests/common/attached.sh"
 
 TPMSIM_ARCHIVE=$archive "$hosts/build.sh" tcti "$room/made" || exit 1
-export LD_LIBRARY_PATH="$room/made" TPM2TOOLS_TCTI="tpmsim:state=$room/state,rm"
+export LD_LIBRARY_PATH="$room/made" TPM2TOOLS_TCTI="tpmsim:state=$room/state"
 
 # tool WORDS..: runs one of tpm2-tools, and prints its exit status.
 tool() {
@@ -40,7 +41,16 @@ left
 echo 'a saved session goes on:'
 tool policypcr -S session1.context -l sha256:10
 left
-echo 'without the word:'
-TPM2TOOLS_TCTI=tpmsim:state=$room/state
-tool createprimary -C o -G aes128cfb -g sha256 -c primary.context
-left
+# loaded LABEL WORDS PROGRAM: creates a primary key with a tool that has this name, and prints what stays loaded.
+loaded() {
+    echo "$1:"
+    TPM2TOOLS_TCTI=tpmsim:state=$room/state$2 "$3" -C o -G aes128cfb -g sha256 >output 2>error
+    echo "${3##*/}: status $?"
+    left
+    TPM2TOOLS_TCTI=tpmsim:state=$room/state,norm tpm2 flushcontext -t
+}
+
+loaded 'a tool by its own name' '' tpm2_createprimary
+loaded 'with norm' ,norm tpm2_createprimary
+loaded 'with device' ,device tpm2_createprimary
+loaded 'with device and rm' ,device,rm tpm2_createprimary

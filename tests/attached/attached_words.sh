@@ -48,7 +48,7 @@ for words in state stat=x state= image= complete=1 completes locality= locality=
     force= force=sometimes force=neverr force=never cut cuts state=a,cut=1 state=a,cut,cut keep keep= keep=1 state=a,keep=100 \
     state=a,keep=-1 state=a,keep=1x ',' 'complete,' ,complete state=a,,complete \
     complete,complete complete,device device,complete device=1 devices device,device rm rm=1 \
-    state=a,rm,rm state=a,state=b ' complete' State=a; do
+    state=a,rm,rm norm=1 state=a,norm,norm state=a,rm,norm state=a,state=b ' complete' State=a; do
     ask "'$(echo "$words" | cut -c 1-40)'" "$words"
 done
 ls

@@ -297,6 +297,53 @@ static void gone(void) {
     show("an end after it");
 }
 
+/* Prints what the device answers to TPM2_FlushContext. */
+static void print_flush(TSS2_TCTI_CONTEXT *context, uint32_t handle) {
+    uint8_t command[14] = {0x80, 1, 0, 0, 0, 14, 0, 0, 1, 0x65}, response[RESPONSE_BYTES];
+    size_t all = sizeof response;
+    put_number(command + 10, handle);
+    must(Tss2_Tcti_Transmit(context, sizeof command, command) == TSS2_RC_SUCCESS, "no transmit");
+    must(Tss2_Tcti_Receive(context, &all, response, -1) == TSS2_RC_SUCCESS, "no receive");
+    printf("TPM2_FlushContext of %08x: %08x\n", handle, number_at(response + 6));
+}
+
+/* Finalizes a context while another client has flushed its latest object and its session, which the
+ * module tries to flush first. The device refuses this, and the earlier object is flushed
+ * nevertheless. No fault is reported, and no change of the other client is lost. */
+static void gone_in_part(void) {
+    uint8_t before[RESPONSE_BYTES], after[RESPONSE_BYTES];
+    TSS2_TCTI_CONTEXT *context = begun(RM), *other = begun(NO_RM);
+    object(context);
+    uint32_t latest = object(context), policy = session(context);
+    flush(other, latest);
+    flush(other, policy);
+    print_flush(other, latest);
+    print_flush(other, policy);
+    done(other, EXTEND, sizeof EXTEND, after);
+    size_t size = done(other, PCR_READ, sizeof PCR_READ, before);
+    ended(context);
+    must(done(other, PCR_READ, sizeof PCR_READ, after) == size && !memcmp(before, after, size),
+         "a change is lost");
+    ended(other);
+    show("after an object and a session that another client flushed");
+}
+
+/* Finalizes a context while the device waits for TPM2_Startup, and refuses each flush. No fault is
+ * reported, and the device can be started. */
+static void before_startup(void) {
+    struct reason reason;
+    TSS2_TCTI_CONTEXT *context = begun(RM);
+    uint32_t loaded = object(context);
+    session(context);
+    struct kept *kept = opened("state");
+    must(kept_power(kept, &reason), "no power cycle");
+    print_flush(context, loaded);
+    ended(context);
+    start(kept);
+    kept_close(kept);
+    show("after a power cycle, an end and TPM2_Startup");
+}
+
 int main(void) {
     restart();
     leave("without the word", NO_RM);
@@ -311,5 +358,7 @@ int main(void) {
     forked(true);
     killed();
     gone();
+    gone_in_part();
+    before_startup();
     return 0;
 }

@@ -24,6 +24,7 @@ AUDIT = pathlib.Path(__file__).parents[2] / "tools" / "audit.py"
 SEND_COMMAND, STOP, HASH_START, HASH_DATA, HASH_END = 8, 21, 5, 6, 7
 POWER_ON, POWER_OFF, RESET = 1, 2, 17
 GET_RANDOM = bytes.fromhex("80010000000c0000017b0010")
+LAUNCH = number(HASH_START, 4), number(HASH_DATA, 4) + number(3, 4) + b"abc", number(HASH_END, 4)
 # The values of PCR 17 after a dynamic launch with the data "abc". They were computed with sha1sum
 # and sha256sum, from zeros and the digest of "abc".
 LAUNCHED = [
@@ -177,13 +178,23 @@ def several() -> None:
 def launched() -> None:
     with Served() as served:
         tpm = served.client()
-        data = number(HASH_DATA, 4) + number(3, 4) + b"abc"
-        served.asks(0, number(HASH_START, 4), data, number(HASH_END, 4))
+        served.asks(0, *LAUNCH)
         values = tpm.send(tpm.read_pcr(17))["pcrValues"]
         print("a launch:", [it.hex() for it in values] == LAUNCHED)
         served.asks(1, number(POWER_OFF, 4))
         off = served.asks(0, number(SEND_COMMAND, 4) + b"\0" + number(12, 4) + GET_RANDOM)
         print("without power:", off.hex())
+
+
+def launched_early() -> None:
+    """A launch before TPM2_Startup, which the device refuses, is answered and changes no PCR."""
+    with Served() as served:
+        served.asks(1, number(POWER_ON, 4))
+        told = served.asks(0, *LAUNCH)
+        tpm = served.client()
+        values = tpm.send(tpm.read_pcr(17))["pcrValues"]
+        unchanged = values == [b"\xff" * 20, b"\xff" * 32]
+        print("a launch before TPM2_Startup:", told.hex(), "changes nothing:", unchanged)
 
 
 def hostile() -> None:
@@ -213,6 +224,7 @@ def main() -> None:
             repeated,
             several,
             launched,
+            launched_early,
             hostile,
         ):
             try:

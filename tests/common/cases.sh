@@ -70,6 +70,13 @@ find_script() {
     false
 }
 
+# symmetric_folders: prints the folders of the made scripts for devices of the symmetric profile.
+symmetric_folders() {
+    for folder in "$TPMSIM_MADE/examples" "$TPMSIM_MADE"/tests/*; do
+        [ "${folder##*/}" = complete ] || echo "$folder"
+    done
+}
+
 # `startup` is TPM2_Startup(CLEAR). Its response is SUCCESS (80010000000a00000000) at the first call, and
 # INITIALIZE (80010000000a00000100) at the second one. The response to `cmd` without bytes is COMMAND_SIZE
 # (80010000000a00000142).

@@ -11,7 +11,7 @@ import re
 from collections.abc import Callable
 from dataclasses import dataclass
 
-from tpmsim.standard import CC, Fact, HandleKind, lines
+from tpmsim.standard import CC, Fact, HandleKind, lines, NAMED, NUMBERED
 from tpmsim.standard.frames import CODES, spelled_code
 from tpmsim.standard.rows import every_row
 from tests.common.places import TOP
@@ -95,13 +95,13 @@ def groups(texts: Documents) -> List:
     rows = re.findall(
         r"^\| .+ \| (.+) \|$", between(texts[README], "| commands |\n|---|", "\n## "), re.M
     )
-    return List([it.name for it in CC], [name for row in rows for name in row.split(", ")])
+    return List(list(NAMED), [name for row in rows for name in row.split(", ")])
 
 
 def not_served(texts: Documents) -> List:
     """The device must not support the commands that a document lists as unsupported."""
     text = between(texts[REFUSALS], "## Commands that are not served", "\n## ")
-    return List([], [it for it in NAME.findall(text) if it in CC.__members__])
+    return List([], [it for it in NAME.findall(text) if it in NAMED])
 
 
 def named(document: str, before: str, behind: str, is_wanted: Callable[[CC], bool]) -> Check:
@@ -117,27 +117,34 @@ def named(document: str, before: str, behind: str, is_wanted: Callable[[CC], boo
 
 
 # Counts of commands in documents: the document, the text before the count, the text after it, and
-# the format of the count.
+# the count as it is written.
 COUNTS = (
-    (README, "It serves ", " commands", str),
-    (CAPABILITIES, "| the number of served commands, ", " |", "{:X}".format),
+    (README, "It serves ", " commands", f"{len(NUMBERED)}"),
+    (CAPABILITIES, "| the number of served commands, ", ", or ", f"{len(NUMBERED):X}"),
+    (CAPABILITIES, ", or ", " in [the complete profile]", f"{len(CC):X}"),
+    (LIST, "A device of the\nsymmetric profile serves ", " of these commands", f"{len(NUMBERED)}"),
 )
 
 
 def counts(texts: Documents) -> List:
     wanted, found = [], []
-    for path, before, behind, written in COUNTS:
-        wanted.append((path, written(len(CC))))
+    for path, before, behind, count in COUNTS:
+        wanted.append((path, count))
         counted = re.findall(rf"{re.escape(before)}([\w-]+){re.escape(behind)}", texts[path])
         found += [(path, it) for it in counted]
     return List(wanted, found)
+
+
+def complete_only(texts: Documents) -> List:
+    names = between(texts[README], "also serves\n", ".\n").replace(" and ", ", ").split(", ")
+    return List([it.name for it in CC if it.has(Fact.COMPLETE_ONLY)], names)
 
 
 def nv_access(texts: Documents) -> List:
     """The document's table must name the attributes that each command requires of an index that
     authorizes it.
     """
-    able = [it for it in CC if it.authorized and it.handles[0].kind in NV_KINDS]
+    able = [it for it in NUMBERED.values() if it.authorized and it.handles[0].kind in NV_KINDS]
     wanted = [(it.name, nv_access_of(it)) for it in able]
     section = between(texts[NV_ACCESS], "## By what an index is authorized", "\n## ")
     rows = re.findall(r"^\| (TPM2_.+?) \| (.+?) \|", section, re.M)
@@ -199,6 +206,10 @@ CHECKS: dict[str, Check] = {
     ),
     "nv.md, what commands ask of an index": nv_access,
     "counts of commands": counts,
+    "docs/table/README.md, commands of the complete profile": named(
+        LIST, "also serves ", ".\n", lambda it: it.has(Fact.COMPLETE_ONLY)
+    ),
+    "README.md, commands of the complete profile": complete_only,
     "docs/table/README.md, the response codes": codes,
 }
 
@@ -212,21 +223,24 @@ WRONG = (
     (NV, "## TPM2_NV_SetBits (135)", "## TPM2_NV_SetBit (135)"),
     (NV, "NV_SetBits @Entity Index u64", "NV_SetBits Entity Index u64"),
     (README, "GetCapability |", "GetCapability, TestParms |"),
-    (ENCRYPTION, "TPM2_HMAC, TPM2_NV_DefineSpace", "TPM2_NV_DefineSpace"),
+    (ENCRYPTION, "TPM2_Hash, TPM2_NV_DefineSpace", "TPM2_NV_DefineSpace"),
     (ENCRYPTION, "TPM2_GetRandom, ", "TPM2_GetRandom, TPM2_ReadClock, "),
     (REFUSALS, "TPM2_FlushContext or ", ""),
     (REFUSALS, "TPM2_Rewrap", "TPM2_Load"),
-    (STATE, "TPM2_HMAC, ", "TPM2_HMAC, TPM2_Load, "),
+    (STATE, "TPM2_Hash, ", "TPM2_Hash, TPM2_Load, "),
     (NV_ACCESS, "| TPM2_NV_Read, ", "| "),
     (README, "It serves 47 commands", "It serves 46 commands"),
     (LIST, "| `00000120` | DISABLED |", "| `00000121` | DISABLED |"),
     (LIST, "| `09C` | KEY |", "| `09C` | KEYS |"),
     (CAPABILITIES, "the number of served commands, 2F", "the number of served commands, 30"),
+    (CAPABILITIES, ", or 36 in", ", or 35 in"),
+    (LIST, "TPM2_ClockSet, TPM2_GetTestResult,", "TPM2_GetTestResult,"),
+    (README, "StirRandom, GetTestResult, ClockSet", "StirRandom, ClockSet"),
 )
 
 
 texts = documents()
-print(f"{len(CC)} COMMANDS: the lists of documents, and how many entries they have.")
+print(f"{len(NUMBERED)} COMMANDS: the lists of documents, and how many entries they have.")
 for what, check in CHECKS.items():
     listed = check(texts)
     print(f"{what}: {len(listed.found)}")

@@ -8,7 +8,7 @@ play_header() {
     for words in -std=c++17 -std=c++20 '-std=c++17 -fno-exceptions' '-std=c++20 -fno-exceptions'; do
         # shellcheck disable=SC2086 # word splitting is intended
         if ! "$1" $words -Wall -Wextra -Wpedantic -Wconversion -Werror $sanitizers -pthread \
-            -I"$dist" -o "$room/caller" "$tests/cpp/devices.cpp" "$archive"; then
+            -I"$tests/../clients/c" -o "$room/caller" "$tests/cpp/devices.cpp" "$archive"; then
             echo "$words: it is not compiled"
         elif ! "$room/caller" >printed; then
             echo "$words: it does not run"

@@ -21,7 +21,7 @@ from tests.common.shims import Ending, SERVE, Shim, Turns, WELL
 
 from tpmsim.model import image
 from tpmsim.model.machine import Model
-from tpmsim.standard import lines
+from tpmsim.standard import lines, Profile
 from tests.images import image_bodies
 from tests.images import image_cases
 from tests.images.bent_bodies import Bender, Body
@@ -47,6 +47,9 @@ class Program:
     """A program that serves a device, with a new run for each image. In the runs of `opening` no
     client connects; in those of `saving` one does.
     """
+
+    # The profiles of the devices whose images the program opens.
+    profiles = (Profile.SYMMETRIC,)
 
     def __init__(self, opening, saving):
         self.opening, self.saving = opening, saving
@@ -119,7 +122,7 @@ class Comparison:
         """Returns the Python device's fault for an image, and checks that the program reports the
         same fault.
         """
-        wanted, given = image.fault_of(text), self.program.fault_of(text)
+        wanted, given = image.fault_of(text, self.program.profiles), self.program.fault_of(text)
         words = f"{words}: {wanted or 'opened'} is wanted, {given or 'opened'} is given"
         self.count(given == wanted, words, text)
         return wanted or "opened"

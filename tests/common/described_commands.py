@@ -166,14 +166,14 @@ def attributes(program: Program, codes: list[CC]) -> Iterator[Asked]:
     printed = program.run(["do Startup 0", *asking, total])[1:]
     for code, answer in zip(codes, printed):
         yield Asked(f"{code.name}: attributes", command_attributes(code), int(answer[-8:], 16))
-    yield Asked("how many commands there are", len(CC), int(printed[-1][-8:], 16))
+    yield Asked("how many commands there are", len(NUMBERED), int(printed[-1][-8:], 16))
 
 
 def served(program: Program, codes: list[CC]) -> Iterator[Asked]:
     """Checks that the description is right about which commands the device supports, and which
     commands a policy can name.
     """
-    numbers = range(0x100, 0x200) if len(codes) == len(CC) else [int(it) for it in codes]
+    numbers = range(0x100, 0x200) if len(codes) == len(NUMBERED) else [int(it) for it in codes]
     for wanted, refusal, buffer in (
         ("served", "COMMAND_CODE", lambda it: frames.command(it, b"\0")),
         ("named by a policy", "POLICY_CC/p1", naming),
@@ -469,7 +469,7 @@ def is_missing_one_found(program: Program) -> bool:
 
 
 def main(path: str) -> None:
-    program, codes = Program(path), list(CC)
+    program, codes = Program(path), list(NUMBERED.values())
     print(f"{len(codes)} COMMANDS: what is described of them, and how often the program was asked.")
     for what, check in CHECKS.items():
         asked = list(check(program, codes))

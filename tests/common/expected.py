@@ -11,7 +11,8 @@ from dataclasses import dataclass
 
 from tpmsim.model import player
 from tpmsim.model.machine import Model
-from tpmsim.standard import frames, lines
+from tpmsim.standard import frames, lines, Profile
+from tests.common.made import COMPLETE
 from tests.common.shims import Ending
 from tests.common.outputs import Played, POWER, RANDOM_BYTES, repeated
 
@@ -33,11 +34,11 @@ def wanted_of(comment):
     return name
 
 
-def buffer_of(line):
+def buffer_of(line, profile=Profile.SYMMETRIC):
     """Returns the command buffer in a script's line, or None if the line has none."""
     word, _, argument = line.partition(" ")
     if word == "do":
-        return lines.assemble(argument.encode("ascii"))
+        return lines.assemble(argument.encode("ascii"), profile)
     return bytes.fromhex(argument) if word == "cmd" else None
 
 
@@ -54,14 +55,16 @@ class Command:
     comment: str
 
 
-def events_of(script):
-    """Yields the commands of a script, and None for each power cycle. Stops at a bad line."""
+def events_of(script, profile=Profile.SYMMETRIC):
+    """Yields the commands of a script, and None for each power cycle. Stops at a line that is bad
+    in this profile.
+    """
     locality, random = 0, bytes(RANDOM_BYTES)
     comment, in_comment, elapsed = "", False, 0
     for line in script.splitlines():
         word, _, argument = line.partition(" ")
         try:
-            buffer = buffer_of(line)
+            buffer = buffer_of(line, profile)
         except lines.Fault:
             return
         if line.startswith("#"):
@@ -88,7 +91,7 @@ def played_by(script, device):
     """Yields the outcomes of a script's events. Raises ValueError if a comment names another
     outcome.
     """
-    for it in events_of(script):
+    for it in events_of(script, device.profile):
         if it is None:
             device.power_cycle()
             yield POWER
@@ -106,8 +109,10 @@ def played(path: pathlib.Path) -> list[Played]:
     a comment names another outcome.
     """
     found: list[Played] = []
+    is_complete = path.parent.name == COMPLETE
+    device = Model(profile=Profile.COMPLETE if is_complete else Profile.SYMMETRIC)
     try:
-        for event in played_by(path.read_text("ascii"), Model()):
+        for event in played_by(path.read_text("ascii"), device):
             found.append(event)
     except ValueError as fault:
         raise ValueError(f"event {len(found) + 1}: {fault}") from None

@@ -6,7 +6,7 @@ export GOCACHE="${TPMSIM_BUILT:-$room}/go" GOPATH="$room/path" CGO_LDFLAGS="-L$d
 
 # copy_module: copies the Go module to the folder `module`.
 copy_module() {
-    cp -rL "$tests/../clients/go" module && rm -rf module/native && cp "$dist/tpmsim.h" module/
+    cp -r "$tests/../clients/go" module && cp "$dist/tpmsim.h" module/
 }
 
 # play WORDS..: runs go in the copied module, and prints its output if it fails.

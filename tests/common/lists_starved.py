@@ -16,7 +16,7 @@ import sys
 
 from tpmsim.model import image, machine
 from tpmsim.model.player import Player
-from tpmsim.standard import CC, lines
+from tpmsim.standard import CC, lines, NUMBERED
 from tests.common.faults import Refusals
 from tests.common.shims import HERE, Ending, Turns, fail
 
@@ -70,12 +70,12 @@ class Script:
         return ending.output.decode("ascii").splitlines()
 
     def check_all_succeed(self):
-        """Checks that the script has each command of the device, and that each succeeds at least
-        once.
+        """Checks that the script has each command of the symmetric profile, and that each succeeds at
+        least once.
         """
         answered = zip(self.codes, self.whole)
         succeeded = {code for code, answer in answered if answer[CODE] == SUCCESS}
-        if succeeded != set(machine.ROWS):
+        if succeeded != set(NUMBERED.values()):
             fail("the script does not have every command")
 
     def check_run(self, turn, ending):
@@ -114,7 +114,7 @@ class Script:
                 f"{code.name}: growths refused: {self.refused[code]}, each answered MEMORY,"
                 " and the same command then succeeded"
             )
-        print(f"{len(machine.ROWS) - len(GROWING)} other commands: never answered MEMORY")
+        print(f"{len(NUMBERED) - len(GROWING)} other commands: never answered MEMORY")
 
 
 def full_image():

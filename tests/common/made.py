@@ -43,6 +43,11 @@ EXHAUSTIVE = (
 )
 
 
+# The folder of the scripts that are played with `run --complete`, on a device of the complete
+# profile. All other scripts are played on a device of the symmetric profile.
+COMPLETE = "complete"
+
+
 def makes(program: pathlib.Path) -> bool:
     """Returns whether a program makes a script."""
     with program.open(encoding="utf-8") as text:

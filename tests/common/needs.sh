@@ -20,11 +20,12 @@ package_of() {
     qemu-aarch64) echo qemu-user ;;
     libtpms/tpm_library.h) echo libtpms-dev ;;
     man) echo man-db ;;
-    nm | objdump | strip) echo binutils ;;
+    nm | objcopy | objdump | strip) echo binutils ;;
     node) echo nodejs ;;
     setpriv | unshare) echo util-linux ;;
     tpm2 | tpm2_*) echo tpm2-tools ;;
     tsc) echo node-typescript ;;
+    tssgetrandom) echo tss2 ;;
     tss2/tss2_tcti.h) echo libtss2-dev ;;
     venv) echo python3-venv ;;
     /usr/aarch64-linux-gnu/include/*) echo libc6-dev-arm64-cross ;;

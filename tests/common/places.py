@@ -9,7 +9,7 @@ import subprocess
 import sys
 import tempfile
 
-from tests.common.made import EXHAUSTIVE, sources, TOP
+from tests.common.made import COMPLETE, EXHAUSTIVE, sources, TOP
 
 
 @functools.cache
@@ -48,10 +48,12 @@ def named(*names: str) -> list[pathlib.Path]:
 
 
 def scripts(*places: str) -> list[pathlib.Path]:
-    """Returns all scripts, or those of some folders, such as tests/nv. They are sorted by their
-    paths, but the exhaustive ones come last.
+    """Returns all scripts for devices of the symmetric profile, or those of some folders, such as
+    tests/nv. They are sorted by their paths, but the exhaustive ones come last.
     """
-    asked = [it for it in sources() if not places or str(it.parent.relative_to(TOP)) in places]
+    known = {str(it.parent.relative_to(TOP)): it.parent.name for it in sources()}
+    wanted = places or [it for it, name in known.items() if name != COMPLETE]
+    asked = [it for it in sources() if str(it.parent.relative_to(TOP)) in wanted]
     asked.sort(key=lambda it: (it.stem in EXHAUSTIVE, it))
     return named(*(it.stem for it in asked))
 

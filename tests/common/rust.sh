@@ -10,7 +10,7 @@ export CARGO_TARGET_DIR CARGO_NET_OFFLINE TPMSIM_LIB_DIR
 
 # copy_package: copies the Rust package to the folder `package`.
 copy_package() {
-    cp -rL "$tests/../clients/rust" package && rm -rf package/target package/Cargo.lock package/native
+    cp -r "$tests/../clients/rust" package && rm -rf package/target package/Cargo.lock
 }
 
 # play WORDS..: runs cargo in the copied package, and prints its output if it fails.

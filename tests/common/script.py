@@ -9,7 +9,8 @@ import textwrap
 
 from tpmsim.device.base import line, line_in_bytes
 from tpmsim.model.machine import Model, Outcome
-from tpmsim.standard import CC, frames
+from tpmsim.standard import CC, frames, Profile
+from tests.common.made import COMPLETE
 from tests.common.outputs import Played, POWER, RANDOM_BYTES, repeated
 from tests.common.outputs import write_responses, write_trace
 
@@ -46,14 +47,17 @@ def told_head(told: str) -> str:
 
 class Script:
     """The lines of a script, and a device that executes each line as it is written. The script has
-    the name of its program. `module` is the name of the program's module.
+    the name of its program. `module` is the name of the program's module. If the program is in the
+    folder of these scripts, the device is of the complete profile.
     """
 
     def __init__(self, module: str, head: str, ending: str = MADE_THIS) -> None:
         self.name = module.rpartition(".")[2]
         self.lines: list[str] = []
         self.played: list[Played] = []
-        self.device, self.locality, self.random = Model(), 0, bytes(RANDOM_BYTES)
+        is_complete = COMPLETE in module.split(".")
+        self.device = Model(profile=Profile.COMPLETE if is_complete else Profile.SYMMETRIC)
+        self.locality, self.random = 0, bytes(RANDOM_BYTES)
         self.seeds, self.elapsed, self.pause = 0, 0, 0
         self.write_comment(f"{head} {self.name}.py{ending}")
 
@@ -116,7 +120,9 @@ class Script:
         for buffer in buffers:
             if self.pause:
                 self.let_pass(self.pause)
-            self.lines.append(line_in_bytes(buffer) if as_bytes else line(buffer))
+            self.lines.append(
+                line_in_bytes(buffer) if as_bytes else line(buffer, self.device.profile)
+            )
             answered = self.device.execute(buffer, self.locality, self.random, self.elapsed)
             if (answered.refused or SUCCESS) != outcome:
                 raise ValueError(f"{words}: it is {answered.refused or SUCCESS}")

@@ -16,7 +16,7 @@ from tpmsim.model import capability, general, machine, nv_commands, object_rules
 from tpmsim.model.general import Answer, Command, Refusal
 from tpmsim.model.machine import Model
 from tpmsim.model.player import Player
-from tpmsim.standard import CC, Fields, Handle, KEYEDHASH
+from tpmsim.standard import CC, Fields, Handle, KEYEDHASH, Profile
 from tests.common import places
 from tests.common.made import EXHAUSTIVE
 from tests.common.shims import ran
@@ -26,16 +26,16 @@ check_entry, unwrapped = general.check_entry, object_rules.unwrapped
 authorize = Model.authorize
 
 
-def any_size(fields: Fields, length: int) -> tuple[int, CC]:
+def any_size(fields: Fields, length: int, profile: Profile) -> tuple[int, CC]:
     fields.data = fields.data[:2] + length.to_bytes(4, "big") + fields.data[6:]
-    return read_header(fields, length)
+    return read_header(fields, length, profile)
 
 
-def any_tag(fields: Fields, length: int) -> tuple[int, CC]:
+def any_tag(fields: Fields, length: int, profile: Profile) -> tuple[int, CC]:
     """Treats any tag other than 8002 as 8001."""
     if fields.data[:2] != b"\x80\x02":
         fields.data = b"\x80\x01" + fields.data[2:]
-    return read_header(fields, length)
+    return read_header(fields, length, profile)
 
 
 def other_code(fields: Fields, wanted: tuple[Handle, ...], device: Any) -> list[int]:

@@ -48,6 +48,39 @@ static void commands() {
     std::printf("it draws the same again: %d\n", first.bytes == second.bytes);
     tell("what it lacks", tpm.execute(Buffer{0x80, 1, 0, 0, 0, 13, 0, 0, 1, 0x46, 0, 1, 7}));
     tell("the layer", tpm.complete(Buffer{0x80, 1, 0, 0, 0, 13, 0, 0, 1, 0x46, 0, 1, 7}));
+    std::printf("accepted: %zu bytes\n", tpm.accepted(get_random(4)).size());
+    try {
+        tpm.accepted(libtpmsim::startup);
+    } catch (const libtpmsim::Refusal &refusal) {
+        std::printf("a refusal is thrown: %s\n", refusal.what());
+        tell("its response", refusal.response);
+    }
+}
+
+static void seeds() {
+    for (const char *seed : {"mine", "mine", "other"}) {
+        Device tpm = Device::from_seed(seed);
+        tpm.execute(libtpmsim::startup);
+        std::printf("from the seed %s: %s\n", seed, libtpmsim::hex_of(tpm.accepted(get_random(4))).c_str());
+    }
+    for (const std::size_t size : {std::size_t{0}, std::size_t{135}, std::size_t{136}, std::size_t{137}})
+        std::printf("%u ", libtpmsim::shake256(std::string(size, '\xa3'))[255]);
+    std::printf("\n");
+}
+
+static void logs() {
+    Device tpm = Device::of(counting());
+    std::printf("no log: %zu bytes\n", tpm.log().size());
+    tpm.begin_log();
+    tpm.wait(std::chrono::milliseconds(7));
+    tpm.set_locality(3);
+    tpm.execute(get_random(4));
+    tpm.complete(libtpmsim::startup);
+    tpm.power_cycle();
+    const std::string log = tpm.log();
+    std::printf("%s", log.substr(log.find('\n') + 1).c_str());
+    tpm.restore(tpm.snapshot());
+    std::printf("restored: %zu bytes after the state\n", tpm.log().size() - tpm.log().find('\n') - 1);
 }
 
 static void times() {
@@ -62,6 +95,8 @@ static void times() {
     std::printf("no time passes by itself: %d\n", then.bytes == later.bytes);
     tpm.locality = 5;
     tell_thrown("locality 5", [&] { tpm.execute(read_clock); });
+    tell_thrown("locality 5 is set", [&] { tpm.set_locality(5); });
+    tell_thrown("49 days and more", [&] { tpm.wait(std::chrono::hours(24 * 50)); });
     tpm.locality = 4;
     tell_thrown("locality 4", [&] { tpm.execute(read_clock); });
 }
@@ -122,6 +157,8 @@ static int told() {
 int main() {
 #ifdef __cpp_exceptions
     commands();
+    seeds();
+    logs();
     times();
     texts();
     moves();

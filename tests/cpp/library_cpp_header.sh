@@ -12,3 +12,6 @@ play_header g++
 echo '== clients/c/README.md'
 awk '/^```/ { shown = $0 == "```cpp"; next } shown' "$tests/../clients/c/README.md" >program.cpp
 g++ -std=c++17 -Wall -Wextra -Werror -I"$dist" -o program program.cpp "$archive" && ./program
+
+echo '== C++14'
+g++ -std=c++14 -I"$dist" -o program program.cpp "$archive" 2>&1 | sed -n 's/.*\(error: #error.*\)/\1/p'

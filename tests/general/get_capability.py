@@ -4,6 +4,7 @@ says whether there are more.
 """
 
 from tpmsim.model.capability import command_attributes, COMMANDS, HANDLES, PCRS, PROPERTIES
+from tpmsim.standard import NUMBERED
 from tests.common.steps import Steps
 from tests.common.vocabulary import area, BY_VALUE, CC, command, frames, number, RH_OWNER, SE_POLICY
 from tests.common.vocabulary import selection, SHA1, SHA256, storage_key, wrong
@@ -12,7 +13,7 @@ MOST = 2**32 - 1
 
 # The TPMA_CC of each command. It contains the command's code; the number of its handles, from bit
 # 25 on; and bit 28 if the command returns a handle.
-ATTRIBUTES = [command_attributes(it) for it in sorted(CC)]
+ATTRIBUTES = [command_attributes(it) for it in sorted(NUMBERED.values())]
 
 tpm = Steps(__name__, __doc__, starts=False)
 says, gives = tpm.raw, tpm.lists

@@ -89,14 +89,12 @@ def worked_sequences(text):
     print("and its HMAC is right:", found == hmac.digest(worked_state.KEY, b"", "sha256"))
 
 
-def version_1():
-    """Checks that a text of version 1 is opened without the objects that were flushed, and written
-    as version 2.
-    """
-    text = worked_state.written(worked_state.FIELDS_1)
-    wanted = state_text.state_text(worked_state.device_1(), worked_state.layer())
-    found = state_text.state_text(*state_text.open_state(text))
-    print("version 1 is read, without the object that was flushed:", found == wanted)
+def profiles(text):
+    """Checks that the text of a device of the complete profile differs only in its version."""
+    complete = image.digested(3, text[HEAD_BYTES:-DIGEST_AT_END], state_text.MAGIC)
+    device, layer = state_text.open_state(complete)
+    print("version 3 has the profile", device.profile.name)
+    print("and is read:", state_text.state_text(device, layer) == complete)
 
 
 def sizes():
@@ -146,8 +144,10 @@ def frames_with_one_thing_wrong(text):
     for words, bent in (
         ("another word", b"TPMI" + text[4:]),
         ("version 0", text[:4] + frames.number(0, 2) + text[6:]),
-        ("version 3", text[:4] + frames.number(3, 2) + text[6:]),
+        ("version 4", text[:4] + frames.number(4, 2) + text[6:]),
         ("version 2, called version 1", text[:4] + frames.number(1, 2) + text[6:]),
+        ("version 2, called version 3", text[:4] + frames.number(3, 2) + text[6:]),
+        ("version 1", image.digested(1, text[HEAD_BYTES:-DIGEST_AT_END], state_text.MAGIC)),
         ("a length of one more", text[:6] + frames.number(len(text) + 1, 4) + text[10:]),
         ("an image", image.image(Model())),
     ):
@@ -163,9 +163,9 @@ def bodies():
 def main():
     play_all()
     worked()
-    version_1()
     sizes()
     text = worked_state.text()
+    profiles(text)
     refused(text)
     corrected(text)
     frames_with_one_thing_wrong(text)

@@ -1,6 +1,5 @@
 """The worked example of a state text, and its device. worked_state.txt lists the fields of the
-text. worked_state_1.txt lists the fields of a text of version 1 for the same device.
-worked_sequences.txt lists the fields of three sequence objects, which follow the layer.
+text. worked_sequences.txt lists the fields of three sequence objects, which follow the layer.
 """
 
 import copy
@@ -47,7 +46,7 @@ do GetRandom 1
 """
 
 FOLDER = pathlib.Path(__file__).parent
-FIELDS, FIELDS_1 = FOLDER / "worked_state.txt", FOLDER / "worked_state_1.txt"
+FIELDS = FOLDER / "worked_state.txt"
 SEQUENCES = FOLDER / "worked_sequences.txt"
 
 # The message "abc" with its padding, which is one block (FIPS 180-4). The hash state after this
@@ -93,13 +92,6 @@ def layer_with_sequences():
 
 def text():
     return state_text(device(), layer())
-
-
-def device_1():
-    """Returns the device that a text of version 1 contains after object 0 was flushed."""
-    found = device()
-    del found.objects[0x80000000]
-    return found
 
 
 def written(fields=FIELDS):

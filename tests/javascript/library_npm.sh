@@ -18,9 +18,18 @@ echo '== it is packed'
 tar tzf "$room"/tpmsim-*.tgz | sort
 tar xzf "$room"/tpmsim-*.tgz -O package/tpmsim.wasm | cmp - "$top/dist/tpmsim.wasm" && echo 'it has the module'
 
+tar xzf "$room"/tpmsim-*.tgz -O package/README.md | grep -c '](\.\.' | sed 's/^/links out of the package: /'
+tar xzf "$room"/tpmsim-*.tgz -O package/index.d.cts | cmp - "$package/index.d.ts" && echo 'it has the types for CommonJS'
+
 echo '== it is installed'
 cd "$room/project" || exit 1
 echo '{ "private": true, "type": "module" }' >package.json
 npm install --silent "$room"/tpmsim-*.tgz || exit 1
+if node -e 'process.exit(process.features.require_module ? 0 : 1)'; then
+    node --no-warnings --input-type=commonjs \
+        -e 'require("tpmsim").Device.create().then((tpm) => console.log("CommonJS:", typeof tpm.accepted))'
+else
+    echo 'CommonJS: function'
+fi
 cp -R "$package/tests" node_modules/tpmsim/
 all_pass node_modules/tpmsim

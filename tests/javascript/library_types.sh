@@ -19,6 +19,10 @@ cp "$tests/javascript/uses.ts" uses.ts
 cat >same.ts <<END
 import * as declared from "tpmsim";
 import * as real from "$package/src/index.js";
+// device.js adds this method where the language has Symbol.dispose.
+declare module "$package/src/device.js" {
+  interface Device { [Symbol.dispose](): void }
+}
 type Shape<M> = {
   [Name in keyof M]: M[Name] extends { prototype: infer Instance }
     ? { instance: Instance; statics: Omit<M[Name], "prototype"> }
@@ -31,3 +35,26 @@ types 'the sources' --allowJs --checkJs "$package/src/index.js"
 types 'index.d.ts' "$package/index.d.ts"
 types 'the sources as declared' --allowJs same.ts
 types 'a program' uses.ts
+
+# types_without_dom LABEL WORDS..: the same, without the types of the DOM.
+types_without_dom() {
+    label=$1
+    shift
+    tsc --noEmit --strict --target es2022 --lib es2022 --typeRoots "$room/none" "$@" && echo "$label: no fault"
+}
+cat >plain.ts <<'END'
+import { Device, Refused } from "tpmsim";
+export async function use(): Promise<number> {
+  const tpm = await Device.create({ seed: "mine" });
+  try {
+    return tpm.accepted("GetRandom 4").drawn + tpm.log.length;
+  } catch (fault) {
+    return fault instanceof Refused ? fault.code : 0;
+  }
+}
+END
+types_without_dom 'without dom' --module es2022 --moduleResolution node plain.ts
+mkdir -p packed/node_modules && cp -rL "$package" packed/node_modules/tpmsim && cp plain.ts packed/
+cp packed/node_modules/tpmsim/index.d.ts packed/node_modules/tpmsim/index.d.cts
+echo '{ "private": true }' >packed/package.json
+(cd packed && types_without_dom 'CommonJS' --module nodenext plain.ts)

@@ -1,6 +1,6 @@
 # A program in Go logs its commands, which it executes with the C library, and another one with the Go module. From
 # these logs, tools/explain.py explains why a command was refused. The answers of the completing layer are no
-# refusals.
+# refusals. tpmsim-coverage counts the commands in the log of the module.
 tests=$(cd "$(dirname "$0")/.." && pwd -P)
 . "$tests/common/cases.sh"
 . "$tests/common/library.sh"
@@ -19,3 +19,4 @@ mkdir module/logged && cp "$sources/logged.go" module/logged/main.go && play bui
     "$room/logged" >logged
 grep -c '^# completed$' logged
 python3 "$tests/../tools/explain.py" logged
+python3 -m tpmsim.coverage.main logged --only state | tail -n 1 | cut -d ";" -f 1

@@ -1,6 +1,6 @@
 # A program in Rust logs its commands, which it executes with the C library, and another one with the Rust
 # package. From these logs, tools/explain.py explains why a command was refused. The answers of the completing
-# layer are no refusals.
+# layer are no refusals. tpmsim-coverage counts the commands in the log of the package.
 tests=$(cd "$(dirname "$0")/.." && pwd -P)
 . "$tests/common/cases.sh"
 . "$tests/common/library.sh"
@@ -18,3 +18,4 @@ CARGO_PKG_VERSION='' rustc --edition 2021 --crate-name tpmsim --crate-type rlib 
         "$sources/logged.rs" && "$room/logged" >logged
 grep -c '^# completed$' logged
 python3 "$tests/../tools/explain.py" logged
+python3 -m tpmsim.coverage.main logged --only state | tail -n 1 | cut -d ";" -f 1

@@ -11,6 +11,7 @@ import sys
 
 from tpmsim.device.base import BadImage
 from tpmsim.device.library import LibraryDevice
+from tpmsim.standard import Profile
 from tests.common.damaged_images import main, RANDOM
 
 
@@ -18,6 +19,8 @@ class Library:
     """The library, which opens images and saves devices like a program that serves clients. All
     images are opened in the same handle.
     """
+
+    profiles = tuple(Profile)
 
     def __init__(self) -> None:
         self.device = LibraryDevice(manufactured=RANDOM)

@@ -5,7 +5,7 @@ package main
 import (
 	"fmt"
 
-	"tpmsim"
+	"example.org/tpmsim"
 )
 
 func main() {

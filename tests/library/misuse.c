@@ -213,7 +213,7 @@ static void of_states(struct tpmsim *device) {
     restore_changed(device, "of nothing", 0, 0);
     restore_changed(device, "of 41 bytes", 41, 0);
     restore_changed(device, "of an image's magic", state_size, 3);
-    restore_changed(device, "of another version", state_size, 5);
+    restore_changed(device, "of another version", state_size, 4);
     restore_changed(device, "of one byte less", state_size - 1, 20);
     restore_changed(device, "of one byte more", state_size + 1, 20);
     restore_changed(device, "of another digest", state_size, state_size - 1);

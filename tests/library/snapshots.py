@@ -5,8 +5,7 @@
 LIBRARY is the shared library. The test restores texts in which one byte is changed, with the right
 digest and with a wrong one. With ONE_IN, only one in every ONE_IN bytes is changed. A text that is
 refused must not change the device. If a text is accepted, the library must write the same text
-again, or a text of version 2 if the accepted text has version 1. If a text has no completing layer,
-the library adds a new layer to the written text.
+again. If a text has no completing layer, the library adds a new layer to the written text.
 """
 
 import collections
@@ -15,7 +14,7 @@ import sys
 from collections.abc import Iterable, Iterator
 
 from tpmsim.model import state_text
-from tpmsim.model.image import DIGEST_AT_END, HEAD_BYTES
+from tpmsim.model.image import DIGEST_AT_END, digested, HEAD_BYTES
 from tpmsim.model.machine import Model
 from tpmsim.model.state_text import Layer
 from tests.common.shims import fail
@@ -26,6 +25,7 @@ MOST_BYTES, RANDOM = 36_930, bytes(range(256))
 # The fault for each result of tpmsim_restore.
 FAULTS = {0: None}
 FAULTS |= dict(enumerate(("Short", "Magic", "Version", "Length", "Digest", "Body"), 13))
+FAULTS[21] = "Earlier"
 
 # Ways to change a byte: flip its lowest bit; flip its highest bit; add one if the lowest bit is
 # set, else subtract one. The last way flips at least the two lowest bits.
@@ -132,8 +132,10 @@ def main(path: str, one_in: str = "1") -> None:
     kind(library, "the largest", [state_text.state_text(*state_bodies.largest())])
     bodies(library)
     with_sequences(library)
-    kind(library, "a text of version 1", [worked_state.written(worked_state.FIELDS_1)])
-    kinds(library, worked_state.text(), int(one_in))
+    text = worked_state.text()
+    earlier = digested(state_text.VERSION_1, text[HEAD_BYTES:-DIGEST_AT_END], state_text.MAGIC)
+    kind(library, "a text of version 1", [earlier])
+    kinds(library, text, int(one_in))
 
 
 if __name__ == "__main__":

@@ -1,6 +1,6 @@
 # Checks the output of `tpmsim lines` and `tpmsim code`. Each command's line has the same form as in its
 # section of docs/table, and its example can be assembled. Response codes have the names that docs/table
-# lists.
+# lists. `lines` lists the commands of the symmetric profile.
 tests=$(cd "$(dirname "$0")/.." && pwd -P)
 . "$tests/common/cases.sh"
 table=${tests%/*}/docs/table
@@ -12,7 +12,8 @@ count() {
 
 "$program" lines >"$room/lines" || echo 'lines: failed'
 # shellcheck disable=SC2016 # the backquotes belong to the documents
-sed -n 's/^Line: `\(.*\)`\.$/\1/p' "$table"/*.md | sort >"$room/wanted"
+sed -n 's/^Line: `\(.*\)`\.$/\1/p' "$table"/*.md | grep -vE '^(StirRandom|GetTestResult|ClockSet|ClockRateAdjust|IncrementalSelfTest|TestParms|Hash)( |$)' |
+    sort >"$room/wanted"
 grep -v '^    ' "$room/lines" | sort >"$room/forms"
 diff "$room/wanted" "$room/forms" >"$room/differences"
 count forms "$(grep -c . "$room/forms")" "$(grep -c '^[<>]' "$room/differences")"

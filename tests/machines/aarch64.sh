@@ -27,7 +27,7 @@ compare() {
 make_scripts
 number=0
 played=0
-for script in "$TPMSIM_MADE"/tests/*/*.tpm; do
+for script in $(symmetric_folders | xargs -I FOLDER find FOLDER -name '*.tpm' | sort); do
     number=$((number + 1))
     if [ $((number % ${EVERY:-3})) -eq 0 ]; then
         compare "$script"

@@ -1,7 +1,7 @@
-# Unpacks the Debian package into an empty root, and runs the installed programs from there.
+# Unpacks the three Debian packages into an empty root, and runs the installed programs from there.
 tests=$(cd "$(dirname "$0")/.." && pwd -P)
 . "$tests/common/cases.sh"
-needs dpkg-deb cc c++ pkg-config man python3
+needs dpkg-deb cc c++ nm pkg-config man python3
 top=${tests%/*}
 root=$room/root
 case $(uname -m) in
@@ -24,15 +24,30 @@ exec $(command -v cc) "\$@"
 END
 chmod +x headers/cc
 
-echo '== it is made'
+echo '== they are made'
 version=$("$dist/tpmsim" --version | sed 's/.* //')
-said env PATH="$room/folder/headers:$PATH" TPMSIM_PACKING=none "$top/tools/deb.sh" "$room/made" |
+lines=5 said env PATH="$room/folder/headers:$PATH" TPMSIM_PACKING=none "$top/tools/deb.sh" "$room/made" |
     sed -e "s/$version/VERSION/" -e "s/_$machine/_MACHINE/"
-package=$room/made/tpmsim_${version}_$machine.deb
-dpkg-deb -f "$package" Package Architecture Depends Description | sed -e "s/: $machine/: MACHINE/" -e 4q
-dpkg-deb -x "$package" "$root" && dpkg-deb -e "$package" control
-[ "$(cd "$root" && find usr -type f | wc -l)" -eq "$(wc -l <control/md5sums)" ] &&
-    (cd "$root" && md5sum -c --quiet "$room/folder/control/md5sums") && echo 'each file has its sum'
+: >seen
+for name in libtpmsim0 libtpmsim-dev tpmsim; do
+    package=$room/made/${name}_${version}_$machine.deb
+    dpkg-deb -f "$package" Package Architecture Depends Description |
+        sed -e "s/: $machine/: MACHINE/" -e "s/$version/VERSION/" -e 4q
+    dpkg-deb -x "$package" "$name" && dpkg-deb -e "$package" control || exit 1
+    [ "$(cd "$name" && find usr -type f | wc -l)" -eq "$(wc -l <control/md5sums)" ] &&
+        (cd "$name" && md5sum -c --quiet "$room/folder/control/md5sums") && echo 'each file has its sum'
+    ! (cd "$name" && find usr ! -type d) | sort | comm -12 - seen | grep . || echo 'a file is in two packages'
+    (cd "$name" && find usr ! -type d) | sort >>seen && sort -o seen seen
+    mkdir -p "$root" && cp -a "$name/usr" "$root/" && rm -rf "$name"
+    [ ! -e control/symbols ] || mv control/symbols .
+    rm -r control
+done
+for library in libtpmsim libtpmsim-kept; do
+    echo "$library.so.0 libtpmsim0 #MINVER#"
+    nm -D --defined-only "$root/usr/lib/$folder/$library.so.0" | sed 's/.* //; s/@.*//' | sort
+done >calls
+sed 's/^ //; s/@.* .*//' symbols | LC_ALL=C sort -u >promised && LC_ALL=C sort -u calls | cmp - promised &&
+    echo 'the symbols file has each call'
 
 PATH=$root/usr/bin:$PATH
 LD_LIBRARY_PATH=$root/usr/lib/$folder

@@ -41,9 +41,12 @@ sed -i 's/^## .*, 2026-11-27/## Unreleased/' CHANGELOG.md
 echo '-- a comment' >>"crates/tpmsim_library/src/lib.rt"
 release 'something stands in the way'
 git checkout -q .
+sed -i "s/^## $version, 2026-11-27/## Unreleased ($version)/" CHANGELOG.md && git commit -q -a -m 'Not released'
 release 'a release'
+git log -2 --format=%s | sed "s/$version/VERSION/"
 (cd "$room/made" && sha256sum -c --quiet SHA256SUMS && cmp PROVED "$room/folder/copy/dist/PROVED" &&
-    dpkg-deb -f ./*.deb Package &&
+    { for it in ./*.deb; do dpkg-deb -f "$it" Package; done; } &&
     tar tzf "tpmsim-$version.tar.gz" "tpmsim-$version/dist/tpmsim" | sed "s/$version/VERSION/g")
-git cat-file tag "v$version" | sed -e '1,/^$/d' -e "s/$version/VERSION/"
+git cat-file tag "v$version" |
+    sed -e '1,/^$/d' -e "s/$version/VERSION/" -e 's/, 20[0-9][0-9]-[0-9][0-9]-[0-9][0-9]$/, DATE/'
 release 'it is there'

@@ -16,7 +16,7 @@ try() {
     "$venv/bin/pip" install -q "$1" || echo "pip: status $?"
     (cd / && "$venv/bin/python" "$room/folder/example.py" | sed 's/^[0-9a-f]\{8\}$/4 random bytes/' &&
         "$venv/bin/python" "$room/folder/found.py" &&
-        "$venv/bin/tpmsim-explain" --help | grep -c '^    tpmsim-explain LOG')
+        "$venv/bin/tpmsim-explain" --help | grep -c '^Usage: tpmsim-explain ')
 }
 
 # remove: uninstalls the package, and prints the files that are left.
@@ -55,6 +55,11 @@ version=$(sed -n 's/^version = "\(.*\)"/\1/p' "$top/clients/python/pyproject.tom
 [ "$wheel" = "made/tpmsim-$version-py3-none-manylinux_2_34_$(uname -m).whl" ] && echo 'it has its name'
 "$top/tools/wheel.py" again >said && cmp "$wheel" again/*.whl && echo 'it has the same bytes each time'
 try "$wheel"
+"$venv/bin/pip" show tpmsim | sed -n '/^Version/d; /^Location/d; /^License/d; /^Author/d; p'
+metadata=$(find venv -path '*tpmsim-*/METADATA')
+grep -c '^Classifier: ' "$metadata"
+sed '1,/^$/d' "$metadata" | head -n 1
+echo "links to files: $(sed '1,/^$/d' "$metadata" | grep -c ']([^h#]')"
 cmp venv/bin/tpmsim "$top/dist/tpmsim" && echo 'do Startup 0' | venv/bin/tpmsim run --trace -
 remove
 

@@ -29,6 +29,7 @@ version=$("$program" --version | sed 's/.* //')
 turn CHANGELOG.md "$version" 9.9.9
 turn clients/c/tpmsim.h 'NUMBER 0x00' 'NUMBER 0x09'
 turn clients/c/tpmsim.pc '^Version: .*' 'Version: 1'
+turn clients/c/tpmsim-kept.pc '^Version: .*' 'Version: 1'
 turn dist/tpmsim.h 'NUMBER 0x' 'NUMBER '
 turn dist/tpmsim.pc '^Version: .*' ''
 turn crates/tpm_journal_text/src/head.rt 'VERSION: u32 = 0x00' 'VERSION: u32 = 0x09'

@@ -2,6 +2,7 @@
 The parameter is the code of a command, which the device must implement.
 """
 
+from tpmsim.standard import NUMBERED
 from tests.common.policy_teller import PolicyTeller
 from tests.common.vocabulary import CC, number, policy, SE_POLICY, SE_TRIAL, SHA1, SHA256, zeros
 
@@ -44,13 +45,13 @@ for kind, name, algorithm, hash_name in (
 ):
     tpm.chapter(f"Each code that there is, in a {name} session of {hash_name}.")
     session = tpm.start("The session is started", kind=kind, algorithm=algorithm)
-    for code in sorted(CC):
+    for code in sorted(NUMBERED.values()):
         said = tpm(f"{code:X} in a new policy, and the digest of it: SUCCESS")
         said.says(tpm.restart(session), tpm.command_code(session, code))
         tpm.digest_is("", session)
 
     tpm.chapter("Each number between 11F and 190 that is no code.")
     tpm.restarts(session)
-    says("All of them: POLICY_CC/p1", *sorted(set(range(0x11F, 0x191)) - set(CC)))
+    says("All of them: POLICY_CC/p1", *sorted(set(range(0x11F, 0x191)) - set(NUMBERED)))
     case = "Unseal's code with a vendor's bit, with a reserved bit, and with its bytes turned round"
     says(f"{case}: POLICY_CC/p1", 0x2000_015E, 0x0001_015E, 0x5E01_0000)

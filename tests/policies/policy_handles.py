@@ -2,7 +2,7 @@
 needs no authorization. In TPM2_PolicySecret it is the second handle.
 """
 
-from tpmsim.standard import area, HandleKind
+from tpmsim.standard import area, HandleKind, NUMBERED
 from tests.common.examples import parameters_of
 from tests.common.vocabulary import CC, entry, frames, number, RH_ENDORSEMENT, RH_NULL, RH_OWNER
 from tests.common.vocabulary import RS_PW, SHA1, Teller, wrong_in
@@ -11,7 +11,9 @@ tpm = Teller(__name__, __doc__, starts=False)
 refused = tpm.raw
 
 COMMANDS = [
-    (it, parameters_of(it)) for it in CC if [of.kind for of in it.handles] == [HandleKind.POLICY]
+    (it, parameters_of(it))
+    for it in NUMBERED.values()
+    if [of.kind for of in it.handles] == [HandleKind.POLICY]
 ]
 
 # PCR 0, an NV index, HMAC sessions, permanent entities, objects, and handles with undefined types.

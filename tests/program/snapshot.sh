@@ -111,7 +111,7 @@ open('bent', 'wb').write(text)
 right='text[-32:] = hashlib.sha256(text[:-32]).digest()'
 bent 'too few bytes' 'del text[41:]'
 bent 'another word' 'text[3] = 0x49'
-bent 'another version' 'text[5] = 3'
+bent 'another version' 'text[5] = 4'
 bent 'one byte fewer' 'del text[-1:]'
 bent 'one byte more' 'text += bytes(1)'
 bent 'more bytes than any text has' 'text += bytes(100_000)'
@@ -121,40 +121,37 @@ bent 'nothing' 'text = bytes()'
 "$program" run --image image before >"$room/output"
 run 'an image' restore first image
 
-# A journal whose head has correct checksums, but contains a text that is not a state text.
-python3 -c "
+# journal_head TEXT: prints the head of a journal with the bytes in the file TEXT. Its checksums are correct.
+journal_head() {
+    python3 -c "
+import sys
+
 def fnv(data, total=0xCBF29CE484222325):
     for byte in data:
         total = (total ^ byte) * 0x100000001B3 % 2**64
     return total
 
-text = open('bent', 'rb').read() + b'none'
+text = open(sys.argv[1], 'rb').read()
 mark = bytes(8) + len(text).to_bytes(4, 'big') + fnv(text).to_bytes(8, 'big')
 print(f'# tpmsim journal 2 {mark.hex()} {fnv(mark):016x}\n# {text.hex()}')
-" >none
-run 'a journal of no state' replay none
-cp -R second bent_state && cp none bent_state/journal
-run 'a device of no state' power bent_state
-cmp none bent_state/journal && rm none
-
-# head_text JOURNAL: prints the state text in the head of a journal.
-head_text() {
-    sed -n '2s/^# //p' "$1" | python3 -c 'import sys; sys.stdout.buffer.write(bytes.fromhex(sys.stdin.read()))'
+" "$1"
 }
 
-# The program does not open a journal whose head has version 1, but its state text can be restored.
-cp -R second earlier
-python3 "$tests/common/earlier_head.py" earlier/journal
-cp earlier/journal earlier_journal
-run 'a journal of version 1' replay earlier/journal
-run 'a device of version 1' run --state earlier one
-run 'its snapshot' snapshot earlier
-cmp earlier_journal earlier/journal
-head_text earlier/journal >earlier_text
-head_text second/journal >later_text
-run 'its state text' restore from_earlier earlier_text
-"$program" snapshot from_earlier >again
-same_device 'the device of version 1' later_text again
+# refused_head LABEL: tries to open devices whose journal has the head `none`, which must stay unchanged.
+refused_head() {
+    run "a journal of $1" replay none
+    cp -R second bent_state && cp none bent_state/journal
+    run "a device of $1" power bent_state
+    run 'its snapshot' snapshot bent_state
+    cmp none bent_state/journal && rm -r none bent_state
+}
+
+bent 'a text of version 1' "text[5] = 1; $right"
+journal_head bent >none
+refused_head 'version 1'
+printf none >>bent
+journal_head bent >none
+refused_head 'no state'
 
 # Other faults.
 run 'no such text' restore first nothing

@@ -4,8 +4,8 @@
 
 The program plays a script of each refusal of the list, and has to refuse its last command by
 exactly the listed check and with the listed code. Then no refusal that the program prints for the
-scripts of the tests, and for random scripts, may be missing from the list. Then the list gets one
-mistake at a time, and the test must find it.
+scripts of the tests, and for random scripts of both profiles, may be missing from the list. Then
+the list gets one mistake at a time, and the test must find it.
 """
 
 import collections
@@ -19,10 +19,11 @@ from dataclasses import replace
 
 from tpmsim.device.base import line_in_bytes
 from tpmsim.refusals.made import made, Refusal
-from tpmsim.standard import CC
+from tpmsim.standard import CC, Profile
 from tpmsim.standard.rows import AnyRow, every_row, Row, rows_of
-from tests.at_random.random_script import Writer
+from tests.at_random.random_script import written, WRITERS
 from tests.common import places
+from tests.common.made import COMPLETE
 from tests.common.shims import ran
 
 TRACE = re.compile(r"(\S+) L[0-4] \+\d+ (\S+) ([0-9a-f]{8})")
@@ -36,6 +37,9 @@ MEMORY = "M"
 COUNTED = "AUTH_FAIL"
 
 RANDOM_SCRIPTS, COMMANDS = 4, 400
+
+# What `run` needs to make a device of a profile.
+OPTIONS = {Profile.SYMMETRIC: (), Profile.COMPLETE: ("--complete",)}
 
 # A refusal as the program's trace says it: the command's name, the check, and the code.
 Trace = tuple[str, str, int]
@@ -73,7 +77,8 @@ def play(program: str, those: list[Refusal]) -> Iterator[str]:
     if those[0].far:
         found = play_far(program, those[0])
     else:
-        found = played(program, [*before, *(it.buffer for it in those)])[len(before) :]
+        buffers = *before, *(it.buffer for it in those)
+        found = played(program, buffers, *OPTIONS[those[0].row.profile])[len(before) :]
     for refused, trace in zip(those, [*found, *[("nothing", "", 0)] * len(those)]):
         if trace != trace_of(refused.row):
             yield f"{words_of(trace_of(refused.row))}: {words_of(trace)}"
@@ -89,7 +94,7 @@ def in_groups(refusals: Iterable[Refusal]) -> list[list[Refusal]]:
     groups = collections.defaultdict(list)
     for it in refusals:
         is_alone = COUNTED in it.row.code_name or it.far
-        groups[it.before, it.row if is_alone else None].append(it)
+        groups[it.before, it.row.profile, it.row if is_alone else None].append(it)
     return list(groups.values())
 
 
@@ -108,21 +113,27 @@ def unmet(program: str, rows: Iterable[AnyRow]) -> list[str]:
         return missing + [it for some in found for it in some]
 
 
-def random_script(seed: int) -> bytes:
-    """Returns a random script."""
-    writer = Writer(seed)
-    for _ in range(COMMANDS):
-        writer.step()
-    return "".join(f"{it}\n" for it in writer.lines).encode()
+def scripts(profile: Profile) -> Iterator[bytes]:
+    """Yields the scripts of the tests for devices of a profile, and random ones."""
+    known = (
+        places.scripts() if profile == Profile.SYMMETRIC else places.scripts(f"tests/{COMPLETE}")
+    )
+    yield from (it.read_bytes() for it in known)
+    name = next(name for name, it in WRITERS.items() if it.PROFILE == profile)
+    for seed in range(1, RANDOM_SCRIPTS + 1):
+        yield "".join(f"{it}\n" for it in written(seed, COMMANDS, name).lines).encode()
 
 
 def met(program: str) -> set[Trace]:
     """Returns all refusals that the program prints for the scripts of the tests and random ones."""
-    texts = [it.read_bytes() for it in places.scripts()]
-    texts += [random_script(seed) for seed in range(1, RANDOM_SCRIPTS + 1)]
+    texts = [(text, profile) for profile in Profile for text in scripts(profile)]
+
+    def trace(text: bytes, profile: Profile) -> list[Trace]:
+        words = "run", "--trace", *OPTIONS[profile], "-"
+        return traces(ran(program, *words, stdin=text).output)
+
     with concurrent.futures.ThreadPoolExecutor(AT_ONCE) as pool:
-        ends = pool.map(lambda it: ran(program, "run", "--trace", "-", stdin=it), texts)
-        found = {trace for end in ends for trace in traces(end.output)}
+        found = {it for some in pool.map(lambda it: trace(*it), texts) for it in some}
     return {it for it in found if it[1] not in ("ok", MEMORY)}
 
 

@@ -15,7 +15,9 @@ tar xzf "$crate" && [ "${crate##*/}" = "tpmsim-$version.crate" ] && echo 'it is 
 [ ! -e "$top/clients/rust/target" ] && [ ! -e "$top/clients/rust/Cargo.lock" ] && echo 'nothing is left'
 for machine in x86_64 aarch64; do
     [ "$machine" = x86_64 ] && at=$top/dist || at=$top/dist/$machine
-    cmp "$at/libtpmsim.a" "tpmsim-$version/native/$machine/libtpmsim.a" && echo "its library for $machine"
+    for library in libtpmsim.a libtpmsim.so.0 libtpmsim-kept.so.0; do
+        cmp "$at/$library" "tpmsim-$version/native/$machine/$library" && echo "its $library for $machine"
+    done
 done
 
 mkdir -p program/src
@@ -27,6 +29,6 @@ edition = "2021"
 [dependencies]
 tpmsim = { path = "../tpmsim-$version" }
 END
-awk '/^```/ { shown = $0 == "```rust"; next } shown' "$top/clients/rust/README.md" >program/src/main.rs
+awk '/^```/ { shown = $0 == "```rust" && !blocks++; next } shown' "$top/clients/rust/README.md" >program/src/main.rs
 cd program && cargo run --quiet >"$room/ran" 2>&1
 sed 's/[0-9a-f][0-9a-f]/HH/g' "$room/ran"

@@ -35,12 +35,13 @@ cmp rust python && echo "the same in $(wc -l <rust) lines"
 
 sed -n 's/^    (0x\([0-9a-f]*\), "\(.*\)"),$/\1 \2/p' package/src/names.rs >rust
 python3 - >python <<'END'
-from tpmsim.standard.commands import NUMBERED
+from tpmsim.standard.command_names import NAMES
 from tpmsim.standard.frames import CODES
 
 for number, name in sorted((number, name) for name, number in CODES.items()):
     print(f"{number:03x} {name}")
-for number, command in sorted(NUMBERED.items()):
-    print(f"{number:03x} {command.name}")
+for number, name in sorted(NAMES.items()):
+    if name != "Vendor_TCG_Test":
+        print(f"{number:03x} {name}")
 END
 diff rust python && echo 'the names are the same'

@@ -95,6 +95,51 @@ do Startup 0
 hash start
 END
 
+# The update counter of the PCRs counts 2 changes for each reset or extend of a PCR, and a launch has 6 resets and one
+# extend. At its end, the device answers FAILURE. The device goes on, and its record has each command.
+label 'a launch that the device refuses, because the update counter can count no, 2, 12, or 14 changes'
+rm -f permall permanent
+cc -I"$(dirname "$TPMSIM_ARCHIVE")" -o "$room/opened" "$tests/common/opened.c" "$TPMSIM_ARCHIVE" || exit 1
+play <<END
+on
+do Startup 0
+loc 4
+do PCR_Extend 00000011 pw:- sha256:$one
+loc 0
+save launched
+get permanent permanent
+END
+TPMSIM_RECORD=.
+export TPMSIM_RECORD
+for left in 0 2 12 14; do
+    rm -f boot-*.tpm
+    python3 "$tests/swtpm/volatile_states.py" count launched "$left" counted
+    echo "$left changes"
+    play <<END
+set permanent permanent
+set volatile counted
+on
+hash start
+hash data 61
+hash end
+hash end
+established
+do PCR_Read sha256:17,18
+hash start
+established
+off
+on
+do Startup 0
+hash start
+hash data 61
+hash end
+do PCR_Read sha256:17,18
+END
+    "$room/opened" boot-1.tpm boot-2.tpm
+    echo "$(grep -c '^cmd' boot-1.tpm) commands are recorded"
+done
+unset TPMSIM_RECORD
+
 label 'texts of each length from 0 to 130 bytes, and of 4,000 and 100,000'
 python3 - <<'END'
 import hashlib

@@ -3,9 +3,11 @@
     volatile_states.py read FILE
     volatile_states.py time FILE
     volatile_states.py bend FILE FOLDER
+    volatile_states.py count FILE LEFT INTO
 
 `read` prints the content of a state. `time` prints whether its time is within the last few minutes.
-`bend` writes altered states to a folder, and prints the names of the files.
+`bend` writes altered states to a folder, and prints the names of the files. `count` writes another
+state, in which the update counter of the PCRs can count only LEFT more changes.
 """
 
 import hashlib
@@ -15,6 +17,7 @@ import time
 from typing import Iterator
 
 from tpmsim.model import image, state_text
+from tpmsim.model.pcrs import LAST_COUNTER
 from tpmsim.standard import number
 
 # The sizes of the time, of the whole tail, and of a digest. The tail follows the state text. It
@@ -56,8 +59,8 @@ def bent(volatile: bytes) -> Iterator[tuple[str, bytes]]:
     yield "short", volatile[: TAIL_BYTES + 41]
     yield "libtpms", LIBTPMS + bytes(2000)
     yield "image", image.digested(2, text[HEAD_BYTES:-DIGEST_BYTES]) + volatile[-TAIL_BYTES:]
-    version_3 = image.digested(3, text[HEAD_BYTES:-DIGEST_BYTES], state_text.MAGIC)
-    yield "version 3", version_3 + tail(version_3, when, launch)
+    version_4 = image.digested(4, text[HEAD_BYTES:-DIGEST_BYTES], state_text.MAGIC)
+    yield "version 4", version_4 + tail(version_4, when, launch)
     yield "the text alone", text
     yield "cut", volatile[:-1]
     yield "longer", volatile + b"\0"
@@ -70,15 +73,26 @@ def bent(volatile: bytes) -> Iterator[tuple[str, bytes]]:
     yield "the tail of another", other + volatile[-TAIL_BYTES:]
 
 
-def main(deed: str, path: str, *folder: str) -> None:
+def counted(volatile: bytes, left: int) -> bytes:
+    device, layer = state_text.open_state(volatile[:-TAIL_BYTES])
+    device.update_counter = LAST_COUNTER - left
+    when, launch = volatile[-TAIL_BYTES:][:TIME_BYTES], volatile[TIME_BYTES - TAIL_BYTES]
+    text = state_text.state_text(device, layer)
+    return text + tail(text, when, launch)
+
+
+def main(deed: str, path: str, *words: str) -> None:
     volatile = pathlib.Path(path).read_bytes()
     if deed == "read":
         read(volatile)
     elif deed == "time":
         tell_time(volatile)
+    elif deed == "count":
+        left, into = words
+        pathlib.Path(into).write_bytes(counted(volatile, int(left)))
     else:
         for name, state in bent(volatile):
-            pathlib.Path(*folder, name.replace(" ", "_")).write_bytes(state)
+            pathlib.Path(*words, name.replace(" ", "_")).write_bytes(state)
             print(name.replace(" ", "_"))
 
 

@@ -132,6 +132,7 @@ class BrowserPage {
   /** Replaces the script in the page with another one, as if a user typed it. */
   async write(text) {
     await this.front();
+    await this.value("document.getElementById('tab-script').click()");
     await this.value("(document.getElementById('text').focus(), document.getElementById('text').select())");
     await this.value("delete document.documentElement.dataset.played");
     await this.type(text);

@@ -65,7 +65,7 @@ function checkStates() {
     const answers = perform(player, asked);
     perform(player, ['do NV_Write OWNER 01000001 pw:- ffffffffffffffff 0', 'power', 'do Startup 0']);
     told('the device went on', perform(player, asked) !== answers);
-    const numbers = [state.subarray(0, 41), damaged(state, 0), damaged(state, 5), state.subarray(0, 60), damaged(state, 50)]
+    const numbers = [state.subarray(0, 41), damaged(state, 0), damaged(state, 4), state.subarray(0, 60), damaged(state, 50)]
         .map((bytes) => given('device_restore', bytes));
     told('bad state texts are refused by their faults', numbers.join() === '13,14,15,16,17');
     told('a state text is restored', given('device_restore', state) === 0);

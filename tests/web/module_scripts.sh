@@ -6,7 +6,7 @@ needs node python3
 top=${tests%/*}
 make_scripts
 
-node "$top/web/play.mjs" "$top/dist/tpmsim.wasm" compare "$TPMSIM_MADE" >told
+symmetric_folders | xargs node "$top/web/play.mjs" "$top/dist/tpmsim.wasm" compare >told
 echo "status $?"
 sed '/ scripts, /d' told
 sed -n 's/ scripts, .*//p' told | while read -r scripts; do

@@ -73,7 +73,10 @@ async function announced() {
   await page.close();
 }
 
-const ORDER = ["examples", "tutorial", "open", "download", "link", "help", "slider", "forth", "refusal", "text", "detail"];
+const ORDER = [
+  ...["examples", "tutorial", "reference", "compare", "open", "download", "link", "help", "A wrong PIN", "A PCR that moved", "An RSA key"],
+  ...["hero-close", "back", "slider", "forth", "refusal", "text", "edge-script", "detail"],
+];
 
 async function order() {
   const page = await open();

@@ -118,7 +118,8 @@ async function keyboard(page) {
 /** Checks that the key Home shows the start of a long line, which the line numbers must not hide. */
 async function longLine(page) {
   const scrolled = () => page.value("document.getElementById('text').scrollLeft");
-  await page.write(`do Startup 0\ncmd ${"80".repeat(400)}`);
+  await page.write(`do Startup 0\ncmd ${"80".repeat(800)}`);
+  await page.key("Home");
   await page.key("End");
   await page.until("document.getElementById('text').scrollLeft > 100");
   await page.key("Home");
@@ -347,7 +348,8 @@ async function bounds() {
   const page = await open({}, fragment);
   const note = await page.text("note");
   say(note.startsWith("The script of this link has 1,000,000 lines. The page takes up to 50,000 lines"), "a link with a million lines is refused", note);
-  say((await script(page)).split("\n").length < 100, "and an example is shown instead");
+  const first = new Map((await facts(page)).examples).get("disk_pin");
+  say(first.length > 0 && (await script(page)) === first, "and an example is shown instead");
   await page.write("do Startup 0");
   const text = await script(page);
   await dropMade(page, "newlines", "new Uint8Array(2 ** 24).fill(10)");

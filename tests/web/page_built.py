@@ -56,6 +56,7 @@ def policy_is_exact(page):
         "default-src 'none'",
         f"style-src {hash_word(style)}",
         f"script-src {hash_word(code)} 'wasm-unsafe-eval'",
+        "img-src data:",
         "base-uri 'none'",
         "form-action 'none'",
     ]
@@ -103,11 +104,16 @@ def broken_links(facts):
 # success criterion 1.4.3, level AA.
 
 TEXTS = {
-    "ink": ("ground", "panel", "tint", "bad-tint", "byte", "byte-odd"),
-    "dim": ("ground", "panel", "tint", "bad-tint", "byte", "byte-odd"),
-    "accent": ("ground", "panel", "tint", "bad-tint"),
-    "bad": ("ground", "panel", "tint", "bad-tint", "byte", "byte-odd"),
-    "ground": ("accent",),
+    "ink": ("ground", "panel", "sunk", "tint", "ok-tint", "bad-tint", "warn-tint"),
+    "dim": ("ground", "panel", "sunk", "tint", "bad-tint", "warn-tint"),
+    "accent": ("ground", "panel", "sunk", "tint", "bad-tint", "warn-tint"),
+    "ok": ("ground", "panel", "tint", "ok-tint"),
+    "bad": ("ground", "panel", "sunk", "tint", "bad-tint"),
+    "warn": ("ground", "panel", "warn-tint"),
+    "handle": ("ground", "panel", "sunk", "tint", "handle-tint"),
+    "auth": ("ground", "panel", "sunk", "tint", "auth-tint"),
+    "data": ("ground", "panel", "sunk", "tint", "data-tint"),
+    "ground": ("accent", "bad", "ok"),
 }
 
 

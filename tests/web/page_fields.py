@@ -1,12 +1,14 @@
 """Prints lines of JSON. Each line contains a command from a script of tests/ or examples/, its
 response, and the fields of both according to tpmsim.explain. page_fields.mjs compares the page's
-fields with these.
+fields with these. Commands that only the complete profile has are left out, since the page does not
+know their fields.
 """
 
 import json
 
 from tpmsim.explain import dissection
 from tpmsim.records.reader import Command, steps_of
+from tpmsim.standard import ALL_NUMBERED, NUMBERED
 from tests.common import places
 
 MOST_BYTES = 500_000
@@ -35,6 +37,8 @@ def main():
                 continue
             seen.add((command.buffer, response))
             number = int.from_bytes(command.buffer[6:10], "big")
+            if number in ALL_NUMBERED and number not in NUMBERED:
+                continue
             code = int.from_bytes(response[6:10], "big")
             asked = dissection.fields_of_command(command.buffer)
             answered = dissection.fields_of_response(number, response)

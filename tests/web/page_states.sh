@@ -9,7 +9,7 @@ python3 "$top/web/build.py" --facts >facts.json || exit 1
 mkdir -p web clients/js && cp -R "$top/web/page" web/page && cp -R "$top/clients/js/src" clients/js/src || exit 1
 echo '{ "type": "module" }' >package.json
 make_scripts
-find "$TPMSIM_MADE" -name '*.tpm' -size -450k | sort >names
+symmetric_folders | xargs -I FOLDER find FOLDER -name '*.tpm' -size -450k | sort >names
 while read -r name; do
     # At an invalid line the program ends the script, but the page continues. Therefore scripts with invalid
     # lines are left out.

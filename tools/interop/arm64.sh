@@ -69,7 +69,7 @@ unpack() {
 bring() {
     rm -rf "$folder/made" "$root/repository"
     tools/deb.sh --machine aarch64 "$folder/made" >>"$log" 2>&1 &&
-        dpkg-deb -x "$folder"/made/tpmsim_*_arm64.deb "$root" &&
+        for it in "$folder"/made/*_arm64.deb; do dpkg-deb -x "$it" "$root" || return 1; done &&
         git clone -q "$top" "$root/repository" >>"$log" 2>&1
 }
 

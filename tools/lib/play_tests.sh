@@ -4,7 +4,7 @@
 #   play_tests.sh WORK NUMBER..
 #
 # WORK/queue/NUMBER describes a test in one line with tabs: the script or the shell test, the program, the file
-# with the expected standard output, and sometimes an option. This script writes the result to WORK/told/NUMBER,
+# with the expected standard output, and sometimes options. This script writes the result to WORK/told/NUMBER,
 # whose first word is `ok:`, `FAILED:` or `skipped:`, and then prints the number. tools/lib/watch_tests.sh ends a
 # test that would never end.
 set -u
@@ -62,13 +62,14 @@ is_skipped() {
     esac
 }
 
-# run TEST PROGRAM [OPTION]: runs a test with a program. `timeout 0` sets no limit: it makes a group of the test's
+# run TEST PROGRAM [OPTIONS]: runs a test with a program. `timeout 0` sets no limit: it makes a group of the test's
 # processes, by which watch_tests.sh finds those whose parent has ended.
 run() {
+    # shellcheck disable=SC2086 # the options are words
     case $1,$2 in
     *.sh,*) timeout 0 sh "$1" "$2" </dev/null ;;
     *,"$lists") timeout 0 "$2" <"$1" ;;
-    *) timeout 0 "$2" run ${3:+"$3"} "$1" </dev/null ;;
+    *) timeout 0 "$2" run $3 "$1" </dev/null ;;
     esac
 }
 
@@ -92,7 +93,7 @@ tell_difference() {
     }
 }
 
-# check TEST PROGRAM WANTED [OPTION]: plays a test, and prints how its results differ from the expected files.
+# check TEST PROGRAM WANTED [OPTIONS]: plays a test, and prints how its results differ from the expected files.
 check() {
     name_program "$2"
     named="$(name_of "$1") with $program_name${4:+ $4}"

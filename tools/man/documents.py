@@ -37,6 +37,7 @@ FOR_DEVELOPERS = set("CONTRIBUTING GATE REQUIREMENTS".split())
 COPIED = (
     *("docs/*.png", "docs/*.svg", "web/*.png", "examples/words/*.tpms"),
     *("examples/c/*.[ch]", "examples/python/*.py", "examples/pytest/*.py"),
+    "examples/clients/*.sh",
 )
 PIECE = re.compile(
     r"^```.*?^```$|(?P<ticks>`+)(?!`).+?(?<!`)(?P=ticks)(?!`)"

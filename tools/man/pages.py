@@ -29,7 +29,6 @@ FOLDER = re.compile(
 FONT = re.compile(r"\\f[BIR]")
 INSTALLED = re.compile("docs/|examples/")
 OPTION = re.compile(r"^ {2,6}(\S.*?)(?: {2,}(.*))?$")
-FLAGS = "cc PROGRAM.c $(pkg-config --cflags --libs tpmsim)"
 
 
 @dataclass
@@ -128,7 +127,10 @@ class Manual:
     def synopsis(self, page: Page) -> list[str]:
         """Returns the lines of code of a synopsis."""
         if page.header:
-            return ["#include <tpmsim.h>", FLAGS, "", *declarations_of(page.header)]
+            header = pathlib.Path(page.header)
+            library = header.stem.replace("_", "-")
+            flags = f"cc PROGRAM.c $(pkg-config --cflags --libs {library})"
+            return [f"#include <{header.name}>", flags, "", *declarations_of(page.header)]
         if page.commands:
             return [
                 f"{' '.join(page.commands)} {word}"

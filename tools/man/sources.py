@@ -95,11 +95,11 @@ def help_parts(text: str) -> dict[str, str]:
 
 
 def usage_of(text: str) -> list[str]:
-    """Returns the first indented lines of a help text, which show its command lines."""
-    found = re.search(r"^((?: {4}.*\n)+)", text, re.M)
+    """Returns the command lines of a help text: those after `Usage:` and `or:`."""
+    found = re.match(r"Usage: (.*)\n((?:  or:  .*\n)*)", text)
     if not found:
-        raise Missing("a help has no command line that is set in")
-    return [line[4:] for line in found[1].splitlines()]
+        raise Missing("a help does not begin with `Usage:`")
+    return [found[1], *(line.removeprefix("  or:  ") for line in found[2].splitlines())]
 
 
 def declarations_of(header: str) -> list[str]:

@@ -39,7 +39,7 @@ def install(root: pathlib.Path, packages: pathlib.Path, programs: pathlib.Path) 
 
     described = root / packages / f"{tpmsim_wheel.stem()}.dist-info"
     described.mkdir(exist_ok=True)
-    (described / "METADATA").write_text(tpmsim_wheel.metadata())
+    (described / "METADATA").write_text(tpmsim_wheel.metadata(), "utf-8")
     (described / "entry_points.txt").write_text(tpmsim_wheel.entry_points())
 
     (root / programs).mkdir(parents=True, exist_ok=True)

@@ -50,10 +50,10 @@ script() {
 }
 
 deb() {
-    package=$("$top/tools/deb.sh" "$work/made" | tail -n 1) || fail 'there is no package'
-    cp "$package" "$machine/root/tpmsim.deb"
+    "$top/tools/deb.sh" "$work/made" >"$work/debs" || fail 'there are no packages'
+    mkdir "$machine/root/debs" && cp "$work"/made/*.deb "$machine/root/debs"
     apt install man-db gcc libc6-dev tpm2-tools
-    check 'apt-get installs it' apt-get install -y --no-install-recommends /root/tpmsim.deb
+    check 'apt-get installs them' sh -c 'apt-get install -y --no-install-recommends /root/debs/*.deb'
     check 'the loader finds the library' sh -c 'ldconfig -p | grep libtpmsim.so.0'
     script commands <<'END'
 cd /root && echo 'do Startup 0' | tpmsim run --trace - >said
@@ -131,7 +131,7 @@ module() {
     printf 'module program\n\ngo 1.19\n' | script program/go.mod
     script run <<'END'
 export GOPROXY=off GOFLAGS=-buildvcs=false
-cd /root/program && go mod edit -require=tpmsim@v0.1.0 -replace=tpmsim=/root/tpmsim/clients/go
+cd /root/program && go mod edit -require=example.org/tpmsim@v0.1.0 -replace=example.org/tpmsim=/root/tpmsim/clients/go
 go run . | grep '^80010000001000000000.* <nil>$'
 cd /root/tpmsim/clients/go && go test ./... && go run ./examples/encrypted_session
 END

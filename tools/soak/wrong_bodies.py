@@ -6,6 +6,9 @@ docs/gate.json names the commit at which they were last tried.
 
     tools/soak/wrong_bodies.py                       all wrong bodies under tests/wrong/
     tools/soak/wrong_bodies.py tpm_pcr               the wrong bodies of one crate, or of several
+    tools/soak/wrong_bodies.py --left [CRATE..]      the wrong bodies of crates that changed since all
+                                                     of theirs were refused
+    tools/soak/wrong_bodies.py --known               prints how many are known to be refused; tries none
     tools/soak/wrong_bodies.py --apply [CRATE..]     only checks whether each applies; needs no rt
 
 The crates need the libraries that `rt ci` built here. If a source is newer, `rt ci` first proves them
@@ -20,6 +23,9 @@ definition. Then the functions that name the constant are checked and, if these 
 nevertheless, the whole crate. Each check continues from an earlier one, and the first from the
 results in the crate's out/.
 
+If all wrong bodies of a crate are refused, tests/wrong/tried.json stores a checksum of what decides
+it: the wrong bodies, the crate, and the sources and definitions of the crates below.
+
 It prints a line for each body, and at the end `N of M wrong bodies refused`. The status is 0 if all
 are refused. It is 1 if a body is not refused, or is bad. A body is bad if it cannot be applied,
 compiled or parsed, or is refused only because a proof file names something that the body removed.
@@ -32,8 +38,11 @@ import argparse
 import concurrent.futures
 import contextlib
 import dataclasses
+import datetime
 import functools
+import hashlib
 import itertools
+import json
 import os
 import pathlib
 import re
@@ -48,6 +57,7 @@ from functions import PLACE, Function, functions_of, is_fault
 
 TOP = pathlib.Path(__file__).resolve().parents[2]
 SOURCES = ["src", "specs", "proofs"]
+TRIED = TOP / "tests" / "wrong" / "tried.json"
 HEADING = re.compile(r"^## (.+)\n", re.MULTILINE)
 ITEM = re.compile(
     r"\s*(?:pub(?:\([a-z ]+\))? )?(?:const|static|struct|enum|type|macro_rules!) (\w+)"
@@ -574,9 +584,51 @@ def files_in_memory(number: int) -> Iterator[None]:
         shutil.rmtree(made)
 
 
+def checksum(name: str) -> str:
+    """Returns a checksum of what decides whether the wrong bodies of a crate are refused. The proofs
+    of the crates below decide nothing.
+    """
+    found = hashlib.sha256()
+    folders = [TOP / "crates" / name / "proofs"]
+    for crate in with_below([name]):
+        folders += [TOP / "crates" / crate / part for part in SOURCES if part != "proofs"]
+    files = [it for folder in folders for it in folder.rglob("*") if it.is_file()]
+    for path in [TOP / "tests" / "wrong" / f"{name}.edits", *sorted(files)]:
+        found.update(f"{path.relative_to(TOP)}\n".encode())
+        found.update(hashlib.sha256(path.read_bytes()).digest())
+    return found.hexdigest()
+
+
+def remembered() -> dict[str, dict[str, str | int]]:
+    """Returns, for each crate whose wrong bodies were all refused, their number, the day and the
+    checksum.
+    """
+    return json.loads(TRIED.read_text(encoding="utf-8")) if TRIED.exists() else {}
+
+
+def known(names: list[str]) -> list[str]:
+    """Returns those of these crates that are as they were when all their wrong bodies were
+    refused.
+    """
+    told = remembered()
+    return [it for it in names if it in told and told[it]["sum"] == checksum(it)]
+
+
+def remember(names: list[str]) -> None:
+    """Stores that all wrong bodies of these crates were refused. Each crate has a line."""
+    today = datetime.date.today().isoformat()
+    told = remembered() | {
+        it: {"refused": len(edits_of(it)), "date": today, "sum": checksum(it)} for it in names
+    }
+    lines = ",\n".join(f" {json.dumps(it)}: {json.dumps(told[it])}" for it in sorted(told))
+    TRIED.write_text(f"{{\n{lines}\n}}\n", encoding="utf-8")
+
+
 def parsed() -> argparse.Namespace:
     parser = argparse.ArgumentParser(description="Tries the wrong bodies under tests/wrong/.")
     parser.add_argument("--apply", action="store_true")
+    parser.add_argument("--left", action="store_true")
+    parser.add_argument("--known", action="store_true")
     parser.add_argument("crates", nargs="*", metavar="CRATE")
     return parser.parse_args()
 
@@ -615,7 +667,7 @@ def try_crate(crate: Crate, groups: list[Group]) -> Tried:
 
 
 def tried(folder: pathlib.Path, names: list[str], jobs: int) -> int:
-    """Tries the wrong bodies of these crates, and prints how many were refused."""
+    """Tries the wrong bodies of these crates, and returns how many were refused."""
     proved, every = folder / "proved", with_below(names)
     lay(proved, every)
     if are_built(every):
@@ -624,7 +676,7 @@ def tried(folder: pathlib.Path, names: list[str], jobs: int) -> int:
         prove(proved)
     crates = [Crate(proved, name, folder) for name in names if edits_of(name)]
     groups = {it: groups_of([it.wrong_body(edit) for edit in edits_of(it.name)]) for it in crates}
-    refused = 0
+    refused = dict.fromkeys(names, 0)
     with concurrent.futures.ThreadPoolExecutor(jobs) as pool:
         # The largest crates start first, so that none of them runs alone at the end.
         crates.sort(key=lambda it: it.size() * len(groups[it]), reverse=True)
@@ -633,9 +685,11 @@ def tried(folder: pathlib.Path, names: list[str], jobs: int) -> int:
             ready = next(concurrent.futures.as_completed(running))
             crate = running.pop(ready)
             refused_now, left = ready.result()
-            refused += refused_now
+            refused[crate.name] += refused_now
             running.update({pool.submit(try_group, crate, group): crate for group in left})
-    return refused
+            if refused[crate.name] == len(edits_of(crate.name)):
+                remember([crate.name])
+    return sum(refused.values())
 
 
 def apply_each(names: list[str]) -> int:
@@ -650,14 +704,25 @@ def apply_each(names: list[str]) -> int:
     return applied
 
 
+def counted(names: list[str]) -> int:
+    """Returns the number of wrong bodies of these crates."""
+    return sum(len(edits_of(name)) for name in names)
+
+
 def main() -> int:
     words = parsed()
     names = words.crates or [name for name in uses() if edits_of(name)]
-    wanted = sum(len(edits_of(name)) for name in names)
+    wanted = counted(names)
     if words.apply:
         applied = apply_each(names)
         print(f"{applied} of {wanted} wrong bodies can be applied")
         return 0 if applied == wanted else 1
+    if words.known:
+        print(f"{counted(known(names))} of {wanted} wrong bodies are known to be refused")
+        return 0
+    if words.left:
+        names = [it for it in names if it not in known(names)]
+        wanted = counted(names)
     jobs = int(os.environ.get("JOBS") or os.cpu_count() or 1)
     # As in tools/lib/rt_ci.sh, a check does not return memory to the system.
     os.environ.setdefault("MIMALLOC_PURGE_DELAY", "-1")

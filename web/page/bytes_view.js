@@ -17,8 +17,13 @@ const PART_WORDS = { header: "header", handle: "handles", entry: "authorization"
 
 /** @param {Shown} shown @param {number} perRow */
 export function bytesShown(shown, perRow) {
-  const both = make("div", { class: shown.bytes.length > LONG ? "bytes long" : "bytes" }, dump(shown, perRow), table(shown));
-  both.addEventListener("mouseover", (event) => light(both, fieldAt(event.target)));
+  const hex = dump(shown, perRow);
+  const both = make("div", { class: shown.bytes.length > LONG ? "bytes long" : "bytes" }, hex, table(shown));
+  both.addEventListener("mouseover", (event) => {
+    const field = fieldAt(event.target);
+    hex.title = field === null ? "" : fieldWords(shown, Number(field));
+    light(both, field);
+  });
   both.addEventListener("mouseleave", () => light(both, null));
   both.addEventListener("keydown", (event) => rowByKey(both, event));
   return both;
@@ -27,6 +32,24 @@ export function bytesShown(shown, perRow) {
 /** @param {EventTarget | null} target */
 const fieldAt = (target) =>
   target instanceof Element ? target.closest("[data-field]")?.getAttribute("data-field") ?? null : null;
+
+/**
+ * Says what a field is.
+ * @param {Shown} shown @param {number} number
+ */
+function fieldWords({ bytes, fields }, number) {
+  const field = fields[number];
+  return field ? fieldMeaning(bytes, field) : PART_WORDS.rest;
+}
+
+/**
+ * Says the name of a field, its value and its meaning.
+ * @param {Uint8Array} bytes @param {Field} field
+ */
+export function fieldMeaning(bytes, { name, meaning, at, front, size, isGroup }) {
+  const hex = isGroup ? "" : cut(hexOf(bytes.subarray(at + front, at + size)), SHOWN_DIGITS);
+  return `${name}: ${[hex, meaning].filter(Boolean).join(", ")}`;
+}
 
 /** @param {Element} both @param {string | null} field */
 function light(both, field) {
@@ -76,7 +99,7 @@ function dump(shown, perRow) {
     for (let at = first; at < Math.min(first + perRow, bytes.length); at += 1) {
       const field = fields[owners[at]];
       const kinds = [
-        owners[at] % 2 ? "odd" : "", field && at < field.at + field.front ? "front" : "",
+        `of-${field?.sort ?? "rest"}`, owners[at] !== owners[at - 1] && at > first ? "first" : "",
         field && isWithin(field, wrong) ? "wrong" : "",
       ];
       found.append(make("b", { class: kinds.join(" ").trim() || false, "data-field": owners[at] }, hex.slice(2 * at, 2 * at + 2)));
@@ -92,7 +115,7 @@ function table(shown) {
   const body = make("tbody");
   let part = "";
   fields.forEach((field, number) => {
-    if (field.sort !== part && field.sort !== "header") body.append(make("tr", { class: "part" }, make("td", { colspan: 2 }, PART_WORDS[field.sort])));
+    if (field.sort !== part && field.sort !== "header") body.append(make("tr", { class: `part of-${field.sort}` }, make("td", { colspan: 2 }, PART_WORDS[field.sort])));
     part = field.sort;
     const name = make("td", {}, field.name);
     name.style.setProperty("--depth", String(field.depth));

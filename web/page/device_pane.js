@@ -13,28 +13,56 @@ const OF_ENTITIES = new Set(["Sessions", "Objects", "NV indices"]);
 /** Whether each group is open. The reader can open and close groups. */
 const isOpen = new Map([["PCRs", true], ["Sessions", true], ["Objects", true], ["NV indices", true], ["Lockout", true]]);
 
-/** @param {State} before @param {State} after @param {string} when */
-export function showDevice(before, after, when) {
+/**
+ * The old values of what changed, by its place; null if it is new.
+ * @typedef {Map<string, string | null>} Changed
+ */
+
+/** @param {State} before @param {State} after @param {string} when @param {Set<string>} used the handles in the step */
+export function showDevice(before, after, when, used) {
   const pane = byId("device");
-  const changed = new Set(changesOf(before, after).map((it) => `${it.group}|${it.entity}|${it.name}`));
+  const all = changesOf(before, after);
+  const changed = new Map(all.map((it) => [keyOf(it.group, it.entity, it.name), it.before]));
   pane.replaceChildren(
-    make("h2", {}, "The device", make("span", { class: "out" }, when)),
-    ...GROUPS.map((group) => groupShown(group, after.groups.get(group) ?? new Map(), changed)),
+    make("h2", {}, "The device", make("small", {}, when)),
+    ...GROUPS.map((group) => {
+      const those = after.groups.get(group) ?? new Map();
+      const gone = [...(before.groups.get(group) ?? new Map()).keys()].filter((of) => OF_ENTITIES.has(group) && !those.has(of));
+      return groupShown(group, those, changed, { used, gone });
+    }),
   );
 }
 
-/** @param {string} group @param {Group} those @param {Set<string>} changed */
-function groupShown(group, those, changed) {
-  if (!those.size) return make("div", { class: "empty" }, group, make("span", { class: "dim" }, briefly(group, those)));
-  const isChanged = [...changed].some((key) => key.startsWith(`${group}|`));
+/** @param {string} group @param {string} entity @param {string} name */
+const keyOf = (group, entity, name) => `${group}|${entity}|${name}`;
+
+/** @param {Changed} changed @param {string} front */
+const hasChanged = (changed, front) => [...changed.keys()].some((key) => key.startsWith(`${front}|`));
+
+/** @param {string} group @param {Group} those @param {Changed} changed @param {{used: Set<string>, gone: string[]}} step */
+function groupShown(group, those, changed, { used, gone }) {
+  const left = gone.length ? make("p", { class: "inside" }, make("span", { class: "badge bad" }, "gone"), ` ${gone.join(", ")}`) : null;
+  if (!those.size) return make("div", { class: "empty", "data-group": group }, group, make("span", { class: "dim" }, briefly(group, those)), left);
+  const isChanged = hasChanged(changed, group);
   const head = make(
     "summary", {}, group, make("span", { class: "dim" }, briefly(group, those)),
-    isChanged ? make("span", { class: "mark" }, "changed") : null,
+    isChanged ? make("span", { class: "badge new" }, "changed") : null,
   );
-  const inside = make("div", { class: "inside" }, ...insideOf(group, those, changed));
-  const found = make("details", { open: isOpen.get(group) ?? isChanged }, head, inside);
+  const inside = make("div", { class: "inside" }, ...insideOf(group, those, changed, used));
+  const found = make("details", { open: isOpen.get(group) ?? isChanged, "data-group": group }, head, left, inside);
   head.addEventListener("click", () => isOpen.set(group, !found.hasAttribute("open")));
   return found;
+}
+
+/**
+ * Opens a group, and brings it into view.
+ * @param {string} group
+ */
+export function revealGroup(group) {
+  const found = byId("device").querySelector(`[data-group="${group}"]`);
+  if (found?.tagName === "DETAILS") found.setAttribute("open", "");
+  found?.scrollIntoView({ block: "nearest" });
+  byId("device").focus({ preventScroll: true });
 }
 
 /** @param {string} group @param {Group} those */
@@ -48,32 +76,63 @@ function briefly(group, those) {
   return written.length ? `${written.length} written` : "all blank";
 }
 
-/** @param {string} group @param {Group} those @param {Set<string>} changed */
-function insideOf(group, those, changed) {
+/** @param {string} group @param {Group} those @param {Changed} changed @param {Set<string>} used */
+function insideOf(group, those, changed, used) {
   if (group === "PCRs") return pcrsShown(those, changed);
   const found = [];
   for (const [of, values] of those) {
-    if (of) found.push(make("h4", {}, of));
-    found.push(valuesShown(group, of, values, changed));
+    if (OF_ENTITIES.has(group)) {
+      found.push(entityShown(group, of, values, changed, used.has(of) || those.size === 1));
+    } else {
+      if (of) found.push(make("h4", {}, of));
+      found.push(valuesShown(group, of, values, changed));
+    }
   }
   return found;
 }
 
-/** @param {string} group @param {string} of @param {Map<string, string>} values @param {Set<string>} changed */
+/**
+ * Shows an object, a session or an index, open if the step uses or changed it.
+ * @param {string} group @param {string} of @param {Map<string, string>} values @param {Changed} changed @param {boolean} isUsed
+ */
+function entityShown(group, of, values, changed, isUsed) {
+  const isNew = [...values.keys()].every((name) => changed.get(keyOf(group, of, name)) === null);
+  const words = [values.get("type") ?? values.get("kind"), values.get("hierarchy")].filter(Boolean).join(", ");
+  return make(
+    "details", { class: "entity", open: isUsed || hasChanged(changed, `${group}|${of}`) },
+    make("summary", {}, make("code", {}, of), make("span", { class: "dim" }, words), isNew ? make("span", { class: "badge new" }, "new") : null),
+    valuesShown(group, of, values, isNew ? new Map() : changed),
+  );
+}
+
+/** @param {string} group @param {string} of @param {Map<string, string>} values @param {Changed} changed */
 function valuesShown(group, of, values, changed) {
   const list = make("dl");
   for (const [name, value] of values) {
-    const isNew = changed.has(`${group}|${of}|${name}`);
-    const shown = isNew ? make("span", { class: "new" }, value) : value;
-    list.append(make("dt", {}, name), make("dd", { class: isHexWord(value) ? "hex" : false }, shown));
+    const old = changed.get(keyOf(group, of, name));
+    const isFlags = name === "attributes";
+    const shown = old !== undefined ? make("span", { class: "new" }, value) : isFlags ? flagsShown(value) : value;
+    const before = old ? make("span", { class: "dim" }, shortly(old), " → ") : null;
+    list.append(make("dt", {}, name), make("dd", { class: isHexWord(value) ? "hex" : isFlags ? "flags" : false }, before, shown));
   }
   return list;
 }
 
+/** @param {string} words */
+const flagsShown = (words) => words.split(", ").map((it) => make("span", { class: "flag" }, it));
+
+const MOST_BEFORE = 24;
+
+/**
+ * Returns a shortened form of a value that was replaced.
+ * @param {string} text
+ */
+const shortly = (text) => (isBlank(text) && text.length > 16 ? `${text.slice(0, 2)}..${text.slice(0, 2)}` : cut(text, MOST_BEFORE));
+
 /**
  * Shows the PCRs that are not blank, with full values if the step changed them. A sentence says that the other
  * PCRs, or all PCRs, are blank.
- * @param {Group} those @param {Set<string>} changed
+ * @param {Group} those @param {Changed} changed
  */
 function pcrsShown(those, changed) {
   const found = [];

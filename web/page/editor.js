@@ -3,9 +3,9 @@
 // the layout again.
 
 import { refusal, tooMuch } from "./bounds.js";
-import { faultPlace, faultWords } from "./coloured.js";
+import { faultPlace, faultWords, meantLine } from "./coloured.js";
 import { byId, cut, make } from "./dom.js";
-import { formShown } from "./form.js";
+import { formShown, meaningAt } from "./form.js";
 import { completionOf, tokensOf } from "./completion.js";
 import { countWords, pastedText } from "./pasted.js";
 import { ROW, Rows, TOP } from "./rows.js";
@@ -15,11 +15,13 @@ import { forAWhile, inTurns } from "./turns.js";
  * @typedef {import("./rows.js").Told & {
  *   stateAtLine: (line: number) => import("./state.js").State | null, edited: () => void,
  *   moved: (line: number) => void, newText: () => () => boolean, refused: (words: string) => void,
+ *   bufferOf: (line: number) => Uint8Array | null,
  * }} Told what the editor asks the page for, and what it reports to the page
- * @typedef {import("./pasted.js").Found} Found
+ * @typedef {import("./taken.js").Found} Found
  */
 
 const FAULT_WIDTH = 220;
+const MOST_MEANT = 60;
 const CHOICES = { width: 440, height: 208, row: 24, edges: 10 };
 const EDGE = 8;
 const PAUSE = 700;
@@ -39,7 +41,8 @@ export class Editor {
     this.lines = [""];
     this.formOf = "";
     this.pause = 0;
-    this.padding = 0;
+    /** The line that was probably meant by the line with the caret. */
+    this.meant = "";
     /** @type {import("./rows.js").View} */
     this.view = { top: 0, left: 0, width: 0, height: 0 };
     /** @type {import("./completion.js").Completion | null} */
@@ -54,6 +57,7 @@ export class Editor {
     area.addEventListener("scroll", () => this.paint(), { passive: true });
     area.addEventListener("keydown", (event) => this.#key(event));
     area.addEventListener("blur", () => this.closeChoices());
+    area.addEventListener("mousemove", (event) => this.#hover(event), { passive: true });
     area.addEventListener("paste", (event) => this.#paste(event));
     document.addEventListener("selectionchange", () => document.activeElement === area && this.#caretMoved());
     byId("choices").addEventListener("mousedown", (/** @type {MouseEvent} */ event) => {
@@ -66,13 +70,14 @@ export class Editor {
 
   #measure() {
     const probe = make("span", { class: "row" }, "0".repeat(100));
-    probe.style.minWidth = "0";
-    probe.style.paddingLeft = "0";
+    probe.style.cssText = "min-width: 0; width: max-content; padding: 0";
     byId("texts").append(probe);
     this.rows.columnWidth = probe.getBoundingClientRect().width / 100 || this.rows.columnWidth;
     probe.remove();
-    this.padding = parseFloat(getComputedStyle(this.area).paddingLeft);
-    this.paint();
+    this.rows.padding = parseFloat(getComputedStyle(this.area).paddingLeft);
+    this.rows.wrapped.width = 0;
+    if (this.view.height) this.paint();
+    else this.reveal(this.caret().line);
   }
 
   /** Measures which part of the text is visible, and makes the layers end at the scroll bars. */
@@ -94,8 +99,9 @@ export class Editor {
 
   /** @param {string} text */
   set text(text) {
-    this.area.value = text;
     this.lines = text.split("\n");
+    this.rows.take(this.lines);
+    this.area.value = text;
     this.area.setSelectionRange(0, 0);
     this.area.scrollTop = 0;
     this.area.scrollLeft = 0;
@@ -104,6 +110,7 @@ export class Editor {
 
   #input() {
     this.lines = this.area.value.split("\n");
+    this.rows.take(this.lines);
     this.told.edited();
     this.#openChoices(false);
   }
@@ -121,8 +128,8 @@ export class Editor {
   }
 
   /**
-   * Turns pasted buffers in hex into commands, if they are pasted at the start of a line or after its `cmd`. The
-   * browser pastes any other text.
+   * Turns pasted buffers, and what other programs print about a TPM, into commands, if they are pasted at the start of
+   * a line; buffers also after its `cmd`. The browser pastes any other text.
    * @param {ClipboardEvent} event
    */
   #paste(event) {
@@ -186,7 +193,9 @@ export class Editor {
   /** @param {number} line */
   reveal(line) {
     const { area } = this;
-    const top = TOP + line * ROW;
+    this.#look();
+    this.rows.wrap(this.lines, this.view.width);
+    const top = TOP + this.rows.firstOf(line) * ROW;
     const low = area.scrollTop + 2 * ROW;
     const high = area.scrollTop + area.clientHeight - 4 * ROW;
     if (top < low) area.scrollTop = Math.max(0, top - 2 * ROW);
@@ -224,23 +233,46 @@ export class Editor {
     if (isHere) this.#sayLater(line);
     const fault = isHere ? this.told.fault(line) : undefined;
     const isTyping = fault?.name === "Missing" && column === this.lines[line]?.length && this.completion !== null;
+    this.meant = fault && !isTyping ? meantLine(this.lines[line], fault) : "";
     under.hidden = !fault || isTyping;
     if (!fault || isTyping) return;
     const at = faultPlace(this.lines[line], fault).from;
-    under.textContent = faultWords(fault, at >= this.lines[line].length && fault.name !== "TooLong");
-    const left = this.#leftOf(at);
+    const words = faultWords(fault, at >= this.lines[line].length && fault.name !== "TooLong");
+    under.textContent = this.meant ? `Did you mean ${cut(this.meant, MOST_MEANT)}? Tab writes it.` : words;
+    const { left, top } = this.rows.placeBelow(line, at, this.view);
     under.style.left = `${Math.max(EDGE, Math.min(left, this.view.width - FAULT_WIDTH))}px`;
-    under.style.top = `${this.#below(line)}px`;
+    under.style.top = `${top}px`;
   }
 
-  /** @param {number} column */
-  #leftOf(column) {
-    return this.padding + column * this.rows.columnWidth - this.view.left;
+  /** Writes the line that was probably meant. */
+  #takeMeant() {
+    const { line, column } = this.caret();
+    const start = this.area.selectionStart - column;
+    this.area.setSelectionRange(start, start + this.lines[line].length);
+    insertText(this.area, this.meant);
   }
 
-  /** @param {number} line */
-  #below(line) {
-    return TOP + (line + 1) * ROW - this.view.top + 2;
+  /**
+   * Says what the word under the pointer means.
+   * @param {MouseEvent} event
+   */
+  #hover({ clientX, clientY }) {
+    const piece = this.rows.pieceAt(clientX, clientY);
+    const words = piece ? meaningAt(this.lines[piece.line], piece.column, this.told.bufferOf(piece.line)) : "";
+    if (this.area.title !== words) this.area.title = words;
+  }
+
+  /**
+   * Writes a line before another one, as if by typing.
+   * @param {string} text @param {number} line
+   */
+  insertLine(text, line) {
+    let at = 0;
+    for (let before = 0; before < line; before += 1) at += this.lines[before].length + 1;
+    this.area.setSelectionRange(at, at);
+    insertText(this.area, `${text}\n`);
+    this.area.setSelectionRange(at, at);
+    this.reveal(line);
   }
 
   /** Shows the form of the command at the caret, and highlights the field at the caret. */
@@ -253,7 +285,7 @@ export class Editor {
     form.replaceChildren(...formShown(text, column));
     requestAnimationFrame(() => {
       const here = form.querySelector(".on");
-      form.scrollLeft = here ? here.offsetLeft - form.clientWidth + here.offsetWidth + 40 : 0;
+      form.scrollTop = here ? here.offsetTop - form.clientHeight + here.offsetHeight + EDGE : 0;
     });
   }
 
@@ -288,10 +320,10 @@ export class Editor {
     byId("under").hidden = true;
     const height = Math.min(CHOICES.height, completion.choices.length * CHOICES.row + CHOICES.edges);
     const width = Math.min(CHOICES.width, this.view.width - 2 * EDGE);
-    const below = this.#below(line);
+    const { left, top: below } = this.rows.placeBelow(line, completion.from, this.view);
     const isLow = below + height > this.view.height && below > height + ROW;
     list.style.top = `${isLow ? below - ROW - 4 - height : below}px`;
-    list.style.left = `${Math.max(EDGE, Math.min(this.#leftOf(completion.from), this.view.width - width - EDGE))}px`;
+    list.style.left = `${Math.max(EDGE, Math.min(left, this.view.width - width - EDGE))}px`;
     this.area.setAttribute("aria-activedescendant", `choice-${this.selected}`);
   }
 
@@ -328,6 +360,10 @@ export class Editor {
     if (event.key === " " && event.ctrlKey) {
       event.preventDefault();
       this.#openChoices(true);
+    }
+    if (event.key === "Tab" && !event.shiftKey && this.meant && !byId("under").hidden) {
+      event.preventDefault();
+      this.#takeMeant();
     }
     if (!this.completion || event.altKey || event.ctrlKey || event.metaKey) return;
     const by = { ArrowDown: 1, ArrowUp: -1 }[event.key];

@@ -11,12 +11,14 @@
  * @typedef {{fixed: string[], isPcr: boolean, first: number[], words: string}} HandleKindFact
  * @typedef {[string, string]} RuleFact a sentence, and the link to it in the table
  * @typedef {Record<string, string>} Names by their numbers
+ * @typedef {{name: string, example?: string, script?: string[], code: string}} Story a script with a refusal
  * @typedef {{
  *   commands: CommandFact[], otherCommands: Names, handleKinds: Record<string, HandleKindFact>,
  *   kindWords: Record<string, string>, rules: Record<string, RuleFact>, examples: [string, string][],
  *   algorithms: Names, handleNames: Record<string, number>, ofFirstByte: Names, sessions: Names,
  *   entryFlags: Names, objectFlags: Names, nvFlags: Names, nvTypes: Names, operations: string[],
- *   starts: Names, tickets: Names, tags: Names, pcrs: number, docs: string, version: string,
+ *   starts: Names, tickets: Names, tags: Names, pcrs: number, docs: string, version: string, stories: Story[],
+ *   codes: Record<string, [string, string, [string, string][]]>, layers: Names,
  * }} Facts
  */
 

@@ -3,8 +3,9 @@
 import { MOST_TEXT, OVER, refusal, tooMuch } from "./bounds.js";
 import { decoded, encoded, hexOf } from "./bytes.js";
 import { make } from "./dom.js";
-import { countWords, MOST_BUFFER, scriptOfBuffers, scriptOfBytes } from "./pasted.js";
+import { countWords, scriptOfBuffers, scriptOfBytes } from "./pasted.js";
 import { onDevice } from "./script.js";
+import { MOST_BUFFER, takenOf, takenOfCapture } from "./taken.js";
 import { inTurns } from "./turns.js";
 import { grouped } from "./words.js";
 
@@ -135,19 +136,23 @@ export function* scriptOfFile(name, bytes, present) {
   if (magic === "TPMI") return onTop(present, "image", bytes, name, `The script begins on the device of the image ${name}.`);
   if (magic === "TPMS") return onTop(present, "state", bytes, name, `The script goes on with the device of the state text ${name}.`);
   if (bytes[0] === BINARY) return yield* scriptOfBinary(name, bytes);
+  const captured = yield* takenOfCapture(bytes);
+  if (captured !== undefined) return captured ? ofBuffers(name, captured) : refused(`${name} is a capture without commands and responses.`);
   const text = yield* textIn(bytes);
   if (text === null) return refused(`${name} is neither a text nor an image, a state text or commands in binary.`);
   if (!text && bytes.length) return refused(`${name} has only zeros.`);
-  const buffers = yield* scriptOfBuffers(text);
+  const buffers = (yield* scriptOfBuffers(text)) ?? (yield* takenOf(text));
   return buffers ? ofBuffers(name, buffers) : ofText(name, text, tooMuch(`${name} has`, text, `${OPEN_PART}, or play it with tpmsim run.`));
 }
 
 /** @param {string} name @param {string} text @param {string} fault @returns {Opened} */
 const ofText = (name, text, fault) => (fault ? refused(fault) : { text, note: `${name} is open.`, isBad: false });
 
-/** @param {string} name @param {import("./pasted.js").Found} found */
-const ofBuffers = (name, { text, count }) =>
-  ofText(name, text, text ? "" : refusal(`${name} has`, countWords(count), `${OPEN_PART}.`));
+/** @param {string} name @param {import("./taken.js").Found} found @returns {Opened} */
+function ofBuffers(name, { text, count, remarks = [] }) {
+  if (!text) return refused(refusal(`${name} has`, countWords(count), `${OPEN_PART}.`));
+  return { text, note: [`${name} is open.`, ...remarks.map((it) => `${it[0].toUpperCase()}${it.slice(1)}.`)].join(" "), isBad: false };
+}
 
 /**
  * Returns the script of a file that begins like a command in binary.

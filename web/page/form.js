@@ -1,9 +1,11 @@
-// Shows the form of a line's command, and highlights the field at the caret.
+// Shows the form of a line's command, and highlights the field at the caret. Says what a word of a line means.
 
+import { fieldMeaning } from "./bytes_view.js";
 import { LINE_WORD } from "./coloured.js";
 import { tokensOf } from "./completion.js";
 import { make } from "./dom.js";
 import { facts } from "./facts.js";
+import { fieldsOfCommand } from "./fields.js";
 
 /** @param {string} text @param {number} column */
 export function formShown(text, column) {
@@ -33,10 +35,48 @@ function commandForm(command, tokens, entries, column) {
     (isEntryNext ? sort === "entry" && field === entries : here.sort === sort && here.field === field);
   const parts = [formPart(command.name, "command", here.sort === "name")];
   command.handles.forEach((it, at) => parts.push(formPart(it.name, facts.handleKinds[it.kind].words, isOn("handle", at))));
-  for (let at = 0; at < Math.max(wanted, entries); at += 1) parts.push(formPart("entry", "pw:HEX, or s:SESSION:NONCE:ATTRIBUTES:HMAC", isOn("entry", at)));
+  for (let at = 0; at < Math.max(wanted, entries); at += 1) parts.push(formPart("entry", isOn("entry", at) ? "pw:HEX, or s:SESSION:NONCE:ATTRIBUTES:HMAC" : "pw:HEX, or s:..", isOn("entry", at)));
   command.parameters.forEach((it, at) => parts.push(formPart(it.name, facts.kindWords[it.kind] ?? it.kind, isOn("parameter", at))));
   return parts;
 }
 
 /** @param {string} name @param {string} words @param {boolean} isOn */
 const formPart = (name, words, isOn) => make("span", { class: isOn ? "on" : false }, name, make("small", {}, words));
+
+const MOST_FIELDS = 12;
+
+/**
+ * Says what the word at a column of a line means: its name in the command, and its fields if the line is an event.
+ * @param {string} text @param {number} column @param {Uint8Array | null} buffer the command of the line
+ */
+export function meaningAt(text, column, buffer) {
+  if (!text.startsWith("do ")) return "";
+  const { tokens, command } = tokensOf(text.slice(3));
+  const token = tokens.find((it) => column >= 3 + it.at && column < 3 + it.at + it.text.length);
+  if (!command || !token) return "";
+  if (token.sort === "name") return `TPM2_${command.form}`;
+  const name = nameOf(command, token);
+  const fields = buffer ? partsOf(fieldsOfCommand(buffer), token) : [];
+  const more = fields.length > MOST_FIELDS ? [`and ${fields.length - MOST_FIELDS} more fields`] : [];
+  return [name, ...fields.slice(0, MOST_FIELDS).map((it) => `${"  ".repeat(it.depth)}${fieldMeaning(/** @type {Uint8Array} */ (buffer), it)}`), ...more].join("\n");
+}
+
+/** @param {import("./facts.js").CommandFact} command @param {import("./completion.js").Token} token */
+function nameOf(command, { sort, field }) {
+  const handle = command.handles[field];
+  const parameter = command.parameters[field];
+  if (sort === "handle") return `handle ${handle.name}: ${facts.handleKinds[handle.kind].words}`;
+  if (sort === "entry") return `authorization ${field + 1}`;
+  return parameter ? `parameter ${parameter.name}: ${facts.kindWords[parameter.kind] ?? parameter.kind}` : "more than the command takes";
+}
+
+/**
+ * Returns the fields of a command that a word of its line encodes.
+ * @param {import("./fields.js").Field[]} fields @param {import("./completion.js").Token} token
+ */
+function partsOf(fields, { sort, field }) {
+  const those = fields.filter((it) => it.sort === sort);
+  const tops = those.filter((it) => it.depth === 0 && (sort !== "entry" || it.isGroup));
+  const top = tops[field];
+  return top ? those.filter((it) => it.at >= top.at && it.at + it.size <= top.at + top.size) : [];
+}

@@ -43,7 +43,8 @@ function movePane(by) {
 export function byKey(page, event) {
   if (byId("keys").open) return;
   const by = { ArrowDown: 1, ArrowUp: -1, PageDown: PAGE_STEPS, PageUp: -PAGE_STEPS }[event.key];
-  if (by && event.altKey) page.go(by);
+  if (event.key === "Escape" && byId("drawer").contains(document.activeElement)) byId("reference").click();
+  else if (by && event.altKey) page.go(by);
   else if (event.key === "F6") movePane(event.shiftKey ? -1 : 1);
   else if (!isTyping(event) && LETTERS[event.key]) LETTERS[event.key](page);
   else return;
@@ -54,6 +55,7 @@ export function byKey(page, event) {
 const LETTERS = {
   j: (page) => page.go(1), k: (page) => page.go(-1), n: (page) => page.goToRefusal(1),
   N: (page) => page.goToRefusal(-1), "?": () => showKeys(),
+  r: () => byId("reference").click(), c: () => byId("compare").click(),
   "/": () => {
     showPane("script");
     byId("text").focus();
@@ -70,8 +72,9 @@ function isTyping(event) {
 const KEYS = [
   ["Alt+Down, Alt+Up", "next step, previous step"], ["Alt+PgDn, Alt+PgUp", "ten steps on, ten back"],
   ["F6, Shift+F6", "next pane, previous pane"], ["Ctrl+Space", "what may come next in the line"],
-  ["Enter or Tab", "takes the completion"], ["Esc", "closes the completions"],
+  ["Enter or Tab", "takes the completion; Tab also what was meant"], ["Esc", "closes the completions, the reference"],
   ["/", "to the script"], ["j, k", "next step, previous step, outside the script"],
+  ["r", "the reference"], ["c", "keeps this version, and compares others with it"], ["Left, Right", "on an edge between panes: moves it"],
   ["n, N", "next refusal, previous refusal, outside the script"], ["Down, Up", "in a table of fields: lights the bytes of each"],
 ];
 

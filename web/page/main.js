@@ -2,10 +2,13 @@
 
 import { Chip } from "./device.js";
 import { byId, make } from "./dom.js";
+import { listenToEdges } from "./edges.js";
 import { facts, learn } from "./facts.js";
 import { inflated, unpacked } from "./files.js";
+import { setPageIcon } from "./icons.js";
 import { byKey, showKeys, showPane, tabKey } from "./keys.js";
-import { exampleOf, Page } from "./page.js";
+import { closeHero, exampleOf, Page } from "./page.js";
+import { toggleReference } from "./reference.js";
 
 const MOST_MODULE = 4 * 1024 * 1024;
 
@@ -18,6 +21,9 @@ function listen(page) {
   on("link", () => page.copyLink());
   on("open", () => byId("file").click());
   on("help", showKeys);
+  on("hero-close", closeHero);
+  on("compare", () => page.compare.toggle());
+  on("reference", () => toggleReference({ insert: (line) => page.insert(line), example: (number) => page.chip.example(number) }));
   on("former", () => page.backToFormer());
   on("tutorial", () => (page.tutorial.isOpen ? page.tutorial.close() : page.openTutorial()));
   byId("file").addEventListener("change", () => {
@@ -26,6 +32,8 @@ function listen(page) {
   });
   byId("slider").addEventListener("input", () => page.choose(Number(byId("slider").value), true));
   listenToMenus(page);
+  listenToMenu();
+  listenToEdges();
   listenToDrops(page);
   document.addEventListener("keydown", (event) => byKey(page, event));
   addEventListener("hashchange", () => page.openLink());
@@ -45,6 +53,7 @@ function listenToMenus(page) {
     page.tutorial.close();
     page.leaveLog();
     page.keepFormer();
+    closeHero();
     page.load(exampleOf(examples.value));
     page.keepLink();
     examples.value = "";
@@ -55,6 +64,36 @@ function listenToMenus(page) {
     page.download(menu.value);
     menu.value = "";
   });
+}
+
+/** Opens and closes the menu that contains the tools on a small screen, and shows cut texts whole. */
+function listenToMenu() {
+  const menu = byId("menu");
+  const toggle = (/** @type {boolean} */ isOpen) => {
+    menu.parentElement.classList.toggle("menu", isOpen);
+    menu.setAttribute("aria-expanded", String(isOpen));
+  };
+  menu.addEventListener("click", () => toggle(menu.getAttribute("aria-expanded") !== "true"));
+  byId("tools").addEventListener("change", () => toggle(false));
+  document.addEventListener("click", ({ target }) => {
+    const isTool = target instanceof Element && target.closest("#menu, #tools select");
+    if (!isTool) toggle(false);
+  });
+  byId("tools").addEventListener("keydown", (/** @type {KeyboardEvent} */ { key }) => {
+    if (key !== "Escape" || menu.getAttribute("aria-expanded") !== "true") return;
+    toggle(false);
+    menu.focus();
+  });
+  document.addEventListener("mouseover", ({ target }) => {
+    if (!(target instanceof HTMLElement) || target.scrollWidth <= target.clientWidth) return;
+    if (!target.title && getComputedStyle(target).textOverflow === "ellipsis") target.title = target.innerText;
+  });
+}
+
+/** @param {(at: number) => void} choose */
+function offerStories(choose) {
+  byId("hero").hidden = location.hash.length > 1 || byId("log").textContent !== "null";
+  byId("stories").append(...facts.stories.map(({ name }, at) => make("button", { type: "button", class: "chip", "aria-pressed": "false", onclick: () => choose(at) }, name)));
 }
 
 const DOWNLOADS = [
@@ -82,6 +121,10 @@ function listenToDrops(page) {
 async function start() {
   learn(JSON.parse(byId("facts").textContent));
   showPane("script");
+  setPageIcon();
+  /** @type {Page | undefined} */
+  let page;
+  offerStories((at) => page?.chooseStory(at));
   let chip;
   try {
     chip = await Chip.load(await inflated(unpacked(byId("module").textContent), MOST_MODULE), 2);
@@ -90,7 +133,7 @@ async function start() {
     byId("note").classList.add("bad");
     return;
   }
-  const page = new Page(chip);
+  page = new Page(chip);
   listen(page);
   if (page.told.log) page.openLog(page.told.log);
   else if (!(await page.openLink())) page.greet();

@@ -3,12 +3,14 @@
 import { tooMuch } from "./bounds.js";
 import { areSame, hexNumber, hexOf } from "./bytes.js";
 import { faultName } from "./coloured.js";
-import { showDevice } from "./device_pane.js";
-import { byId } from "./dom.js";
+import { Compare } from "./compare.js";
+import { revealGroup, showDevice } from "./device_pane.js";
+import { byId, cut, make } from "./dom.js";
 import { Editor } from "./editor.js";
 import { byNumber, facts } from "./facts.js";
 import { commandNumber, responseCode } from "./fields.js";
 import { download, fragmentOf, opened, scriptOf, stepOf } from "./files.js";
+import { showPane } from "./keys.js";
 import { plainCommand, plainResponse, responseOf } from "./plain.js";
 import { Run } from "./run.js";
 import { isAnswer, logOf, onDevice, readingOf, readScript } from "./script.js";
@@ -17,12 +19,12 @@ import { drawMarks, showSteps } from "./timeline.js";
 import { Told } from "./told.js";
 import { forAWhile } from "./turns.js";
 import { Tutorial } from "./tutorial.js";
-import { usesShown } from "./uses.js";
+import { handlesIn, usesShown } from "./uses.js";
 import { grouped, plural } from "./words.js";
 
 /** @typedef {import("./device.js").Chip} Chip */
 
-const FIRST_EXAMPLE = "measured_boot";
+const MOST_COMMENT = 600;
 const SLICE = { read: 30, first: 30, edit: 3, next: 16 };
 const LINK_WAIT = 400;
 const OF_FILE = location.protocol === "file:" ? "This is a file of this computer: who opens the link needs tpmsim.html too. " : "";
@@ -76,9 +78,11 @@ export class Page {
       stateAtLine: (line) => this.stateAtLine(line),
       newText: () => this.newText(),
       refused: (words) => this.sayShortly(words, true),
+      bufferOf: (line) => this.bufferOf(line),
       edited: () => this.edited(),
       moved: (line) => this.moved(line),
     });
+    this.compare = new Compare({ go: (step) => this.choose(step, true), played: () => this.playedSteps() });
     measureStep();
     new ResizeObserver(() => measureStep() && this.redraw()).observe(byId("detail"));
     this.tutorial = new Tutorial(JSON.parse(byId("lessons").textContent), {
@@ -214,6 +218,7 @@ export class Page {
     this.leaveLog();
     this.opened = "";
     this.isOwn = true;
+    closeHero();
     if (!this.tutorial.isOpen) this.loseFormer();
     this.take(() => {
       this.chosen = this.nearest(this.editor.caret().line);
@@ -247,6 +252,7 @@ export class Page {
     this.editor.paint();
     drawMarks(this.script.steps, this.notable());
     this.tutorial.look();
+    this.compare.look();
     document.documentElement.dataset.played = String(this.script.steps.length);
     later?.();
   }
@@ -276,6 +282,18 @@ export class Page {
     this.show();
     this.editor.paint();
     this.stepped();
+  }
+
+  /**
+   * Writes a line below the chosen one.
+   * @param {string} line
+   */
+  insert(line) {
+    showPane("script");
+    const { lines } = this.editor;
+    const chosen = this.script.steps[this.chosen]?.line ?? -1;
+    if (chosen + 1 < lines.length) return this.editor.insertLine(line, chosen + 1);
+    return this.editor.insertLine(`\n${line}`, lines.length - 1);
   }
 
   // Choosing and showing a step.
@@ -336,10 +354,18 @@ export class Page {
     const isShown = !told && shown.length === this.shown.length && shown.every((it, at) => it === this.shown[at]);
     if (isShown) return;
     this.shown = shown;
-    showDevice(before, after, step ? `after line ${step.line + 1}` : "new");
+    const used = new Set(step ? handlesIn(step).map((it) => hexNumber(it, 8)) : []);
+    showDevice(before, after, step ? `after line ${step.line + 1}` : "new", used);
     if (!step) return showNothing("The script has no command yet. Type one, such as do Startup 0, or open an example.");
     const uses = usesShown(run, chosen, (it) => this.choose(it, true));
-    showStep(chip, { step, answer, line, before, after, uses, told, ...this.plainOf(chosen) });
+    showStep(chip, {
+      step, answer, line, before, after, uses, told, run, at: chosen, comment: commentAbove(script.lines, step.line), ...this.plainOf(chosen),
+      go: (it) => this.choose(it, true), startBefore: () => this.editor.insertLine("do Startup 0", step.line),
+      showGroup: (group) => {
+        showPane("device");
+        revealGroup(group);
+      },
+    });
   }
 
   /** Says that the chosen step is not played yet. */
@@ -378,6 +404,23 @@ export class Page {
     return code ? { text: this.chip.meaning(code)?.name ?? hexNumber(code, 3), isBad: true } : { text: "ok", isBad: false };
   }
 
+  /**
+   * Returns the command of a line, if the line is one.
+   * @param {number} line
+   */
+  bufferOf(line) {
+    const step = this.script.steps[this.countBefore(line)];
+    return step?.line === line && step.kind === "command" ? step.buffer : null;
+  }
+
+  /** Returns the played steps, to be compared with those of another version. */
+  playedSteps() {
+    return this.run.answers.map(({ response }, at) => {
+      const { line } = this.script.steps[at];
+      return { line, text: this.script.lines[line], outcome: this.outcome(line)?.text ?? "", response };
+    });
+  }
+
   /** Returns the name and the response code of each played command, in words. */
   outcomes() {
     return this.run.answers.flatMap((answer, at) => {
@@ -397,7 +440,9 @@ export class Page {
     if (run.parted.length) parts.push(`${grouped(run.parted.length)} answered otherwise`);
     const bad = script.faults.size;
     if (bad) parts.push(`${plural(bad, "line")} that cannot be read, left out`);
-    byId("refusal").disabled = !refused && !run.parted.length;
+    const count = this.notable().length;
+    byId("refusal").disabled = !count;
+    byId("refusal").replaceChildren("Next refusal", count ? make("span", { class: "count" }, ` of ${grouped(count)}`) : "");
     this.say(`${this.opened} ${parts.join(", ")}`.trim(), false);
     if (!this.opened) byId("note").setAttribute("aria-live", "off");
   }
@@ -440,17 +485,42 @@ export class Page {
 
   openTutorial() {
     this.keepFormer();
+    closeHero();
+    showPane("script");
     this.tutorial.open(0);
   }
 
   // Files and links.
 
-  /** Shows the initial script of the page, and keeps a message about the link, if there is one. */
+  /** Shows the first story, and keeps a message about the link, if there is one. */
   greet() {
     const fault = byId("note").classList.contains("bad") ? byId("note").textContent : "";
-    this.load(exampleOf(FIRST_EXAMPLE), { line: 0 });
+    this.openStory(0, () => fault && this.say(fault, true));
+  }
+
+  /** @param {number} at the number of a story that the user chose */
+  chooseStory(at) {
+    this.tutorial.close();
+    this.leaveLog();
+    this.keepFormer();
+    this.openStory(at, () => this.keepLink());
+  }
+
+  /**
+   * Opens a story at its refusal.
+   * @param {number} at @param {() => void} then
+   */
+  openStory(at, then) {
+    const { example, script, code } = facts.stories[at];
+    showPane("detail");
+    for (const [place, it] of [...byId("stories").children].entries()) it.setAttribute("aria-pressed", String(place === at));
+    this.load(example ? exampleOf(example) : script?.join("\n") ?? "", { line: 0 });
     this.playAll();
-    this.whenPlayed(() => this.say(fault || "A proved TPM 2.0, in this page. New to it? Take the tutorial.", fault !== ""));
+    this.whenPlayed(() => {
+      const { refusals, answers } = this.run;
+      this.place(refusals.find((it) => this.chip.meaning(responseCode(answers[it].response))?.name === code) ?? 0, true);
+      then();
+    });
   }
 
   /**
@@ -565,6 +635,24 @@ export class Page {
 /** @param {string} fragment */
 function replaceFragment(fragment) {
   history.replaceState(null, "", location.href.split("#")[0] + fragment);
+}
+
+export function closeHero() {
+  byId("hero").hidden = true;
+}
+
+/**
+ * Returns the comment above a line, as prose.
+ * @param {string[]} lines @param {number} line
+ */
+function commentAbove(lines, line) {
+  const isWord = (/** @type {number} */ at) => /^(?:entropy|wait|loc) /.test(lines[at] ?? "");
+  let end = line;
+  while (isWord(end - 1)) end -= 1;
+  let first = end;
+  while (lines[first - 1]?.startsWith("# ")) first -= 1;
+  const text = lines.slice(first, end).map((it) => it.slice(2)).join(" ");
+  return /[0-9a-f]{20}/.test(text) ? "" : cut(text, MOST_COMMENT);
 }
 
 /** @param {string} name */

@@ -1,9 +1,9 @@
 // Explains why a command was refused: the rules of the check that refused it, and the values that
 // the rule compares.
 
-import { hexOf, numberOf, Reader } from "./bytes.js";
+import { areSame, hexOf, numberOf, Reader } from "./bytes.js";
 import { byNumber, facts } from "./facts.js";
-import { commandNumber, WITH_ENTRIES } from "./fields.js";
+import { commandNumber, fieldsOfCommand, WITH_ENTRIES } from "./fields.js";
 import { NO_BYTES } from "./state.js";
 import { bytesWords, commandWords, grouped, handleWords, localitiesWords, nvFlagWords, PASSWORD_HANDLE } from "./words.js";
 
@@ -214,6 +214,48 @@ export function valuesOf(step, meaning, before) {
     case "NV_AUTHORIZATION": case "NV_LOCKED": case "NV_UNINITIALIZED": return indexValues(use, step, meaning.name);
     default: return [];
   }
+}
+
+/**
+ * Returns the two values that were compared, if the refusal is about two values of the same kind.
+ * @param {Step} step @param {Meaning | null} meaning @param {State} before
+ * @returns {import("./values_view.js").Pair | null}
+ */
+export function pairOf({ buffer }, meaning, before) {
+  if (!meaning) return null;
+  if (meaning.name === "TYPE" && meaning.kind === "parameter") return typePair(buffer, meaning.number);
+  const { entry, auth, session, policy, handle } = useOf(buffer, meaning.kind === "session" ? meaning.number : 1, before);
+  const of = handleWords(handle);
+  if (isWrongEntry(meaning) && entry?.isPassword && auth) {
+    return { given: { label: "password given", bytes: entry.secret }, wanted: [{ label: `authValue of ${of}`, bytes: auth }], said: `The password is not that of ${of}.` };
+  }
+  if (meaning.name !== "POLICY_FAIL" || !session || !policy || areSame(session.digest, policy)) return null;
+  return { given: { label: "policy digest had", bytes: session.digest }, wanted: [{ label: `authPolicy of ${of}`, bytes: policy }], said: `The session has not fulfilled the policy of ${of}.` };
+}
+
+/** The types of keys and sealed data that the device has: SYMCIPHER and KEYEDHASH. */
+const SERVED_TYPES = [0x25, 0x08];
+/** @type {Record<number, string>} */
+const OTHER_TYPES = { 0x01: "RSA", 0x23: "ECC" };
+
+/**
+ * Returns the field that contains the type of the public area in a parameter.
+ * @param {import("./fields.js").Field[]} fields @param {number} place
+ */
+export function typeField(fields, place) {
+  const area = fields.filter((it) => it.sort === "parameter" && it.depth === 0)[place - 1];
+  return fields.find((it) => it.name === "type" && area && it.at >= area.at && it.at < area.at + area.size) ?? null;
+}
+
+/** @param {Uint8Array} buffer @param {number} place @returns {import("./values_view.js").Pair | null} */
+function typePair(buffer, place) {
+  const field = typeField(fieldsOfCommand(buffer), place);
+  if (!field) return null;
+  const bytes = buffer.subarray(field.at, field.at + field.size);
+  const name = facts.algorithms[numberOf(bytes)] ?? OTHER_TYPES[numberOf(bytes)] ?? "";
+  const wanted = SERVED_TYPES.map((it) => ({ label: "type that the device has", bytes: Uint8Array.of(it >> 8, it & 0xff), words: facts.algorithms[it] }));
+  const said = name in facts.algorithms || !name ? "This type is not one of a key or of sealed data here." : `This TPM has no ${name} keys: its keys are symmetric.`;
+  return { given: { label: "type given", bytes, words: name }, wanted, said };
 }
 
 /** @typedef {ReturnType<typeof useOf>} Use */

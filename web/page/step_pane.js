@@ -3,13 +3,17 @@
 
 import { hexNumber, hexOf } from "./bytes.js";
 import { bytesShown } from "./bytes_view.js";
-import { byId, cut, heading, isHexWord, listed, make } from "./dom.js";
+import { byId, cut, heading, listed, make } from "./dom.js";
 import { byNumber, facts } from "./facts.js";
 import { commandNumber, fieldsOfCommand, fieldsOfResponse, responseCode } from "./fields.js";
-import { isWrongEntry, rowsOf, rulesOf, valuesOf } from "./reason.js";
+import { icon } from "./icons.js";
+import { picturesOf } from "./pictures.js";
+import { movedPcrs, promiseOf } from "./policies.js";
+import { isWrongEntry, pairOf, rowsOf, rulesOf, typeField, valuesOf } from "./reason.js";
 import { entropyWord, isAnswer } from "./script.js";
-import { changesOf, isBlank } from "./state.js";
-import { commandWords, plural, secondsWords, sizeWords } from "./words.js";
+import { changesOf } from "./state.js";
+import { differenceWords, pairShown } from "./values_view.js";
+import { commandWords, grouped, localitiesWords, secondsWords, sizeWords } from "./words.js";
 
 /**
  * @typedef {import("./device.js").Answer} Answer
@@ -20,14 +24,16 @@ import { commandWords, plural, secondsWords, sizeWords } from "./words.js";
  * @typedef {{
  *   step: Step, answer: Answer, line: string, before: State, after: State, told?: import("./told.js").ToldShown | null,
  *   plainCommand: Plain | null, plainResponse: Plain | null, plainGiven: Plain | null, uses: Node | null,
+ *   comment: string, run: import("./run.js").Run, at: number, go: (step: number) => void,
+ *   showGroup: (group: string) => void, startBefore: () => void,
  * }} Chosen `plainGiven` is the decrypted response that the script records, if it differs from the
- *   device's
+ *   device's; `comment` is the comment above the line
  */
 
-const MOST_CHANGES = 40;
 const BYTE_WIDTH = 21;
 const ROW_EDGES = 84;
 const PCRS = "PCRs";
+const MOST_CHIP = 40;
 
 /**
  * Returns the response code of an answer in words.
@@ -78,33 +84,37 @@ export function showNothing(words) {
 }
 
 /** @param {Chosen} chosen */
-function otherParts({ step, answer, before, after }) {
+function otherParts(chosen) {
+  const { step, answer } = chosen;
   const isPower = step.kind === "power";
   const title = isPower ? "Power cycle" : "The device begins";
   const fault = answer.trace && !isPower ? make("div", { class: "why" }, `These bytes are no device: ${answer.trace}.`) : null;
   const words = isPower
     ? "Power goes, and comes back: PCRs, sessions and transient objects are gone, and the device waits for TPM2_Startup."
     : `The device is that of ${sizeWords(step.buffer.length)} in this line.`;
-  return [make("h2", {}, title), make("p", { class: "dim" }, words), fault, changesShown(before, after)];
+  return [make("h2", {}, title), make("p", { class: "dim" }, words), fault, effectShown(chosen)];
 }
 
 /** @param {import("./device.js").Chip} chip @param {Chosen} chosen */
 function commandParts(chip, chosen) {
-  const { step, answer, before, after, told } = chosen;
+  const { step, answer, told } = chosen;
   const number = commandNumber(step.buffer);
   const code = responseCode(answer.response);
   const meaning = code ? chip.meaning(code) : null;
   const plain = { command: known(chosen.plainCommand), response: known(chosen.plainResponse) };
   const fields = fieldsOfCommand(plain.command?.bytes ?? step.buffer);
   const answered = fieldsOfResponse(answer.code, plain.response?.bytes ?? answer.response, (it) => spelledCode(chip, it));
+  const pictures = picturesOf({ ...chosen, meaning });
   return [
     title(chip, number, answer, code),
-    make("p", { class: "dim" }, placeWords(step)),
-    make("p", { class: "words" }, wordsOf(chip, chosen)),
-    code ? whyShown(chosen, meaning) : null,
+    chosen.comment ? make("p", { class: "prose" }, chosen.comment) : null,
+    code ? whyShown(chosen, meaning, pictures) : null,
     ...differences(chip, chosen),
     ...(told?.parts ?? []),
-    changesShown(before, after),
+    effectShown(chosen),
+    ...(code && !told?.hasReason ? [] : pictures),
+    make("p", { class: "words" }, wordsOf(chip, chosen)),
+    make("p", { class: "dim" }, placeWords(step)),
     heading("Command", sizeWords(step.buffer.length)),
     encryptionShown(chosen.plainCommand, code !== 0),
     bytesShown({ bytes: step.buffer, fields, wrong: wrongField(fields, meaning), plain: plain.command }, perRow),
@@ -122,8 +132,8 @@ function title(chip, number, answer, code) {
   const name = number ? commandWords(number) : "No command";
   const outcome = code ? `${codeWords(chip, answer)} (${hexNumber(code, 3)})` : "accepted";
   return make(
-    "h2", {}, section ? tableLink(section, name) : name,
-    make("span", { class: code ? "out bad" : "out" }, outcome),
+    "h2", { class: code ? "verdict bad" : "verdict" }, icon(code ? "no" : "yes"), section ? tableLink(section, name) : name,
+    make("span", { class: code ? "badge bad" : "badge" }, outcome),
   );
 }
 
@@ -142,21 +152,57 @@ function wordsOf(chip, { step, line }) {
   return chip.spell(step.buffer) || "No line in words spells these bytes.";
 }
 
-/** @param {Chosen} chosen @param {Meaning | null} meaning */
-function whyShown({ step, answer, before, told }, meaning) {
+/** @param {Chosen} chosen @param {Meaning | null} meaning @param {Node[]} pictures */
+function whyShown(chosen, meaning, pictures) {
+  const { step, answer, before, told, startBefore } = chosen;
   if (told?.hasReason) return null;
-  const values = valuesOf(step, meaning, before);
-  const valuesList = values.length ? listed(values) : null;
+  const pair = pairOf(step, meaning, before);
+  const values = pair ? [] : valuesOf(step, meaning, before);
   const rules = rulesOf(answer.check, step.buffer, meaning, before).map(({ sentence, link }) => make("p", {}, sentence, " ", tableLink(link)));
-  const isEntryWrong = isWrongEntry(meaning);
+  const cause = pair ? pairWords(pair, meaning) : causeOf(chosen, meaning);
   return make(
     "div", { class: "why" },
-    make("p", {}, `Refused by check ${answer.check}.`),
-    ...(isEntryWrong ? [valuesList, ...rules] : [...rules, valuesList]),
+    cause ? make("p", { class: "cause" }, cause) : null,
+    isUnstarted(chosen, meaning) ? make("button", { type: "button", onclick: startBefore }, "Put Startup before it") : null,
+    pair ? pairShown(pair) : null,
+    pictures.length ? make("div", { class: "drawn" }, ...pictures) : null,
+    values.length && isWrongEntry(meaning) ? listed(values) : null,
+    make("p", {}, `Refused by check ${answer.check}.`), ...rules,
+    values.length && !isWrongEntry(meaning) ? listed(values) : null,
     make("p", { class: "dim" }, make("code", {}, answer.trace)),
     rowsShown(answer.check, step.buffer),
   );
 }
+
+/** @param {import("./values_view.js").Pair} pair @param {Meaning | null} meaning */
+const pairWords = ({ said, given, wanted }, meaning) => (isWrongEntry(meaning) ? `${said} ${differenceWords(given.bytes, wanted[0].bytes)}` : said);
+
+/** @param {Chosen} chosen @param {Meaning | null} meaning */
+const isUnstarted = ({ answer, before }, meaning) => meaning?.name === "INITIALIZE" && answer.check === "G5" && !before.isStarted;
+
+/**
+ * Says in one sentence why a command was refused, if its code and the state say it.
+ * @param {Chosen} chosen @param {Meaning | null} meaning
+ */
+function causeOf(chosen, meaning) {
+  const { step, before, run, at } = chosen;
+  const values = () => valuesOf(step, meaning, before).map(([label, value]) => `${label}: ${value}`).join("; ");
+  switch (meaning?.name) {
+    case "INITIALIZE": return isUnstarted(chosen, meaning) ? "No Startup came before it." : "The device is already started.";
+    case "LOCKOUT": return before.isClosed ? "lockoutAuth is closed for now: nothing was compared." : `${grouped(before.failedTries)} of ${grouped(before.maxTries)} tries have failed: nothing was compared.`;
+    case "PCR_CHANGED": {
+      const promise = promiseOf(run, at);
+      const moved = promise ? movedPcrs(run, promise, at) : [];
+      return moved.length ? `PCR ${moved.join(", ")} changed after PolicyPCR demanded its value.` : "A PCR changed after PolicyPCR.";
+    }
+    case "POLICY_CC": return `The policy allows another command. ${values()}.`;
+    case "LOCALITY": return localityCause(step, values());
+    default: return "";
+  }
+}
+
+/** @param {Step} step @param {string} values */
+const localityCause = (step, values) => (values ? `It came from another locality than the policy allows. ${values}.` : `Locality ${localitiesWords(1 << step.locality)} may not do this.`);
 
 /**
  * Shows the table's rows for a check; the user can open them.
@@ -211,7 +257,8 @@ function encryptionShown(plain, isRefused = false) {
 function wrongField(fields, meaning) {
   const sort = { handle: "handle", parameter: "parameter", session: "entry", "": "" }[meaning?.kind ?? ""];
   const those = fields.filter((it) => it.sort === sort && it.depth === 0 && (sort !== "entry" || it.isGroup));
-  return those[(meaning?.number ?? 0) - 1] ?? null;
+  const found = those[(meaning?.number ?? 0) - 1] ?? null;
+  return (meaning?.name === "TYPE" && sort === "parameter" ? typeField(fields, meaning.number) : null) ?? found;
 }
 
 let perRow = 16;
@@ -223,33 +270,29 @@ export function measureStep() {
   return perRow !== before;
 }
 
-/** @param {State} before @param {State} after */
-function changesShown(before, after) {
-  const isStart = before.isStarted !== after.isStarted;
-  const all = changesOf(before, after).filter((it) => !(isStart && it.group === PCRS && it.entity));
-  const list = make("dl");
-  if (isStart) list.append(make("dt", {}, PCRS), make("dd", {}, after.isStarted ? "have their values of this start" : "are gone with the power"));
-  for (const it of all.slice(0, MOST_CHANGES)) {
-    list.append(make("dt", {}, it.entity ? `${it.entity} ${it.name}` : it.name), valueChange(it));
-  }
-  const more = all.length > MOST_CHANGES ? make("p", { class: "dim" }, `And ${plural(all.length - MOST_CHANGES, "value")} more.`) : null;
-  const nothing = list.childElementCount ? null : make("p", { class: "dim" }, "Nothing but time.");
-  return [heading("What it changed"), nothing ?? list, more];
+/**
+ * Names what a step changed. The pane of the device shows the values.
+ * @param {Chosen} chosen
+ */
+function effectShown({ before, after, showGroup }) {
+  const all = changesOf(before, after);
+  if (!all.length) return make("p", { class: "effect dim" }, "It changed nothing but time.");
+  const groups = [...new Set(all.map((it) => it.group))];
+  return make("div", { class: "effect" }, make("span", { class: "dim" }, "It changed"), ...groups.map((group) => {
+    const words = group === PCRS && before.isStarted !== after.isStarted ? PCR_WORDS[Number(after.isStarted)] : effectWords(group, all.filter((it) => it.group === group));
+    return make("button", { type: "button", class: "chip", onclick: () => showGroup(group) }, words);
+  }));
 }
 
-const MOST_BEFORE = 40;
+const PCR_WORDS = ["PCRs: gone with the power", "PCRs: the values of this start"];
 
-/**
- * Returns a shortened form of a value that was replaced.
- * @param {string} text
- */
-const shortly = (text) =>
-  isBlank(text) && text.length > 16 ? `${text.slice(0, 2)}..${text.slice(0, 2)}` : cut(text, MOST_BEFORE);
-
-/** @param {import("./state.js").Change} change */
-function valueChange({ before, after }) {
-  const isHex = isHexWord(after ?? before ?? "");
-  const old = before === null ? null : make("span", { class: "dim" }, shortly(before), " → ");
-  const now = after === null ? make("span", { class: "dim" }, "gone") : make("span", { class: "new" }, after);
-  return make("dd", { class: isHex ? "hex" : false }, old, now);
+/** @param {string} group @param {import("./state.js").Change[]} those */
+function effectWords(group, those) {
+  const entities = [...new Set(those.map((it) => it.entity))];
+  const [{ name, before, after }] = those;
+  const front = `${group === PCRS ? "" : group} ${entities.filter(Boolean).join(", ")}`.trim() || group;
+  if (those.every((it) => it.before === null)) return `${cut(front, MOST_CHIP)}: new`;
+  if (those.every((it) => it.after === null)) return `${cut(front, MOST_CHIP)}: gone`;
+  const both = `${name}: ${before ?? "none"} → ${after ?? "gone"}`;
+  return those.length === 1 && both.length <= MOST_CHIP ? both : cut(front, MOST_CHIP);
 }

@@ -1,11 +1,11 @@
-// The slider for the steps of the script, and a mark for each step: a tall mark for a refusal, a line for a power
-// cycle.
+// The slider for the steps of the script, and a mark for each step: a tall red mark for a refusal, a low green one for
+// an accepted command, a line for a power cycle.
 
 import { byId } from "./dom.js";
 import { commandNumber } from "./fields.js";
 import { commandWords, grouped } from "./words.js";
 
-const THUMB = 8;
+const THUMB = 16;
 
 /** @param {import("./script.js").Step[]} steps @param {number} chosen @param {string} outcome of the chosen one */
 export function showSteps(steps, chosen, outcome) {
@@ -74,7 +74,7 @@ export function drawMarks(steps, refusals) {
   const height = canvas.clientHeight;
   if (width <= THUMB) return;
   const span = Math.floor(width - THUMB);
-  const each = Math.max(1, Math.min(3, span / Math.max(1, steps.length) - 1));
+  const each = Math.max(1, Math.min(6, span / Math.max(1, steps.length) - 1));
   const middle = height / 2;
   const marks = marksOf(steps, refusals, span);
   const now = `${width} ${height} ${scale} ${each} ${colour("ground")} ${marks.join("")}`;
@@ -87,12 +87,10 @@ export function drawMarks(steps, refusals) {
   pen.scale(scale, scale);
   pen.fillStyle = colour("edge");
   pen.fillRect(THUMB / 2, middle - 0.5, span, 1);
+  pen.fillStyle = colour("ok");
+  drawKind(pen, marks, COMMAND, { width: each, half: 4, middle });
   pen.fillStyle = colour("dim");
-  pen.globalAlpha = 0.55;
-  drawKind(pen, marks, COMMAND, { width: each, half: 3, middle });
-  pen.globalAlpha = 0.8;
-  drawKind(pen, marks, OTHER, { width: 1, half: 11, middle });
-  pen.globalAlpha = 1;
+  drawKind(pen, marks, OTHER, { width: 1, half: 13, middle });
   pen.fillStyle = colour("bad");
-  drawKind(pen, marks, REFUSED, { width: each, half: 8, middle });
+  drawKind(pen, marks, REFUSED, { width: each, half: 11, middle });
 }

@@ -108,6 +108,7 @@ export class Tutorial {
     const isLast = this.at === this.lessons.length - 1;
     return make(
       "div", { class: "foot" },
+      make("progress", { "aria-hidden": "true", max: this.lessons.length, value: this.at + 1 }),
       make("output", { id: "lesson-done" }, `Step ${this.at + 1} of ${this.lessons.length}.`),
       make("button", { type: "button", disabled: this.at === 0, onclick: () => this.open(this.at - 1) }, "Back"),
       make("button", { type: "button", id: "lesson-show", onclick: () => this.#showTask() }, "Show me"),

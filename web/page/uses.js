@@ -32,7 +32,7 @@ function answeredHandle(step, answer) {
  * parameters.
  * @param {Step} step
  */
-function handlesIn(step) {
+export function handlesIn(step) {
   const command = byNumber.get(commandNumber(step.buffer));
   if (step.kind !== "command" || !command) return [];
   const found = command.handles.map((_, at) => numberOf(step.buffer.subarray(HEADER + 4 * at, HEADER + 4 + 4 * at)));

@@ -22,6 +22,9 @@ const IMAGE_FROM = 4;
 const JOURNAL_FROM = 10;
 const STATE_FROM = 13;
 
+// The return code for a state text of version 1.
+const STATE_EARLIER = 21;
+
 /** @param {number} number the number of a check */
 const checkText = (number) => {
   if (number === 0) return "ok";
@@ -36,6 +39,7 @@ const checkText = (number) => {
 const mustBeDone = (told) => {
   if (told === 0) return;
   if (told === 2) throw new BadArgument("locality", "0 to 4");
+  if (told === STATE_EARLIER) throw new BadState("Earlier");
   if (told >= STATE_FROM) throw new BadState(TEXT_FAULTS[told - STATE_FROM]);
   if (told >= JOURNAL_FROM) throw new BadJournal(JOURNAL_FAULTS[told - JOURNAL_FROM]);
   if (told >= IMAGE_FROM) throw new BadImage(TEXT_FAULTS[told - IMAGE_FROM]);

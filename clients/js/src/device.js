@@ -1,9 +1,11 @@
 // A TPM 2.0 in this process: the proved device with an interface for JavaScript.
 
 import { bytes, bytesOf, number, options, truth } from "./arguments.js";
-import { BadArgument, DeviceEnded } from "./errors.js";
+import { BadArgument, DeviceEnded, Refused } from "./errors.js";
 import { loaded } from "./load.js";
+import { Log } from "./log.js";
 import { LOCALITIES, MOST_MILLISECONDS, RANDOM_SIZE } from "./module.js";
+import { COMMANDS } from "./names.js";
 import { SeededBytes, SystemBytes } from "./random.js";
 import { played } from "./script.js";
 import { Words } from "./words.js";
@@ -49,6 +51,19 @@ import { Words } from "./words.js";
  * }} Making
  */
 
+/** The offset of the code of a command or a response, and the size of the header. */
+const CODE_AT = 6;
+const HEADER_SIZE = 10;
+
+/** The check that refuses commands which the device does not have. */
+const NO_SUCH_COMMAND = "G4";
+
+/**
+ * Returns the code in the header of a command or a response.
+ * @param {Uint8Array} buffer
+ */
+const codeOf = (buffer) => new DataView(buffer.buffer, buffer.byteOffset).getUint32(CODE_AT);
+
 /** The key that the constructor requires. Only `Device.create` has access to it. */
 const KEY = Symbol("Device.create");
 
@@ -72,6 +87,8 @@ export class Device {
   #source;
   #module;
   #words;
+  /** @type {Log | null} */
+  #log = null;
 
   /**
    * @param {symbol} key
@@ -142,6 +159,7 @@ export class Device {
     const { response, code, check, drawn, trace } = complete
       ? chip.complete(buffer, locality, elapsed, drawable)
       : chip.execute(buffer, locality, elapsed, drawable);
+    this.#log?.command({ buffer, locality, elapsed, drawn: drawable.slice(0, drawn), complete, response });
     if (random === undefined) this.#source.spend(drawn);
     return { response, row: { code, check }, drawn, trace };
   }
@@ -158,6 +176,24 @@ export class Device {
   }
 
   /**
+   * Executes a command, as bytes or in words, like `execute` and `do`. Throws Refused if the device
+   * refuses it.
+   * @param {Uint8Array | string} command
+   * @param {Event} [event]
+   * @returns {Answer}
+   */
+  accepted(command, event) {
+    const buffer = typeof command === "string" ? this.#words.assemble(command) : command;
+    const answer = this.execute(buffer, event);
+    const code = codeOf(answer.response);
+    if (code === 0) return answer;
+    const number = answer.row.code || (buffer.length < HEADER_SIZE ? 0 : codeOf(buffer));
+    const name = COMMANDS.get(number) ?? "unknown command";
+    const missing = answer.row.check === NO_SUCH_COMMAND ? ` (${number.toString(16).toUpperCase()}): tpmsim has no such command` : "";
+    throw new Refused(`${name}${missing}`, code, this.#words.meaning(code), answer);
+  }
+
+  /**
    * Plays a script line by line, as the caller iterates over its events. At an invalid line, throws
    * BadLine with the number of that line.
    * @param {string | Uint8Array} script
@@ -171,6 +207,7 @@ export class Device {
   /** Power-cycles the device, which then expects TPM2_Startup. */
   powerCycle() {
     this.#live.cyclePower();
+    this.#log?.line("power");
   }
 
   /**
@@ -198,6 +235,7 @@ export class Device {
    */
   open(image) {
     this.#live.open(bytes("image", image));
+    if (this.#log !== null) this.beginLog();
   }
 
   /**
@@ -214,6 +252,17 @@ export class Device {
    */
   restore(state) {
     this.#live.restore(bytes("state", state));
+    if (this.#log !== null) this.beginLog();
+  }
+
+  /** Begins a log from the current state of the device. Without this call, there is no log. */
+  beginLog() {
+    this.#log = new Log(this.snapshot());
+  }
+
+  /** The log, which tpmsim-explain reads, or an empty string. It contains all secrets. */
+  get log() {
+    return this.#log?.text ?? "";
   }
 
   /** Frees the device's memory after clearing it. Each later call throws DeviceEnded. */
@@ -223,4 +272,10 @@ export class Device {
     this.#chip.release();
     this.#chip = null;
   }
+}
+
+// `using tpm = await Device.create()` disposes of the device, where the language has `using`.
+const disposing = /** @type {{dispose?: symbol}} */ (/** @type {unknown} */ (Symbol)).dispose;
+if (disposing !== undefined) {
+  Object.defineProperty(Device.prototype, disposing, { value: Device.prototype.dispose });
 }

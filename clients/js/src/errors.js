@@ -35,8 +35,8 @@ export class BadImage extends BadText {
   }
 }
 
-/** Thrown if bytes are not a state text. The fault is Short, Magic, Version, Length, Digest or
- * Body. */
+/** Thrown if bytes are not a state text. The fault is Short, Magic, Version, Length, Digest, Body or
+ * Earlier (version 1). */
 export class BadState extends BadText {
   /** @param {string} fault */
   constructor(fault) {
@@ -90,5 +90,27 @@ export class NoModule extends Error {
   constructor(reason, options) {
     super(reason, options);
     this.name = "NoModule";
+  }
+}
+
+/**
+ * Thrown by `accepted` if the device refuses the command. `code` is the response code, `meaning` its
+ * name and what is at fault, and `answer` the whole answer.
+ */
+export class Refused extends Error {
+  /**
+   * @param {string} command the command's name, or its number and that the device does not have it
+   * @param {number} code
+   * @param {import("./module.js").Meaning | null} meaning
+   * @param {import("./device.js").Answer} answer
+   */
+  constructor(command, code, meaning, answer) {
+    const place = meaning === null || meaning.place === "" ? "" : `/${meaning.place[0]}${meaning.number}`;
+    const name = meaning?.name ?? "unknown";
+    super(`${command}: ${name}${place} (${code.toString(16).toUpperCase()}), by ${answer.row.check}`);
+    this.name = "Refused";
+    this.code = code;
+    this.meaning = meaning;
+    this.answer = answer;
   }
 }

@@ -8,5 +8,6 @@ export {
   BadState,
   DeviceEnded,
   NoModule,
+  Refused,
 } from "./errors.js";
 export { Words } from "./words.js";

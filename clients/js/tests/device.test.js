@@ -1,6 +1,7 @@
 // Tests how a device executes commands, and how it is kept, saved and restored.
 
 import assert from "node:assert/strict";
+import { createHash } from "node:crypto";
 import { test } from "node:test";
 
 import { BadImage, BadState, Device, DeviceEnded } from "tpmsim";
@@ -175,11 +176,15 @@ test("bytes that are no state text", async () => {
   const state = tpm.snapshot();
   const turned = state.slice();
   turned[100] ^= 1;
+  const earlier = state.slice();
+  earlier[5] = 1;
+  earlier.set(createHash("sha256").update(earlier.slice(0, -32)).digest(), earlier.length - 32);
   for (const [bytes, fault] of [
     [new Uint8Array(), "Short"],
     [state.slice(0, -1), "Length"],
     [turned, "Digest"],
     [tpm.save(), "Magic"],
+    [earlier, "Earlier"],
   ]) {
     assert.throws(() => tpm.restore(bytes), { name: "BadState", fault });
     await assert.rejects(Device.create({ state: bytes }), (it) => it instanceof BadState);

@@ -9,7 +9,7 @@ import pathlib
 import re
 
 from tpmsim.caller import short_names
-from tpmsim.standard import CC, Kind, Parameter
+from tpmsim.standard import CC, Kind, NUMBERED, Parameter
 from tpmsim.standard.given import NUMBER_WORDS
 
 # The path of the file in the package.
@@ -45,6 +45,9 @@ TAKEN = {
     Kind.DIGESTS: "Digests",
     Kind.CIPHER: "Cipher | str",
     Kind.HASH: "int | str",
+    Kind.HIERARCHY: "Handle",
+    Kind.ALGORITHMS: "str | Iterable[int]",
+    Kind.BYTES: "Buffer",
 }
 TAKEN_BY_NAME = {"property": "int", **dict.fromkeys(NUMBER_WORDS, "int | str")}
 
@@ -55,6 +58,8 @@ ANSWERED = {
     Kind.SELECTION: "list[Bank]",
     Kind.DIGESTS: "list[Digest]",
     Kind.CIPHER: "Cipher",
+    Kind.ALGORITHMS: "list[int]",
+    Kind.BYTES: "bytes",
     Kind.CAPABILITY: "Capability",
     Kind.TICKET: "Ticket",
     Kind.TIME: "Time",
@@ -137,17 +142,17 @@ def any_command(name: str, result: str) -> str:
 def stub() -> str:
     """Returns the text of calls.pyi."""
     # black leaves no line between two classes without a body.
-    text = re.sub(NEXT_EMPTY, r"\1", HEAD + "".join(map(response, CC)), flags=re.M)
+    text = re.sub(NEXT_EMPTY, r"\1", HEAD + "".join(map(response, NUMBERED.values())), flags=re.M)
     text += "\nclass Commands(Knowledge):\n"
     text += method("def by", ["self", "uses: Sequence[Means]", "handle: int"], "Sequence[Means]")
     arguments = ["self", "code: CC", "those: Sequence[Handle]", "uses: Sequence[Means]"]
     text += method("def asked", [*arguments, "*values: Any"], "Prepared")
-    text += "".join(signature("command", it, "Prepared") for it in CC)
+    text += "".join(signature("command", it, "Prepared") for it in NUMBERED.values())
     text += any_command("command", "Prepared")
     text += "".join(short(name, code) for name, code in short_names.COMMANDS.items())
     text += "\nclass Calls(Commands):\n"
     text += method("def send", ["self", "prepared: Prepared"], "Response")
-    text += "".join(signature("call", it, f"{it.name}Response") for it in CC)
+    text += "".join(signature("call", it, f"{it.name}Response") for it in NUMBERED.values())
     return text + any_command("call", "Response")
 
 

@@ -12,6 +12,7 @@ import io
 import os
 import pathlib
 import platform
+import re
 import sys
 import tarfile
 import time
@@ -83,12 +84,25 @@ def package() -> list[Entry]:
 
 
 def metadata() -> str:
-    """Returns the metadata of the installed package."""
+    """Returns the metadata of the installed package, with its README."""
     facts = project()
-    return (
-        f"Metadata-Version: 2.1\nName: {facts['name']}\nVersion: {facts['version']}\n"
-        f"Summary: {facts['description']}\nRequires-Python: {facts['requires-python']}\n"
-    )
+    lines = [
+        f"Metadata-Version: 2.1\nName: {facts['name']}\nVersion: {facts['version']}",
+        f"Summary: {facts['description']}",
+        *(f"Maintainer-email: {it['email']}" for it in facts["maintainers"]),
+        *(f"Project-URL: {name}, {url}" for name, url in facts["urls"].items()),
+        f"Keywords: {','.join(facts['keywords'])}",
+        *(f"Classifier: {it}" for it in facts["classifiers"]),
+        f"Requires-Python: {facts['requires-python']}",
+        "Description-Content-Type: text/markdown",
+    ]
+    return "\n".join([*lines, "", description()])
+
+
+def description() -> str:
+    """Returns the text of the README. A link to a file outside the package becomes its words."""
+    text = (SOURCES / project()["readme"]).read_text("utf-8")
+    return re.sub(r"\[([^]]*)\]\((?!https?:|#)[^)]*\)", r"\1", text)
 
 
 def entry_points() -> str:

@@ -1,6 +1,6 @@
-"""Extracts the sentences about all checks from docs/table. They are stored in
-tpmsim/explain/rules.json, since the package is used without docs/table. tools/generated.py writes
-that file, and a test compares it with docs/table.
+"""Extracts the sentences about all checks from docs/table, and which checks return each response
+code. They are stored in rules.json and codes.json of tpmsim/explain, since the package is used
+without docs/table. tools/generated.py writes these files, and a test compares them with docs/table.
 """
 
 import json
@@ -160,6 +160,41 @@ class Rules:
         listed = [it for it in items(section_at(target)) if re.match(r"\d\. ", it)]
         for at in range(first, last + 1):
             self.add(f"{name}/A{at}", listed[at - first].partition(" ")[2], target)
+
+
+CODE_ROW = re.compile(r"`0*([0-9A-F]{2,3})(?: to ([0-9A-F]{3}))?`")
+PLACE = re.compile(r"(?:^|\. )(?=(?:/[hps]\d?|Without a number):)")
+PLACE_NAME = re.compile(r"(/[hps]\d?|Without a number): ")
+
+
+def codes():
+    """Returns the checks that return each response code: for each, where the fault is, as in `/p2`,
+    the check's name, and its link.
+    """
+    found = {}
+    for cell, _, words in table_rows(section_at("README.md#by-response-code")):
+        numbers = CODE_ROW.fullmatch(cell)
+        if numbers is None:
+            continue
+        first, last = int(numbers[1], 16), int(numbers[2] or numbers[1], 16)
+        for number in range(first, last + 1):
+            found[f"{number:03X}"] = [it for part in PLACE.split(words) for it in checks_in(part)]
+    return found
+
+
+def checks_in(part):
+    """Yields the checks in a part of a cell, which may begin with where the fault is."""
+    place = PLACE_NAME.match(part)
+    name = place[1] if place else ""
+    for words, link in LINK.findall(part):
+        yield ["-" if name.startswith("Without") else name, words, f"docs/table/{link}"]
+
+
+def codes_text():
+    """Returns the text of codes.json, with one code on each line."""
+    return (
+        "{\n" + ",\n".join(f' "{key}": {json.dumps(it)}' for key, it in codes().items()) + "\n}\n"
+    )
 
 
 def rules():

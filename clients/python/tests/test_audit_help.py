@@ -20,8 +20,8 @@ class Help(unittest.TestCase):
         with contextlib.redirect_stdout(output):
             status = command_line.main("--help")
         self.assertEqual(status, 0)
-        self.assertTrue(output.getvalue().startswith("Checks a device's log for reviewers"))
-        self.assertIn("SCRIPT [OUTPUT] [--image START] [--policy FILE]..", output.getvalue())
+        self.assertRegex(output.getvalue(), "^Usage: .* SCRIPT \\[OUTPUT\\] \\[--image START\\]")
+        self.assertIn("Check whether the log of a device is consistent", output.getvalue())
 
     def test_refusals_that_are_no_entrys(self):
         """In the words of tpmsim.explain, the audit says why TPM2_PolicyNV was refused with the

@@ -1,5 +1,5 @@
 """Tests commands that are called by name: an example of each command, the types of its response,
-words as values, and exceptions that name the field.
+words as values, exceptions that name the field, and policies in words that are refused.
 """
 
 import builtins
@@ -15,11 +15,14 @@ import unittest
 
 import tpmsim
 from tpmsim import BadValue, TpmsimError
-from tpmsim.caller import area, Caller, calls, sealed, short_names, storage_key
+from tpmsim.caller import area, Caller, calls, Refused, sealed, short_names, storage_key
 from tpmsim.caller.examples import EXAMPLES, INDEX, Scene
 from tpmsim.device import Device, ModelDevice
+from tpmsim.device.base import Executed
 from tpmsim.explain.dissection import fields_of_command
-from tpmsim.standard import CC, given, lines, nv, objects, RH_OWNER, SHA1, SHA256, sized, values
+from tpmsim.standard import CC, frames, given, lines, NUMBERED, nv, objects, RH_OWNER, SHA1
+from tpmsim.standard import SHA256, sized
+from tpmsim.standard import values
 
 PACKAGE = pathlib.Path(__file__).resolve().parents[1]
 sys.path.append(str(PACKAGE / "packing"))
@@ -29,15 +32,16 @@ import tpmsim_wheel
 # The packages for users. All public functions in them have a docstring.
 FOR_PEOPLE = "caller", "device", "policies", "records", "script", "standard", "faults"
 
+# The modules that need pytest.
+OF_PYTEST = "tpmsim.pytest_plugin", "tpmsim.sweep.in_tests"
+
 
 def modules(*packages):
     """Yields the modules of these packages, or all modules that need no package outside Python's
     standard library.
     """
     for it in pkgutil.walk_packages(tpmsim.__path__, "tpmsim."):
-        if it.name != "tpmsim.pytest_plugin" and (
-            not packages or it.name.split(".")[1] in packages
-        ):
+        if it.name not in OF_PYTEST and (not packages or it.name.split(".")[1] in packages):
             yield importlib.import_module(it.name)
 
 
@@ -66,7 +70,7 @@ class Examples(unittest.TestCase):
 
     def test_each(self):
         """Two devices accept each example, and each field has the type that the stub declares."""
-        self.assertEqual(set(EXAMPLES), set(CC))
+        self.assertEqual(set(EXAMPLES), set(NUMBERED.values()))
         for (prepared, here), (_, there) in zip(played(Device), played(ModelDevice)):
             with self.subTest(prepared.code.name):
                 self.check_answer(prepared.code, here)
@@ -227,8 +231,8 @@ class Words(unittest.TestCase):
                 asked = {"property": first, "propertyCount": 99}
                 return tpm.call("GetCapability", capability=capability, **asked).capabilityData
 
-            self.assertEqual(data("properties", 0).properties[0x129], len(CC))
-            self.assertEqual(len(data("commands", 0).commands), len(CC))
+            self.assertEqual(data("properties", 0).properties[0x129], len(NUMBERED))
+            self.assertEqual(len(data("commands", 0).commands), len(NUMBERED))
             pcrs = tuple(range(24))
             self.assertEqual(data("pcrs", 0).pcrs, [(SHA1, pcrs), (SHA256, pcrs)])
 
@@ -264,6 +268,54 @@ class Faults(unittest.TestCase):
             response.outPublic
 
 
+class Busy(ModelDevice):
+    """A device that answers its first TPM2_PolicyPCR with a warning, and does not execute it."""
+
+    warning = 0
+
+    def execute(self, buffer):
+        if self.warning and int.from_bytes(buffer[6:10], "big") == CC.PolicyPCR:
+            code, self.warning = self.warning, 0
+            return Executed(buffer, frames.refusal(code))
+        return super().execute(buffer)
+
+
+class RefusedPolicies(unittest.TestCase):
+    """Policies in words that the device refuses."""
+
+    OTHER = f"PolicyPCR sha256:7={bytes(31).hex()}01\n"
+    EITHER = f"either\n    PolicyPCR sha256:7={bytes(32).hex()}\nor\n    PolicyAuthValue\n"
+
+    def test_no_session_stays_loaded(self):
+        with ModelDevice() as device:
+            tpm = Caller(device)
+            tpm.start_up()
+            for _ in range(20):  # a device has slots for 16 sessions
+                with self.assertRaises(Refused) as refused:
+                    tpm.policy(self.OTHER)
+                self.assertEqual(refused.exception.code, "VALUE/p1")
+
+    def test_a_session_that_is_gone(self):
+        with ModelDevice() as device:
+            tpm = Caller(device)
+            tpm.start_up()
+            device.refuse_next("PolicyPCR", "G6")
+            with self.assertRaises(Refused) as refused:
+                tpm.policy(self.OTHER)
+            self.assertEqual(refused.exception.code, "REFERENCE_H0")
+
+    def test_a_busy_device_does_not_lead_to_the_next_branch(self):
+        for warning in 0x908, 0x90A, 0x922:
+            with Busy() as device:
+                tpm = Caller(device)
+                tpm.start_up()
+                device.warning = warning
+                with self.assertRaises(Refused) as refused:
+                    tpm.policy(self.EITHER)
+                self.assertEqual(refused.exception.number, warning)
+                self.assertIsNone(tpm.policy(self.EITHER).demand)
+
+
 class Documented(unittest.TestCase):
     """Tests the documentation that an editor shows, and the README."""
 
@@ -283,7 +335,7 @@ class Documented(unittest.TestCase):
         stub = packed["tpmsim/caller/calls.pyi"].decode("ascii")
         self.assertEqual(stub, call_types.stub())
         self.assertIn("tpmsim/py.typed", packed)
-        for name in ("Commands", "Calls", *(f"{it.name}Response" for it in CC)):
+        for name in ("Commands", "Calls", *(f"{it.name}Response" for it in NUMBERED.values())):
             self.assertTrue(inspect.isclass(getattr(calls, name)))
             self.assertIn(f"class {name}(", stub)
 
@@ -292,6 +344,40 @@ class Documented(unittest.TestCase):
         found = [it for module in modules(*FOR_PEOPLE) for it in named(module)]
         self.assertGreater(len(found), 500)
         self.assertEqual([name for name, it in found if not inspect.getdoc(it)], [])
+
+
+class WhatIsShown(unittest.TestCase):
+    """What a notebook and help() show: fields, commands, and the command that was meant."""
+
+    def test_responses_show_their_fields(self):
+        with ModelDevice(seed=b"mine") as device:
+            tpm = Caller(device)
+            self.assertEqual(repr(device), "<ModelDevice, events: 0>")
+            tpm.start_up()
+            shown = [
+                repr(tpm.call("GetRandom", bytesRequested=4)),
+                repr(tpm.call("PCR_Read", pcrSelectionIn="sha1:0")),
+                repr(tpm.call("PolicyGetDigest", tpm.trial())),
+            ]
+            self.assertEqual(shown[0], "GetRandomResponse(randomBytes=b290d2af)")
+            self.assertIn(f", pcrValues=[{'00' * 20}])", shown[1])
+            self.assertEqual(shown[2], f"PolicyGetDigestResponse(policyDigest={'00' * 32})")
+            last = "last: PolicyGetDigest L0 +0 ok 00000000"
+            self.assertEqual(repr(device), f"<ModelDevice, events: 5, {last}>")
+
+    def test_a_wrong_name_has_a_hint(self):
+        tpm = Caller(ModelDevice())
+        for name in "GetRandm", "TPM2_GetRandom", "getrandom":
+            with self.assertRaisesRegex(TypeError, f"^{name} is not .* did you mean GetRandom[?]$"):
+                tpm.call(name)
+        with self.assertRaisesRegex(TypeError, "^Quote [(]158[)]: tpmsim has no such command$"):
+            tpm.call("Quote")
+
+    def test_help_lists_the_commands(self):
+        text = inspect.getdoc(Caller.call)
+        missing = [it.name for it in NUMBERED.values() if f"\n    {it.name}(" not in text]
+        self.assertEqual(missing, [])
+        self.assertIn("NV_Read(authHandle, nvIndex, size=, offset=)", text)
 
 
 def named(module):

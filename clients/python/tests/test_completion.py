@@ -93,6 +93,8 @@ DEEDS = {
 
 
 def deed(words):
+    """Returns what the layer did, without numbers and without the refused values."""
+    words = re.sub("^(the parameters are refused): .*", r"\1", words)
     return re.sub(r"\b([0-9a-f]{8}|\d+)\b", "N", words)
 
 

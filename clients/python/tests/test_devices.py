@@ -168,8 +168,12 @@ class Devices(unittest.TestCase):
     def test_wrong_words(self):
         """A caller refuses wrong words, whatever its device is."""
         tpm = Caller(ModelDevice())
-        with self.assertRaisesRegex(KeyError, "Quote is not a command that the device serves"):
+        with self.assertRaisesRegex(TypeError, r"^Quote \(158\): tpmsim has no such command$"):
             tpm.call("Quote")
+        with self.assertRaisesRegex(TypeError, r"^StirRandom \(146\): only a device of the complete"):
+            tpm.call("StirRandom")
+        with self.assertRaisesRegex(TypeError, "^Qoute is not a command that the device serves"):
+            tpm.call("Qoute")
         self.assertRaises(TypeError, tpm.call, "PCR_Reset")
         for arguments in ({}, {"bytesRequested": 1, "more": 1}):
             self.assertRaises(TypeError, tpm.call, "GetRandom", **arguments)

@@ -4,14 +4,17 @@ import contextlib
 import io
 import itertools
 import json
+import os
 import pathlib
 import re
 import string
 import tempfile
 import unittest
+import unittest.mock
 
 import table_rules
 from explained_logs import EXAMPLE, LOCKED, MOVED, events_of, lines_with
+from journals import Journal
 from tpmsim.caller import area, BY_OWNER, BY_POLICY, Caller
 from tpmsim.device import ModelDevice
 from tpmsim.explain import main as command_line
@@ -154,7 +157,7 @@ class CommandLine(unittest.TestCase):
         self.assertEqual(status, 0)
         self.assertNotIn(f"line {lines_with('do Unseal')[0]}", output)
         self.assertIn("itemHandle", output)
-        error = f"tpmsim-explain: line 1 of {EXAMPLE} executes nothing\n"
+        error = f"tpmsim-explain: --at 1: this line of {EXAMPLE} has no command\n"
         self.assertEqual(told(EXAMPLE, "--at", 1)[1:], (error, 2))
 
     def test_json(self):
@@ -170,31 +173,68 @@ class CommandLine(unittest.TestCase):
     def test_statuses(self):
         bad = self.file("bad.tpm", "do Startup 0\ndo Startup 0\nnothing\n")
         output, error, status = told(bad)
-        self.assertEqual((error, status), ("tpmsim-explain: script line 3\n", 2))
+        words = "line 3 is no line of a script; `tpmsim check` says what is wrong with it"
+        self.assertEqual((error, status), (f"tpmsim-explain: {bad}: {words}\n", 2))
         self.assertIn("line 2: Startup is refused: INITIALIZE (100), by check G5", output)
         self.assertEqual(told(self.file("other.tpm", "do Startup 0\n# 00000100\n"))[2], 1)
         one = told(self.file("one.tpm", "do Startup 0\n# 00000000\n"))[0]
         self.assertTrue(one.endswith(" 1 answer of the log is the model's.\n"), one)
-        for words in (
-            "",
-            "a b c",
-            f"{bad} --at",
-            f"{bad} --at x",
-            f"{bad} --what",
-            f"{bad} --json --html",
-            f"{bad} --try",
+        help_line = "see tools/explain.py --help"
+        for words, said in (
+            ("", f"LOG is missing; {help_line}"),
+            ("a b c", f"c is one name too many; {help_line}"),
+            ("- -", f"- is one name too many; {help_line}"),
+            (f"{bad} --at", f"--at needs a value; {help_line}"),
+            (f"{bad} --at x", "--at x: this is no number of a line"),
+            (f"{bad} --at 1 --at 2", f"--at is given twice; {help_line}"),
+            (f"{bad} --what", f"--what is no option; {help_line}"),
+            (f"{bad} -x", f"-x is no option; {help_line}"),
+            (f"{bad} --json --html", "--json and --html exclude each other"),
+            (f"{bad} --try", f"--try needs a value; {help_line}"),
+            ("none", "none cannot be read: No such file or directory"),
         ):
-            self.assertEqual(
-                told(*words.split())[1:], (f"tpmsim-explain: {command_line.USAGE}\n", 2)
-            )
-        self.assertEqual(told(self.folder / "none")[2], 2)
-        image_file = self.file("image", b"TPMI")
-        self.assertEqual(told(bad, "--image", image_file)[1:], ("tpmsim-explain: image Short\n", 2))
-        image_file = self.file("state", b"TPMS")
-        said = "tpmsim-explain: state text Short\n", 2
-        self.assertEqual(told(bad, "--image", image_file)[1:], said)
+            self.assertEqual(told(*words.split())[1:], (f"tpmsim-explain: {said}\n", 2))
+        for magic, word in (b"TPMI", "image"), (b"TPMS", "state text"):
+            path = self.file("start", magic)
+            said = f"tpmsim-explain: {path} is no {word} of a device: Short\n", 2
+            self.assertEqual(told(bad, "--image", path)[1:], said)
         output, _, status = told("--help")
-        self.assertTrue(output.startswith("Why was this refused?") and status == 0)
+        self.assertTrue(output.startswith("Usage: ") and status == 0)
+
+    def test_folder(self):
+        """The logs in a folder are read in their order, with the lines of each."""
+        journal = Journal().play("do Startup 0", "do GetRandom 4")
+        first = journal.text
+        journal.cycle()
+        journal.play("do Startup 0", "do Startup 0")
+        whole, current = first + journal.text, journal.text
+        kept = self.folder / "kept"
+        kept.mkdir()
+        (kept / "lock").touch()
+        (kept / "journal.1").write_bytes(first)
+        (kept / "journal").write_bytes(current)
+        lines = first.count(b"\n")
+        output, error, status = told(kept)
+        self.assertEqual((error, status), ("", 0))
+        said = f"{kept} has 2 logs: journal.1 from line 1 on, journal from line {lines + 1} on."
+        self.assertEqual(" ".join(output.split("\n\n")[0].split()), said)
+        self.assertEqual(output.partition("\n\n")[2], told(self.file("whole", whole))[0])
+        self.assertEqual(told(self.folder)[0], output)
+        self.assertIn("1 power cycle.", output)
+        with unittest.mock.patch.dict(
+            os.environ, {"TPM2TOOLS_TCTI": f"tpmsim:rm,state={kept},keep=3"}
+        ):
+            self.assertEqual(told()[0], output)
+        boots = self.folder / "boots"
+        boots.mkdir()
+        (boots / "boot-10.tpm").write_bytes(current)
+        (boots / "boot-9.tpm").write_bytes(first)
+        self.assertIn("boot-9.tpm from line 1 on, boot-10.tpm from", told(boots)[0])
+        error = told(self.folder)[1]
+        self.assertIn(f"{self.folder} has 2 devices; name one of {boots}, {kept}", error)
+        empty = self.folder / "empty"
+        empty.mkdir()
+        self.assertIn(f"{empty} has no journal of a device", told(empty)[1])
 
     def test_try(self):
         """--try accepts a text, bytes in hex, and several values of which one is right."""
@@ -208,7 +248,7 @@ class CommandLine(unittest.TestCase):
             output, error, status = told(script, *words)
             self.assertEqual((error, status), ("", 0))
             self.assertIn('that is the tried value, 6d696e65 "mine"', output)
-        wrong = "tpmsim-explain: hex:6 has no bytes in hex\n"
+        wrong = "tpmsim-explain: --try hex:6: an even number of hex digits follows hex:\n"
         self.assertEqual(told(script, "--try", "hex:6")[1:], (wrong, 2))
 
     def test_image(self):

@@ -5,7 +5,10 @@ import unittest
 
 from tpmsim.caller import Caller, counter, digest_of, FIRST, HERE, Refused, sealed, Use
 from tpmsim.device import ModelDevice
-from tpmsim.standard import digest, frames, number, policy, RH_OWNER, SHA256
+from tpmsim.explain.play import Play
+from tpmsim.model import image
+from tpmsim.model.machine import Model
+from tpmsim.standard import digest, frames, number, policy, Profile, RH_OWNER, SHA256
 from tpmsim.standard.objects import Attribute
 from explained_logs import explained, last
 
@@ -18,7 +21,12 @@ GENERAL = (
     ("cmd 8001", "G1", 0, "The buffer has 2 bytes: 2 < 10."),
     ("cmd 80030000000a0000017b", "G2", 0, "The tag is 8003."),
     ("cmd 80010000000b0000017b", "G3", 2, "commandSize says 11, and the buffer has 10 bytes."),
-    ("cmd 80010000000a00000174", "G4", 6, "TPM2_RSA_Encrypt (00000174) is not served."),
+    (
+        "cmd 80010000000a00000174",
+        "G4",
+        6,
+        "TPM2_RSA_Encrypt (00000174): tpmsim has no such command.",
+    ),
     ("do Startup 0", "G5", 6, "The device is already started"),
     ("cmd 80010000000c000001690100", "G6/INSUFFICIENT", 10, "is cut: 2 of 4 bytes are left."),
     ("do NV_ReadPublic OWNER", "G6/VALUE", 10, "Handle 1, nvIndex, is 40000001, OWNER"),
@@ -87,6 +95,24 @@ COMPARISONS = (
 )
 
 
+# Commands that only a device of the complete profile has, each without its tag and size, and with
+# the rule of its refusal, the offset of the fault, and the words of the reason.
+COMPLETE = (
+    ("000001420000000200040001", "IncrementalSelfTest/A1", 10, "not implement the algorithm 0001."),
+    ("0000014200000041", "IncrementalSelfTest/parameters", 10, "a count of at most 64"),
+    ("0000014200000001000400", "G11/SIZE", 16, "the end of the command, and there is 1 byte more"),
+    ("0000018a0001", "public/type", 10, "type of parameter 1, parameters: wanted 0008 (KEYEDHASH)"),
+    ("0000018a00080014", "public/KEYEDHASH", 12, "wanted 0010 (NULL) or 0005 (HMAC)"),
+    ("0000018a000800050010", "public/KEYEDHASH", 14, "wanted 0004 (SHA-1) or 000b (SHA-256)"),
+    ("0000018a0025000a", "public/SYMCIPHER", 12, "wanted 0006 (AES), and there is 000a"),
+    ("0000018a002500060100", "public/SYMCIPHER", 14, "wanted 0080, and there is 0100"),
+    ("0000018a0025000600800042", "public/SYMCIPHER", 16, "wanted 0043 (CFB), and there is 0042"),
+    ("0000017d0401", "Hash/parameters", 10, "a size of at most 1,024"),
+    ("0000017d00000010", "Hash/parameters", 12, "wanted 0004 (SHA-1) or 000b (SHA-256)"),
+    ("0000017d0000000b4000000a", "Hash/parameters", 14, "and there is 4000000a"),
+)
+
+
 def facts_of(reason):
     return {it.label: it.value for it in reason.facts}
 
@@ -108,6 +134,16 @@ class Numbers(unittest.TestCase):
         for attributes, rule, words in ATTRIBUTES:
             lines = START % 0, f"do GetRandom s:02000000:-:{attributes}:- 1"
             self.assert_reason(lines, rule, 20, words)
+
+    def test_complete_profile(self):
+        device = image.image(Model(profile=Profile.COMPLETE))
+        for command, rule, at, words in COMPLETE:
+            body = bytes.fromhex(command)
+            line = f"cmd 8001{number(6 + len(body), 4).hex()}{body.hex()}"
+            lines = f"do Startup 0\n{line}\n".encode()
+            found = list(Play(device).events(lines))[-1].reason
+            self.assertEqual((found.rule, found.at), (rule, at), command)
+            self.assertIn(words, found.words)
 
     def test_areas(self):
         for area_bytes, words, at in AREAS:

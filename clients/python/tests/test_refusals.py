@@ -10,15 +10,16 @@ from unittest import mock
 
 from tpmsim.coverage import main as coverage
 from tpmsim.coverage.met import Met
+from tpmsim.coverage.report import table
 from tpmsim.device import ModelDevice
 from tpmsim.explain.play import Play
 from tpmsim.faults import BadValue
 from tpmsim.model import parameter_faults
 from tpmsim.model.parameters import integer, READERS
 from tpmsim.refusals import main as refusals, refusal
-from tpmsim.refusals.made import made
+from tpmsim.refusals.made import is_refused, made
 from tpmsim.refusals.words import sentence_of
-from tpmsim.standard import CC
+from tpmsim.standard import CC, Fact, Profile
 from tpmsim.standard.rows import all_rows, every_row, HEADER_ROWS, Kind, Row, rows_of
 from tpmsim.standard.rows import name_of_code
 
@@ -92,11 +93,42 @@ class Refusals(unittest.TestCase):
             device.restore(refused.state)
             self.assertEqual(device.execute(refused.buffer).check, "A4")
 
+    def test_of_the_complete_profile(self):
+        refused = refusal("ClockSet", "A1")
+        self.assertEqual(refused.row.kind, Kind.STATE)
+        self.assertEqual(refused.script[-1], "do ClockSet OWNER pw:- 0xffffffffffffffff")
+        with refused.device() as device, ModelDevice() as model:
+            model.restore(refused.state)
+            for it in device, model:
+                self.assertEqual(it.execute(refused.buffer).check, "A1")
+
+    def test_of_each_command_of_the_complete_profile_alone(self):
+        """The model refuses each as listed. tests/python/refusals.py plays them on the program."""
+        rows = [it for it in every_row() if it.profile == Profile.COMPLETE]
+        names = {it.name for it in rows}
+        self.assertEqual(names, {it.name for it in CC if it.has(Fact.COMPLETE_ONLY)})
+        for row in rows:
+            refused = made(row)
+            self.assertTrue(is_refused(row, refused.before, refused.buffer), row)
+
+    def test_scripts_of_the_complete_profile(self):
+        for words, last in (
+            (("Hash", "G11", "HASH/p2"), "cmd 80010000000e0000017d00000000"),
+            (("IncrementalSelfTest", "A1"), "do IncrementalSelfTest 0x10"),
+            (("TestParms", "G11", "MODE/p1"), "do TestParms 0025000600800000"),
+        ):
+            refused = refusal(*words)
+            self.assertEqual(refused.script, ["do Startup 0", last])
+            with ModelDevice() as model:
+                model.restore(refused.state)
+                self.assertEqual(model.execute(refused.buffer).check, words[1])
+
     def test_names(self):
         self.assertEqual(refusal("?", "G2").row, HEADER_ROWS[1])
         self.assertIsInstance(refusal("Unseal", "G6", "HANDLE/h1").row, Row)
         for words, told in (
-            (("Read", "A1"), "command takes one of Startup, "),
+            (("Sing", "A1"), "command takes one of Startup, "),
+            (("nv_reed", "A1"), "command takes NV_Read or another name, not 'nv_reed'"),
             (("NV_Read", "A9"), "check takes one of G5, G6, "),
             (("NV_Read", "G6"), "code takes one of INSUFFICIENT/h1, "),
             (("NV_Read", "A1", "VALUE"), "code takes one of NV_AUTHORIZATION, "),
@@ -106,15 +138,16 @@ class Refusals(unittest.TestCase):
 
     def test_each_is_explained(self):
         """Why each script is refused is explained. Those with wrong entries would take longest,
-        since the explanation tries what could have made them.
+        since the explanation tries what could have made them. Each script begins with a power
+        cycle, because a command alone is explained as on a started device.
         """
-        for row in every_row():
+        for row in (*HEADER_ROWS, *all_rows(Profile.SYMMETRIC)):
             refused = made(row)
             if refused.far or row.check in ("G9", "G10"):
                 continue
             play = Play()
             play.explains = lambda scene: scene.buffer == refused.buffer
-            *_, event = play.events("\n".join(refused.script).encode())
+            *_, event = play.events("\n".join(("power", *refused.script)).encode())
             self.assertEqual((event.scene.check, event.refused), (row.check, row.code_name))
             self.assertTrue(event.reason.words and event.reason.sentence)
 
@@ -135,6 +168,15 @@ class RefusalsProgram(unittest.TestCase):
         self.assertEqual(lines[0], "do Startup 0")
         self.assertEqual(lines[1], "# line 2: PCR_Reset is refused: LOCALITY (907), by check A1")
         self.assertEqual(lines[-1], "do PCR_Reset 00000000 pw:-")
+
+    def test_one_of_the_complete_profile(self):
+        _, out, _ = said(refusals.main, "IncrementalSelfTest", "A1")
+        lines = out.splitlines()
+        self.assertIn("tpmsim run --complete", lines[0])
+        told = "# line 2: IncrementalSelfTest is refused: VALUE/p1 (1c4), by check A1"
+        self.assertEqual(lines[1:3], ["do Startup 0", told])
+        self.assertEqual(lines[3], "#     The device does not implement the algorithm 0010.")
+        self.assertEqual(lines[-1], "do IncrementalSelfTest 0x10")
 
     def test_state(self):
         with tempfile.TemporaryDirectory() as folder:
@@ -179,6 +221,15 @@ class Coverage(unittest.TestCase):
         self.assertEqual(names, [("?", "G1"), ("NV_Read", "A3")])
         self.assertFalse([it for it in met.could() if it.is_far])
 
+    def test_commands_of_the_complete_profile(self):
+        refused = refusal("ClockSet", "A1")
+        with refused.device() as device:
+            device.execute(refused.buffer)
+            met = Met()
+            met.add("".join(f"{it}\n" for it in device.trace).encode())
+        self.assertEqual(list(met.refused), [refused.row])
+        self.assertIn(f"1 commands, 1 of {len(CC)} kinds of commands; ", table(met, None)[-1])
+
     def test_commands_that_another_tpm_answers_otherwise(self):
         met = Met()
         met.add(b"do Startup 0\n# 80010000000a00000100\n")
@@ -195,6 +246,16 @@ class Coverage(unittest.TestCase):
     def test_least(self):
         told = [said(coverage.main, str(self.log), "--least", it)[0] for it in ("1", "2", "100")]
         self.assertEqual(told, [0, 1, 1])
+
+    def test_folder(self):
+        kept = self.folder / "tpm"
+        kept.mkdir()
+        _, _, error = said(coverage.main, str(kept))
+        self.assertEqual(error, f"tpmsim-coverage: {kept} has no journal of a device\n")
+        for name in "journal", "journal.1", "journal.12", "journal.new", "lock":
+            (kept / name).write_text(LOG if name != "lock" else "no log")
+        _, out, _ = said(coverage.main, str(kept), "--only", "state")
+        self.assertIn("\n12 commands, ", out)
 
     def test_json(self):
         _, out, _ = said(coverage.main, str(self.log), "--json", "--only", "state")
@@ -216,7 +277,7 @@ class Coverage(unittest.TestCase):
         for words, told in (
             ((), "LOG is missing"),
             (("/none",), "/none cannot be read"),
-            ((str(bad),), f"{bad}: script line 1"),
+            ((str(bad),), f"{bad}: line 1 is no line of a script"),
             ((str(self.log), "--least", "x"), "argument --least: invalid float value: 'x'"),
             ((str(self.log), "--html", "/none/x"), "/none/x: No such file"),
         ):

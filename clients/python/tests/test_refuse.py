@@ -8,10 +8,11 @@ import tempfile
 import unittest
 
 from tpmsim.caller import area, Caller, Refused
-from tpmsim.caller.examples import EXAMPLES, INDEX, LOCKABLE, Scene
+from tpmsim.caller.examples import COMPLETE_EXAMPLES, EXAMPLES, INDEX, LOCKABLE, Scene
 from tpmsim.device import Device, KeptDevice, ModelDevice, ServedDevice, Unsupported
 from tpmsim.faults import BadValue
 from tpmsim.model import state_text
+from tpmsim.refusals import refusal
 from tpmsim.refuse import rows_near, Unrefusable, Wanted
 from tpmsim.refuse.finding import Event, found, Met
 from tpmsim.standard import CC, RH_OWNER
@@ -88,6 +89,14 @@ class Changes(unittest.TestCase):
                 answered = device.execute(example.buffer())
                 self.assertEqual(answered.check, check)
                 self.assertEqual(answered.response[6:10].hex(), f"{code:08x}")
+
+    def test_on_a_device_of_the_complete_profile(self):
+        with refusal("ClockSet", "A1").device() as device:
+            example = COMPLETE_EXAMPLES[CC.ClockSet](Scene(Caller(device), device.power_cycle))
+            device.refuse_next("ClockSet", "A1")
+            self.assertEqual(device.execute(example.buffer()).check, "A1")
+            change = found(bytes(Device().snapshot()), Event(example.buffer()), Wanted("G4"))
+            self.assertEqual((change.words, change.met), ("", Met("G4", 0x143)))
 
     def test_each_row_near_is_one_that_the_device_meets(self):
         count = 0

@@ -88,15 +88,17 @@ class Simulator(unittest.TestCase):
         acknowledgements.
         """
         self.started()
-        stream, buffer = self.connection(), request(GET_RANDOM)
-        began = time.monotonic()
+        stream, buffer, seconds = self.connection(), request(GET_RANDOM), []
         for _ in range(25):
+            began = time.monotonic()
             for piece in (buffer[:4], buffer[4:5], buffer[5:9], buffer[9:]):
                 stream.send(piece)
             answer = b""
             while len(answer) < 36:
                 answer += stream.recv(36 - len(answer))
-        self.assertLess(time.monotonic() - began, 25 * 0.040)
+            seconds.append(time.monotonic() - began)
+        # A busy machine delays some answers. The wait for an acknowledgement would delay each of them.
+        self.assertLess(min(seconds), 0.040)
 
     def test_power(self):
         device = self.started()

@@ -20,7 +20,7 @@ from tpmsim.device import BadState, ChildDevice, Device, DeviceEnded, KeptDevice
 from tpmsim.device import LibraryDevice, ModelDevice, Snapshot, Transport, Unsupported
 from tpmsim.explain.of_device import log_of, why_refused
 from tpmsim.explain.play import Play
-from tpmsim.model import state_text
+from tpmsim.model import image, state_text
 from tpmsim.model.completion import Completion
 from tpmsim.standard import AES, RH_OWNER
 from twenty import TwentyTests
@@ -145,7 +145,8 @@ class Snapshots:
         for text, fault in {
             b"": "Short",
             device_image(): "Magic",
-            b"TPMS\0\3" + taken[6:]: "Version",
+            b"TPMS\0\4" + taken[6:]: "Version",
+            image.digested(1, taken[10:-32], state_text.MAGIC): "Earlier",
             taken[:-1]: "Length",
             taken + b"\0": "Length",
             taken[:300] + bent + taken[301:]: "Digest",

@@ -1,6 +1,7 @@
 """Tests tpmsim-sweep: small clients that do one thing wrong, and what is reported about each."""
 
 import contextlib
+import functools
 import io
 import json
 import os
@@ -14,7 +15,8 @@ import time
 import unittest
 
 from tpmsim.caller import area, Caller
-from tpmsim.device import Device, DeviceEnded, KeptDevice, library, ServedDevice, SwtpmDevice
+from tpmsim.device import Device, DeviceEnded, KeptDevice, library, ServedDevice
+from tpmsim.device import SimulatorDevice, SwtpmDevice
 from tpmsim.refuse.finding import Event, Met
 from tpmsim.standard import RH_OWNER
 from tpmsim.sweep import main
@@ -84,6 +86,19 @@ def state():
         index = tpm.define(area(0x01000001, "ownerread|ownerwrite|read_stclear", size=4))
         tpm.send(tpm.writing(index, b"data", by=RH_OWNER))
         return bytes(device.snapshot())
+
+
+def said(place, request):
+    """Sends bytes to a port, and returns the answer that came until the connection's end."""
+    with socket.create_connection(place) as connection:
+        connection.sendall(request)
+        connection.shutdown(socket.SHUT_WR)
+        return b"".join(iter(lambda: connection.recv(4096), b""))
+
+
+def told(place, *numbers):
+    """Sends numbers to a port of Microsoft's simulator, and returns the answer."""
+    return said(place, b"".join(it.to_bytes(4, "big") for it in numbers))
 
 
 def settings(words, seconds=3600):
@@ -235,9 +250,12 @@ class Sweeps(unittest.TestCase):
             time.sleep(0.01)
 
     def test_an_interrupt_ends_the_sweep(self):
-        words = sys.executable, "-m", "tpmsim.sweep.main", "--from", str(self.text), "--"
-        words = *words, *client("right")
-        with subprocess.Popen(words, stdout=subprocess.PIPE) as process:
+        # A run with a refusal lasts longer than the time until the interrupt; the sweep then awaits
+        # it. A shell's background job ignores interrupts, so that the test might ignore them too.
+        words = sys.executable, "-m", "tpmsim.sweep.main", "--from", str(self.text)
+        words = *words, "--only", "NV_Read", "--timeout", "45", "--", *client("hangs")
+        heed = functools.partial(signal.signal, signal.SIGINT, signal.SIG_DFL)
+        with subprocess.Popen(words, stdout=subprocess.PIPE, preexec_fn=heed) as process:
             first = process.stdout.readline()
             process.send_signal(signal.SIGINT)
             said = process.stdout.read()
@@ -249,12 +267,13 @@ class Sweeps(unittest.TestCase):
             ((), "there is no COMMAND after --"),
             (("--", "true"), "the command sends nothing to the TPM"),
             (("--", "false"), "the command ends with status 1, even unrefused"),
-            (("--", "/nowhere"), "No such file or directory: '/nowhere'"),
-            (("--jobs", "0", "--", "true"), "argument -j/--jobs"),
-            (("--only", "NV_Forget", "--", "true"), "argument --only"),
+            (("--", "/nowhere"), "/nowhere: No such file or directory"),
+            (("--jobs", "0", "--", "true"), "argument -j/--jobs: '0' is no number from 1 on"),
+            (("--only", "NV_Forget", "--", "true"), "argument --only: command takes "),
+            (("--only", "NV_Read:A9", "--", "true"), "argument --only: check takes one of G5, "),
             (("--state", self.folder, "--", "true"), "contains no device"),
             (("--state", ".", "--from", ".", "--", "true"), "--state and --from name two devices"),
-            (("--from", __file__, "--", "true"), "Magic"),
+            (("--from", __file__, "--", "true"), f"{__file__} is no state text: Magic"),
             (("--copy", "/nowhere", "--", "true"), "/nowhere is no folder"),
         ):
             with self.subTest(words):
@@ -263,12 +282,136 @@ class Sweeps(unittest.TestCase):
                 self.assertTrue(errors.startswith("tpmsim-sweep: "), errors)
                 self.assertIn(said, errors)
 
+    def test_a_page_that_cannot_be_written_is_found_before_the_runs(self):
+        words = "--from", self.text, "--html", "/nowhere/page", "--", *client("right")
+        status, output, errors = main_of(*words)
+        self.assertEqual((status, output), (2, ""))
+        self.assertEqual(errors, "tpmsim-sweep: /nowhere/page: No such file or directory\n")
+
     def test_help(self):
+        self.assertEqual(main_of("-h"), main_of("--help"))
         status, output, _ = main_of("--help")
         self.assertEqual(status, 0)
         self.assertTrue(output.startswith("Usage: tpmsim-sweep [OPTION]... -- COMMAND"))
         for finding in Finding:
             self.assertIn(f"\n  {finding.value} ", output)
+
+
+# A client that reads an index twice in an HMAC session, which covers its Name. It ends with the
+# number of the check that refused it, or with a signal.
+READS_TWICE = """
+import os, signal, sys
+from tpmsim.caller import Caller, Refused
+from tpmsim.device import ServedDevice
+tpm = Caller(ServedDevice(os.environ["TPMSIM_SOCKET"]))
+print(tpm.call("NV_ReadPublic", 0x01000001).nvPublic.words)
+tpm.auth_values[0x01000001] = b"pin"
+session = tpm.session()
+for place in 1, 2:
+    try:
+        tpm.send(tpm.reading(0x01000001, 4, session))
+    except Refused as refused:
+        if "kill" in sys.argv:
+            os.kill(os.getpid(), signal.SIGKILL)
+        print(f"{place}: {refused.code}")
+        sys.exit(7)
+"""
+
+
+@unittest.skipUnless(library.is_there(), "there is no library")
+class Demands(unittest.TestCase):
+    def setUp(self):
+        self.folder = pathlib.Path(self.enterContext(tempfile.TemporaryDirectory()))
+        self.text = self.folder / "state"
+        with Device(seed=b"sweep") as device:
+            tpm = Caller(device)
+            tpm.start_up()
+            public = area(0x01000001, "authread|authwrite|read_stclear", size=4)
+            tpm.send(tpm.writing(tpm.define(public, auth=b"pin"), b"data", b"pin"))
+            self.text.write_bytes(bytes(device.snapshot()))
+
+    def ran(self, *words, client=READS_TWICE, more=()):
+        """Runs the program; returns its status, its output and its errors."""
+        program = sys.executable, "-m", "tpmsim.sweep.main", "--from", str(self.text)
+        environment = {**os.environ, "PYTHONPATH": str(pathlib.Path(main.__file__).parents[2])}
+        words = *program, *map(str, words), "--", sys.executable, "-c", client, *more
+        done = subprocess.run(words, env=environment, capture_output=True, text=True, check=False)
+        return done.returncode, done.stdout.splitlines()[1:], done.stderr
+
+    def test_one_refusal(self):
+        for words, place, said in (
+            ("NV_Read:G6", 1, "3 NV_Read G6 18b HANDLE/h1: 01000001 is gone"),
+            ("NV_Read:G9:LOCKOUT:2", 2, "4 NV_Read G9 921 LOCKOUT: too many failed tries"),
+            (
+                "NV_Read:faked:TESTING:2",
+                2,
+                "4 NV_Read faked 90a TESTING: the command is not executed",
+            ),
+        ):
+            with self.subTest(words):
+                status, output, errors = self.ran("--refuse", words)
+                self.assertEqual(errors, f"tpmsim-sweep: refused {said}\n")
+                self.assertEqual((status, len(output), output[0][0]), (7, 1, str(place)))
+
+    def test_the_status_after_a_signal(self):
+        self.assertEqual(self.ran("--refuse", "NV_Read:G6", more=["kill"])[0], 128 + 9)
+
+    def test_from_the_start(self):
+        """The Name has the attribute: only from the start, the client knows the changed Name."""
+        status, output, errors = self.ran("--refuse", "NV_Read:A2")
+        self.assertEqual((status, output), (125, []))
+        self.assertIn("nothing was refused: NV_Read cannot be refused by A2 here", errors)
+        self.assertTrue(errors.endswith("; with --from-start it can be\n"), errors)
+        saved = self.folder / "saved"
+        words = "--refuse", "NV_Read:A2:2", "--from-start", "--save", saved
+        status, output, errors = self.ran(*words)
+        self.assertEqual((status, output), (125, ["1: NV_LOCKED"]))
+        self.assertIn("nothing was refused: the client sent only 1 of 2 NV_Read\n", errors)
+        status, output, errors = self.ran("--refuse", "NV_Read:A2", *words[2:])
+        self.assertEqual((status, output), (7, ["1: NV_LOCKED"]))
+        said = "3 NV_Read A2 148 NV_LOCKED: 01000001 has READLOCKED from the start"
+        self.assertEqual(errors, f"tpmsim-sweep: refused {said}\n")
+        self.assertEqual(saved.stat().st_mode & 0o777, 0o600)
+        with KeptDevice(self.folder / "tpm") as kept:
+            kept.restore(saved.read_bytes())
+            public = Caller(kept).call("NV_ReadPublic", 0x01000001).nvPublic
+            self.assertIn("readlocked", public.words)
+
+    def test_what_a_device_is_from_the_start(self):
+        words = "--refuse", "NV_Read:G9:LOCKOUT", "--from-start"
+        status, output, errors = self.ran(*words)
+        self.assertEqual((status, output), (7, ["1: LOCKOUT"]), errors)
+        self.assertIn("LOCKOUT: too many failed tries from the start\n", errors)
+        status, _, errors = self.ran("--refuse", "NV_Read:A4", "--from-start")
+        self.assertEqual(status, 125)
+        self.assertIn("no change at the start makes NV_Read meet A4", errors)
+
+    def test_a_client_that_does_not_send_the_command(self):
+        for words, said in (
+            (["NV_Write:A2"], "the client sent no NV_Write, but NV_ReadPublic StartAuthSession"),
+            (["NV_Read:G5:3"], "the client sent only 2 of 3 NV_Read"),
+            (["NV_Read:G5:3", "--from-start"], "the client sent only 2 of 3 NV_Read"),
+        ):
+            status, _, errors = self.ran("--refuse", *words)
+            self.assertEqual(status, 125)
+            self.assertIn(f"tpmsim-sweep: nothing was refused: {said}", errors)
+
+    def test_wrong_use(self):
+        for words, said in (
+            (["--refuse", "NV_Forget:A2"], "--refuse: command takes NV_Read or "),
+            (["--refuse", "NV_Read:A9"], "--refuse: check takes one of G5, "),
+            (["--refuse", "NV_Read:G9:NV_LOCKED"], "--refuse: code takes one of ATTRIBUTES/s1"),
+            (["--refuse", "NV_Read"], "--refuse: a refusal takes NAME:CHECK[:CODE][:N], such as"),
+            (["--refuse", "NV_Read:A2:0"], "--refuse: a refusal takes NAME:CHECK[:CODE][:N]"),
+            (["--refuse", "NV_Read:faked:OK"], "--refuse: code takes one of RETRY, YIELDED, TEST"),
+            (["--refuse", "NV_Read:A2", "--json"], "--refuse makes one run, without --only"),
+            (["--from-start"], "--from-start and --save need --refuse"),
+            (["--refuse", "NV_Read:A2", "--save", "x"], "--save needs --from-start"),
+        ):
+            with self.subTest(words):
+                status, output, errors = main_of(*words, "--", "true")
+                self.assertEqual((status, output), (2, ""))
+                self.assertIn(said, errors)
 
 
 class Plans(unittest.TestCase):
@@ -280,13 +423,16 @@ class Plans(unittest.TestCase):
                 for it in ("80010000000c0000017b0004", "80010000000a00000181")
             ]
         every = planned(events, [], None)
-        self.assertEqual([it.name for it in every], ["GetRandom"] * 4 + ["ReadClock"] * 4)
+        self.assertEqual([it.name for it in every], ["GetRandom"] * 6 + ["ReadClock"] * 6)
         self.assertEqual(planned(events, [], 3), every[:3])
-        self.assertEqual(planned(events, [Only.of("ReadClock")], None), every[4:])
-        self.assertEqual(planned(events, [Only.of("ReadClock:G5")], None), every[4:5])
+        self.assertEqual(planned(events, [Only.of("ReadClock")], None), every[6:])
+        self.assertEqual(planned(events, [Only.of("ReadClock:G5")], None), every[6:7])
         self.assertEqual([it.met.code for it in every if it.is_faked], [*FAKED, *FAKED])
         start = events[0][0]
         self.assertEqual(every[0], next(refusals_of(0, start, *events[0])))
+        capability = Event(bytes.fromhex("8001000000160000017a000000060000010000000001"))
+        codes = [it.met.code for it in refusals_of(0, start, start, capability) if it.is_faked]
+        self.assertEqual(codes, [0x922, 0x908, 0x90A])
 
 
 @unittest.skipUnless(library.is_there(), "there is no library")
@@ -311,6 +457,31 @@ class Served(unittest.TestCase):
             [it.name for it in tpm.sent], ["GetRandom", "PCR_Extend", "Startup", "ReadClock"]
         )
         self.assertFalse(os.path.exists(server.path))
+
+    def test_the_protocol_of_the_simulator(self):
+        tpm = SweptTpm(state())
+        self.addCleanup(tpm.close)
+        with Server(tpm.execute, tpm.power_cycle) as server:
+            places = [("127.0.0.1", server.simulator_port + it) for it in (0, 1)]
+            with SimulatorDevice("127.0.0.1", server.simulator_port) as device:
+                caller = Caller(device)
+                caller.call("GetRandom", bytesRequested=2)
+                device.locality = 3
+                caller.call("PCR_Extend", 17, digests="sha256:" + "00" * 32)
+                device.power_cycle()
+                caller.start_up()
+            self.assertEqual(told(places[0], 15, 1), bytes.fromhex("000000010000000500000000"))
+            for place, *numbers in ((places[0], 5), (places[1], 99), (places[1], 21)):
+                self.assertEqual(told(place, *numbers)[:3], bytes(3), "the connection ends")
+            self.assertEqual(told(places[1], 2), bytes(4))
+            command = bytes.fromhex("00000008" "00" "0000000a" "80010000000a00000181")
+            self.assertEqual(said(places[0], command), bytes(8), "there is no power")
+            self.assertEqual(told(places[1], 1), bytes(4))
+            far = command[:4] + b"\5" + command[5:]
+            self.assertEqual(said(places[0], far)[10:14].hex(), "00000907")
+            self.assertEqual(said(places[0], command)[10:14].hex(), "00000100")
+        names = ["GetRandom", "PCR_Extend", "Startup", "ReadClock"]
+        self.assertEqual([it.name for it in tpm.sent], names)
 
     def test_a_fault_ends_the_client_and_is_raised(self):
         def fails(buffer, locality):

@@ -20,7 +20,6 @@ from tpmsim.model.completion import CONTEXT_LOAD
 from tpmsim.model.player import Words
 from tpmsim.model.state_text import Layer
 from tpmsim.policies.policy_file import digest_of, PolicyFile
-from tpmsim.records.reader import EARLIER_HEAD
 from tpmsim.standard import number
 from tpmsim.standard.objects import Attribute
 from tests.common import places
@@ -45,18 +44,6 @@ def before():
     PCR.
     """
     return Journal().play(START, DEFINE, WRITE, *SESSION, PCR)
-
-
-def text_of_version_1(device, layer=None, held=((0, 0),) * 8):
-    """Returns a state text in version 1, whose layer has two numbers for each object slot, after
-    the layer's other numbers.
-    """
-    body = state_text.device_text(device)
-    if layer is None:
-        return image.digested(1, body + b"\0", state_text.MAGIC)
-    numbers = state_text.layer_text(layer)
-    objects = b"".join(number(it, 8) for both in held for it in both)
-    return image.digested(1, body + b"\1" + numbers[:16] + objects + numbers[16:], state_text.MAGIC)
 
 
 def gone_on(*lines):
@@ -140,33 +127,12 @@ class Explained(unittest.TestCase):
         self.assertEqual(event.response[10:].hex(), "03000000")
 
     def test_a_head_of_version_1(self):
-        """A head in version 1 is reported, because the layer of version 1 had different contexts."""
         journal = Journal().play(START)
-        journal.head(2, text_of_version_1(journal.model))
+        body = state_text.device_text(journal.model) + b"\0"
+        journal.head(2, image.digested(state_text.VERSION_1, body, state_text.MAGIC))
         text, play = journal.play(*SESSION).text, Play()
-        self.assertEqual(len(list(play.events(text))), 1)
-        self.assertEqual(play.damages, [f"line 1: {EARLIER_HEAD}"])
-        auditor = Auditor(start.of_log(text, None), NoLog())
-        self.assertRaisesRegex(Disagreement, f"^script line 1: {EARLIER_HEAD}$", auditor.read, text)
-
-    def test_a_state_of_version_1(self):
-        """Objects that the layer of version 1 kept after a flush are left out; everything else is
-        restored.
-        """
-        device = ModelDevice()
-        tpm = Caller(device)
-        tpm.start_up()
-        handles = [tpm.create_primary(storage_key()) for _ in range(3)]
-        session = tpm.session().handle
-        held = [(1, 0), (2, 4), (0, 0)] + [(0, 0)] * 5
-        text = text_of_version_1(device.model, Layer(7, 4, [3] + [0] * 15), held)
-        play = Play(image=text)
-        self.assertEqual(set(play.model.objects), {handles[0], handles[2]})
-        self.assertEqual(play.layer.numbers, Layer(7, 4, [3] + [0] * 15))
-        self.assertEqual(set(play.model.sessions), {session})
-        del device.model.objects[handles[1]]
-        wanted = state_text.state_text(device.model, play.layer.numbers)
-        self.assertEqual(state_text.state_text(play.model, play.layer.numbers), wanted)
+        self.assertEqual(list(play.events(text)), [])
+        self.assertEqual(play.fault, "line 1 begins with what is no image: Earlier")
 
     def test_heads_that_are_damaged(self):
         text = gone_on(CODE).text

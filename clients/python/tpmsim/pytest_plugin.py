@@ -3,7 +3,8 @@ kept in an image; and `tpm_of`, which makes a caller of any device. Each device 
 test fails, its report contains the commands that the device received, as a script, and why the last
 refused command was refused. With `--tpmsim-html FOLDER`, the page that explains the log of each
 failed test is written to FOLDER. With `--tpm-coverage`, the summary of the run says which refusals
-of the table the tests have met, as tpmsim-coverage does.
+of the table the tests have met, as tpmsim-coverage does. A test with the mark `tpm_sweep` runs again
+for each refusal that its commands could meet.
 """
 
 import re
@@ -13,6 +14,7 @@ from typing import Any, Callable, Generator, Iterator
 import pytest
 
 from tpmsim.caller import Caller
+from tpmsim.coverage.devices import Counted
 from tpmsim.coverage.met import Met
 from tpmsim.coverage.report import table
 from tpmsim.device import Device, Transport
@@ -20,9 +22,12 @@ from tpmsim.explain import page, text
 from tpmsim.explain.of_device import log_of, why_refused
 from tpmsim.explain.play import Play
 from tpmsim.standard.rows import Kind
+from tpmsim.sweep import in_tests
+from tpmsim.sweep.in_tests import PART
 
 DEVICES = pytest.StashKey[list[Transport]]()
 COVERAGE = pytest.StashKey[Met]()
+COUNTED = pytest.StashKey[list[Counted]]()
 NO_NAME = re.compile(r"[^A-Za-z0-9_.-]+")
 
 
@@ -38,12 +43,16 @@ def pytest_addoption(parser: pytest.Parser) -> None:
 
 
 def pytest_configure(config: pytest.Config) -> None:
+    config.addinivalue_line("markers", in_tests.MARK_HELP)
     if config.getoption("--tpm-coverage") is not None:
         config.stash[COVERAGE] = Met()
 
 
 def caller_of(request: pytest.FixtureRequest, device: Transport) -> Caller:
     request.node.stash.setdefault(DEVICES, []).append(device)
+    met = request.config.stash.get(COVERAGE, None)
+    if met is not None:
+        request.node.stash.setdefault(COUNTED, []).append(Counted(met, device))
     caller = Caller(device)
     caller.start_up()
     return caller
@@ -52,7 +61,10 @@ def caller_of(request: pytest.FixtureRequest, device: Transport) -> Caller:
 @pytest.fixture
 def tpm(request: pytest.FixtureRequest) -> Iterator[Caller]:
     """Yields a caller of a fresh device."""
-    with Device() as device:
+    part = request.node.stash.get(PART, None)
+    if part is not None:
+        part.device = in_tests.SweptDevice()
+    with part.device if part is not None else Device() as device:
         yield caller_of(request, device)
 
 
@@ -85,13 +97,31 @@ def page_left(folder: str, name: str, log: bytes) -> str:
     return str(path)
 
 
+@pytest.hookimpl(tryfirst=True)  # type: ignore[misc]
+def pytest_runtest_protocol(item: pytest.Item) -> None:
+    """Sweeps a test before it runs, if it is to be swept."""
+    in_tests.sweep_marked(item)
+
+
 @pytest.hookimpl(hookwrapper=True)  # type: ignore[misc]
-def pytest_runtest_makereport(item: pytest.Item) -> Generator[None, Any, None]:
+def pytest_runtest_call(item: pytest.Item) -> Generator[None, Any, None]:
+    part = item.stash.get(PART, None)
+    if part is not None:
+        part.begin()
+    yield
+
+
+@pytest.hookimpl(hookwrapper=True)  # type: ignore[misc]
+def pytest_runtest_makereport(
+    item: pytest.Item, call: pytest.CallInfo[None]
+) -> Generator[None, Any, None]:
     report = (yield).get_result()
-    met = item.config.stash.get(COVERAGE, None)
-    if met is not None and report.when == "call":
-        for device in item.stash.get(DEVICES, []):
-            met.add(log_of(device))
+    part = item.stash.get(PART, None)
+    if part is not None and report.when == "call":
+        in_tests.judge(part, item, call.excinfo.value if call.excinfo else None, report)
+    if report.when == "call":
+        for it in item.stash.get(COUNTED, []):
+            it.count()
     if not report.failed:
         return
     folder = item.config.getoption("--tpmsim-html")

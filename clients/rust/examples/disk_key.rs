@@ -54,14 +54,13 @@ fn opened(
     (pin, passphrase): (&[u8], &[u8]),
 ) -> Result<String, Refusal> {
     let session = start_session(tpm, POLICY)?;
-    by_pin(tpm, session)?;
-    let key = match either(tpm, session, branches) {
+    let key = by_pin(tpm, session).and_then(|()| match either(tpm, session, branches) {
         Ok(()) => unseal(tpm, disk, By::Policy(session, pin)),
         Err(_) => send(tpm, 0x180, &[session], None, &[]) // TPM2_PolicyRestart
             .and_then(|_| by_passphrase(tpm, session, passphrase))
             .and_then(|()| either(tpm, session, branches))
             .and_then(|()| unseal(tpm, disk, By::Policy(session, b""))),
-    };
+    });
     flush(tpm, session)?;
     key
 }

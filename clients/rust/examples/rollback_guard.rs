@@ -32,8 +32,9 @@ fn at_most(tpm: &mut Device, session: u32, version: u64) -> Result<(), Refusal> 
     send(tpm, 0x149, &[INDEX, INDEX, session], Some(By::Password(b"")), &parameters).map(|_| ())
 }
 
-/// Returns the key that is sealed for a version, or the reason for the refusal.
-fn key_of(tpm: &mut Device, version: u64) -> Result<String, Refusal> {
+/// Returns the key that is sealed for a version, or the reason why its policy is not met. Returns an
+/// error if another command is refused.
+fn key_of(tpm: &mut Device, version: u64) -> Result<Result<String, Refusal>, Refusal> {
     let trial = start_session(tpm, TRIAL)?;
     at_most(tpm, trial, version)?;
     let policy = digest_of(tpm, trial)?;
@@ -45,7 +46,7 @@ fn key_of(tpm: &mut Device, version: u64) -> Result<String, Refusal> {
     for it in [session, handle, parent] {
         flush(tpm, it)?;
     }
-    key
+    Ok(key)
 }
 
 fn main() -> tpmsim::Result<()> {
@@ -54,15 +55,15 @@ fn main() -> tpmsim::Result<()> {
     define(tpm, COUNTER, b"")?;
     increment(tpm)?;
     let first = lowest(tpm)?;
-    tell("Version 1", key_of(tpm, first));
+    tell("Version 1", key_of(tpm, first)?);
     increment(tpm)?;
     println!("The counter went up by {}", lowest(tpm)? - first);
-    tell("Version 1", key_of(tpm, first));
-    tell("Version 2", key_of(tpm, first + 1));
+    tell("Version 1", key_of(tpm, first)?);
+    tell("Version 2", key_of(tpm, first + 1)?);
 
     tpm.power_cycle();
     tpm.start_up()?;
-    tell("After a power cycle, version 1", key_of(tpm, first));
+    tell("After a power cycle, version 1", key_of(tpm, first)?);
     send(tpm, 0x122, &[OWNER, INDEX], Some(By::Password(b"")), &[])?;
     define(tpm, COUNTER, b"")?;
     increment(tpm)?;

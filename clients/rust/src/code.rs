@@ -39,7 +39,7 @@ impl fmt::Display for Place {
 /// assert_eq!(code.place(), Some(Place::Session(1)));
 /// assert_eq!(code.to_string(), "AUTH_FAIL/s1 (98E)");
 /// ```
-#[derive(Clone, Copy, Debug, PartialEq, Eq, Hash)]
+#[derive(Clone, Copy, PartialEq, Eq, Hash)]
 pub struct ResponseCode(
     /// The number of the response.
     pub u32,
@@ -91,6 +91,13 @@ impl fmt::Display for ResponseCode {
     }
 }
 
+impl fmt::Debug for ResponseCode {
+    /// Writes the same as `Display`, so that a failed assertion shows the name.
+    fn fmt(&self, out: &mut fmt::Formatter<'_>) -> fmt::Result {
+        fmt::Display::fmt(self, out)
+    }
+}
+
 /// The check that refused a command. It is displayed by its name, as in traces and in docs/table.
 ///
 /// ```
@@ -100,7 +107,7 @@ impl fmt::Display for ResponseCode {
 /// # Ok(())
 /// # }
 /// ```
-#[derive(Clone, Copy, Debug, PartialEq, Eq, Hash)]
+#[derive(Clone, Copy, PartialEq, Eq, Hash)]
 pub enum Check {
     /// No check refused the command.
     Passed,
@@ -132,6 +139,13 @@ impl fmt::Display for Check {
             Check::Own(number) => write!(out, "A{number}"),
             Check::Memory => out.write_str("M"),
         }
+    }
+}
+
+impl fmt::Debug for Check {
+    /// Writes the same as `Display`.
+    fn fmt(&self, out: &mut fmt::Formatter<'_>) -> fmt::Result {
+        fmt::Display::fmt(self, out)
     }
 }
 

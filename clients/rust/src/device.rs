@@ -17,7 +17,7 @@ const FIRST_STATE_FAULT: u8 = 13;
 const LAST_LOCALITY: u8 = 4;
 
 /// TPM2_Startup(CLEAR).
-const STARTUP: [u8; 12] = [0x80, 1, 0, 0, 0, 12, 0, 0, 1, 0x44, 0, 0];
+pub(crate) const STARTUP: [u8; 12] = [0x80, 1, 0, 0, 0, 12, 0, 0, 1, 0x44, 0, 0];
 
 /// A TPM in this process. It needs 82 KB of memory, shares nothing, and is freed when it is
 /// dropped.
@@ -154,10 +154,7 @@ impl Device {
     ///
     /// [`Error::Locality`] for a higher number.
     pub fn set_locality(&mut self, locality: u8) -> Result<()> {
-        if locality > LAST_LOCALITY {
-            return Err(Error::Locality(locality));
-        }
-        self.locality = locality;
+        self.locality = valid(locality)?;
         self.logged(|| format!("loc {locality}"));
         Ok(())
     }
@@ -274,7 +271,7 @@ impl Device {
         if let Err(fault) = self.source.renew(drawn) {
             panic!("the system has no random bytes: {fault}");
         }
-        Response::of(outcome)
+        Response::of(outcome, buffer)
     }
 
     /// Adds a line to the log, if there is one.
@@ -282,6 +279,14 @@ impl Device {
         if let Some(log) = &mut self.log {
             log.line(&line());
         }
+    }
+}
+
+/// Returns a locality if it is 0 to 4.
+pub(crate) fn valid(locality: u8) -> Result<u8> {
+    match locality {
+        0..=LAST_LOCALITY => Ok(locality),
+        _ => Err(Error::Locality(locality)),
     }
 }
 

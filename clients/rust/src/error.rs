@@ -19,11 +19,16 @@ pub enum Fault {
     Digest,
     /// The body does not encode a state.
     Body,
+    /// The state text has version 1, which is no longer read.
+    Earlier,
 }
 
-/// The faults, in the order of their numbers in the header.
+/// The faults of images and state texts, in the order of their numbers in the header.
 const FAULTS: [Fault; 6] =
     [Fault::Short, Fault::Magic, Fault::Version, Fault::Length, Fault::Digest, Fault::Body];
+
+/// The number of `Fault::Earlier` in the header.
+const EARLIER: u8 = 21;
 
 impl fmt::Display for Fault {
     fn fmt(&self, out: &mut fmt::Formatter<'_>) -> fmt::Result {
@@ -34,6 +39,7 @@ impl fmt::Display for Fault {
             Fault::Length => "there are not as many bytes as they say",
             Fault::Digest => "their digest is another one",
             Fault::Body => "they spell no state",
+            Fault::Earlier => "they have version 1, which is no longer read",
         })
     }
 }
@@ -54,6 +60,8 @@ pub enum Error {
     Locality(u8),
     /// More than 4,294,967,295 milliseconds would pass before a command.
     Wait,
+    /// A device in a folder failed, with the reason.
+    Kept(String),
     /// The device refuses the command.
     Refused(Refusal),
 }
@@ -65,6 +73,9 @@ impl Error {
     /// Converts the return code of a library call that failed. `first` is the return code for the
     /// first entry of `FAULTS`.
     pub(crate) fn of(told: u8, first: u8, kind: fn(Fault) -> Error) -> Error {
+        if told == EARLIER {
+            return kind(Fault::Earlier);
+        }
         match told.checked_sub(first).and_then(|at| FAULTS.get(usize::from(at))) {
             Some(fault) => kind(*fault),
             None => Error::Memory,
@@ -81,7 +92,8 @@ impl fmt::Display for Error {
             Error::State(fault) => write!(out, "the bytes are no state text: {fault}"),
             Error::Locality(number) => write!(out, "a locality is 0 to 4, and not {number}"),
             Error::Wait => out.write_str("at most 4294967295 milliseconds pass before a command"),
-            Error::Refused(refusal) => refusal.fmt(out),
+            Error::Kept(reason) => out.write_str(reason),
+            Error::Refused(refusal) => fmt::Display::fmt(refusal, out),
         }
     }
 }

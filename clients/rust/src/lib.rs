@@ -33,12 +33,13 @@
 //! ```
 //!
 //! If `TPMSIM_LIB_DIR` is set, the library in that folder is linked. Otherwise the library in this
-//! package is linked, which is for Linux on x86-64 and on ARM64.
+//! package or in its repository is linked, which is for Linux on x86-64 and on ARM64.
 #![deny(missing_docs, unsafe_op_in_unsafe_fn, unsafe_code)]
 
 mod code;
 mod device;
 mod error;
+mod kept;
 mod log;
 mod names;
 mod native;
@@ -50,6 +51,7 @@ mod transport;
 pub use code::{Check, Place, ResponseCode};
 pub use device::Device;
 pub use error::{Error, Fault, Result};
+pub use kept::KeptDevice;
 pub use response::{Refusal, Response};
 pub use transport::{DeviceFile, Transport};
 

@@ -1,4 +1,5 @@
-//! The calls of libtpmsim and of `getrandom`. This is the only unsafe code of the package.
+//! The calls of libtpmsim, libtpmsim-kept and `getrandom`. This is the only unsafe code of the
+//! package.
 //!
 //! These types ensure the library's preconditions. A [`Native`] is the only owner of its handle,
 //! which moves with it and is never copied. Calls that change the device take `&mut self`, and a
@@ -9,6 +10,9 @@
 use std::io;
 use std::os::raw::{c_uint, c_void};
 use std::ptr::null_mut;
+
+mod kept;
+pub(crate) use kept::NativeKept;
 
 /// The return code of a call that succeeded.
 pub(crate) const DONE: u8 = 0;

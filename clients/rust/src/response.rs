@@ -9,7 +9,7 @@ use std::fmt;
 const HEADER_BYTES: usize = 10;
 
 /// A response, and the check that refused its command.
-#[derive(Clone, Debug, PartialEq, Eq, Hash)]
+#[derive(Clone, PartialEq, Eq, Hash)]
 pub struct Response {
     bytes: Vec<u8>,
     command: u32,
@@ -17,9 +17,14 @@ pub struct Response {
 }
 
 impl Response {
-    /// Makes a response from the result of a command.
-    pub(crate) fn of(outcome: Outcome) -> Response {
-        let Outcome { response: bytes, code: command, check, .. } = outcome;
+    /// Makes a response from the result of a command and the command's buffer, which contains the
+    /// code of a command that the device does not have.
+    pub(crate) fn of(outcome: Outcome, buffer: &[u8]) -> Response {
+        let Outcome { response: bytes, code, check, .. } = outcome;
+        let command = match (code, buffer.get(HEADER_BYTES - 4..HEADER_BYTES)) {
+            (0, Some(code)) => number_of(code),
+            _ => code,
+        };
         Response { bytes, command, check: Check::of(check) }
     }
 
@@ -35,8 +40,7 @@ impl Response {
 
     /// The response code.
     pub fn code(&self) -> ResponseCode {
-        let code = self.bytes[HEADER_BYTES - 4..HEADER_BYTES].iter();
-        ResponseCode(code.fold(0, |number, byte| number << 8 | u32::from(*byte)))
+        ResponseCode(number_of(&self.bytes[HEADER_BYTES - 4..HEADER_BYTES]))
     }
 
     /// Returns the check that refused the command.
@@ -63,6 +67,29 @@ impl AsRef<[u8]> for Response {
     }
 }
 
+impl fmt::Debug for Response {
+    /// Writes the bytes in hex, and the names of the command, the code and the check.
+    ///
+    /// ```
+    /// # fn main() -> tpmsim::Result<()> {
+    /// let response = tpmsim::Device::new()?.execute(&[0x80, 1, 0, 0, 0, 10, 0, 0, 1, 0x81]);
+    /// let shown = "Response { bytes: 80010000000a00000100, command: ReadClock, \
+    ///              code: INITIALIZE (100), check: G5 }";
+    /// assert_eq!(format!("{response:?}"), shown);
+    /// # Ok(())
+    /// # }
+    /// ```
+    fn fmt(&self, out: &mut fmt::Formatter<'_>) -> fmt::Result {
+        let hex: String = self.bytes.iter().map(|byte| format!("{byte:02x}")).collect();
+        out.debug_struct("Response")
+            .field("bytes", &format_args!("{hex}"))
+            .field("command", &format_args!("{}", CommandName(self.command)))
+            .field("code", &self.code())
+            .field("check", &self.check)
+            .finish()
+    }
+}
+
 /// The refusal of a command by a device, with the reason.
 ///
 /// ```
@@ -74,7 +101,7 @@ impl AsRef<[u8]> for Response {
 /// # Ok(())
 /// # }
 /// ```
-#[derive(Clone, Copy, Debug, PartialEq, Eq, Hash)]
+#[derive(Clone, Copy, PartialEq, Eq, Hash)]
 pub struct Refusal {
     command: u32,
     code: ResponseCode,
@@ -82,7 +109,8 @@ pub struct Refusal {
 }
 
 impl Refusal {
-    /// Returns the command code (TPM_CC) of the refused command, or 0 if the buffer had none.
+    /// Returns the command code (TPM_CC) of the refused command, even if the device has no such
+    /// command, or 0 if the buffer had none.
     pub fn command(&self) -> u32 {
         self.command
     }
@@ -100,8 +128,36 @@ impl Refusal {
 
 impl fmt::Display for Refusal {
     fn fmt(&self, out: &mut fmt::Formatter<'_>) -> fmt::Result {
-        let name = name_of(COMMANDS, self.command).unwrap_or("unknown command");
-        write!(out, "{name}: {}, by {}", self.code, self.check)
+        let Refusal { command, code, check } = *self;
+        write!(out, "{}", CommandName(command))?;
+        if check == Check::General(4) {
+            write!(out, " ({command:X}): tpmsim has no such command")?;
+        }
+        write!(out, ": {code}, by {check}")
+    }
+}
+
+impl fmt::Debug for Refusal {
+    /// Writes the same as `Display`, because `main` and `unwrap` print an error in this form.
+    fn fmt(&self, out: &mut fmt::Formatter<'_>) -> fmt::Result {
+        fmt::Display::fmt(self, out)
+    }
+}
+
+/// Returns a number of four bytes, the most significant byte first.
+fn number_of(bytes: &[u8]) -> u32 {
+    bytes.iter().fold(0, |number, byte| number << 8 | u32::from(*byte))
+}
+
+/// Displays a command by its name.
+struct CommandName(u32);
+
+impl fmt::Display for CommandName {
+    fn fmt(&self, out: &mut fmt::Formatter<'_>) -> fmt::Result {
+        match name_of(COMMANDS, self.0) {
+            Some(name) => out.write_str(name),
+            None => out.write_str("unknown command"),
+        }
     }
 }
 

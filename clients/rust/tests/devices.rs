@@ -69,7 +69,15 @@ fn tells_who_refused() {
     let refusal = device.execute(&command(0x17e, &[0; 3])).accepted().unwrap_err();
     assert_eq!(refusal.to_string(), "PCR_Read: INSUFFICIENT/p1 (1DA), by G11");
     let unknown = device.execute(&command(0x0bad, &[])).accepted().unwrap_err();
-    assert_eq!(unknown.to_string(), "unknown command: COMMAND_CODE (143), by G4");
+    assert_eq!(
+        unknown.to_string(),
+        "unknown command (BAD): tpmsim has no such command: COMMAND_CODE (143), by G4"
+    );
+    let decrypt = device.execute(&command(0x159, &[])).accepted().unwrap_err();
+    assert_eq!(
+        decrypt.to_string(),
+        "RSA_Decrypt (159): tpmsim has no such command: COMMAND_CODE (143), by G4"
+    );
     assert_eq!(device.execute(&get_random(4)).code(), ResponseCode::SUCCESS);
 }
 
@@ -172,4 +180,21 @@ fn a_log_begins_where_it_is_asked_for() {
 fn shows_no_secret() {
     let device = Device::new().expect("there is memory");
     assert_eq!(format!("{device:?}"), "Device { locality: 0, elapsed: 0, .. }");
+}
+
+#[test]
+fn debug_prints_names_and_hex() {
+    let mut device = Device::new().expect("there is memory");
+    let response = device.execute(&get_random(4));
+    let refusal = response.accepted().unwrap_err();
+    assert_eq!(format!("{refusal:?}"), "GetRandom: INITIALIZE (100), by G5");
+    assert_eq!(
+        format!("{:?}", Error::from(refusal)),
+        "Refused(GetRandom: INITIALIZE (100), by G5)"
+    );
+    assert_eq!(format!("{:?} {:?}", response.code(), response.check()), "INITIALIZE (100) G5");
+    assert_eq!(
+        format!("{response:?}"),
+        "Response { bytes: 80010000000a00000100, command: GetRandom, code: INITIALIZE (100), check: G5 }"
+    );
 }

@@ -34,4 +34,13 @@ taken_more f xs i d so new below is more =
     ∙ sym (map-append f (take i xs) (get_or xs i d ∷ []))
     ∙ sym (ap (map f) (take_more xs i d below))
 
-pub ruleset one_more = (mapped_more, flat_more, taken_more)
+pub flat_taken_more : {A X : Type 0} (f : A → List X) (xs : List A) (i : ℕ) (d : A)
+    (so new : List X) → i < length xs → so ≡ flat_map f (take i xs)
+    → new ≡ so ++ f (get_or xs i d) → new ≡ flat_map f (take (i + 1) xs)
+flat_taken_more f xs i d so new below is more =
+    more ∙ ap (λ (l : List _). l ++ f (get_or xs i d)) is
+    ∙ ap (λ (l : List _). flat_map f (take i xs) ++ l) (sym (append-nil (f (get_or xs i d))))
+    ∙ sym (flat_map-append f (take i xs) (get_or xs i d ∷ []))
+    ∙ sym (ap (flat_map f) (take_more xs i d below))
+
+pub ruleset one_more = (mapped_more, flat_more, taken_more, flat_taken_more)

@@ -1,11 +1,10 @@
--- The elements of each capability of a device, in ascending order. TPM 2.0 Library, Part 2,
--- sections 6.12 (TPM_CAP), 6.13 (TPM_PT), 7.4 (TPM_RH) and 8.9 (TPMA_CC), and Part 3, section 30.2.
+-- The handles and the commands of a device, in ascending order. TPM 2.0 Library, Part 2,
+-- sections 6.12 (TPM_CAP), 7.4 (TPM_RH) and 8.9 (TPMA_CC), and Part 3, section 30.2.
 use Rattle.tpm_types_common.specs.Limits.{object_limit, session_limit}
 use Rattle.tpm_bytes.specs.Numbers.{numbers_below}
 use Rattle.std.specs.Prelude.{ℕ, ◌+◌, ◌*◌, ◌^◌, List, [], ◌∷◌, is_some, length, map, if◌then◌else◌}
 use Rattle.std.specs.List.{flat_map}
 use Rattle.std.specs.Option.{option_map_or}
-use Rattle.tpm_lockout.specs.Lockout.{LockoutState}
 use Rattle.tpm_nv.specs.Head.{heads_of}
 use Rattle.tpm_containers.specs.Numbered.{number_of}
 use Rattle.tpm_containers.specs.Slots.{at_place}
@@ -13,9 +12,10 @@ use Rattle.tpm_session.specs.Sessions.{handle_of}
 use Rattle.tpm_session.specs.declared.session.Session.{Session}
 use Rattle.tpm_types_common.specs.Handle.{endorsement_handle, lockout_handle, null_handle, numbered_handle, owner_handle, password_handle, platform_handle}
 use Rattle.tpm_types_common.specs.declared.handle.Handle.{Handle}
-use Rattle.tpm_commands.specs.CommandCode.{code_number, shape_of}
+use Rattle.tpm_commands.specs.CommandCode.{code_number, serves, shape_of}
 use Rattle.tpm_commands.specs.CommandFacts.{all_codes}
 use Rattle.tpm_commands.specs.declared.command_code.CommandCode.{CommandCode}
+use Rattle.tpm_commands.specs.declared.profile.Profile.{Profile}
 use Rattle.tpm_record.specs.Objects.{object_at}
 use Rattle.tpm_record.specs.Record.{Record}
 use Rattle.tpm_actions_capability.specs.Element.{by_itself, if_there}
@@ -81,20 +81,9 @@ abbrev pub command_element : CommandCode → Element
 command_element code =
     record { number = code_number code; told = command_attributes code }
 
-abbrev pub command_elements : List Element
-command_elements = map command_element all_codes
+-- the element of a command, if a device of this profile serves the command
+abbrev pub served_element : Profile → CommandCode → List Element
+served_element profile code = if_there (serves profile code) (command_element code)
 
--- ---- properties
-
--- the listed properties, with their values: TPM_PT_FAMILY_INDICATOR ("2.0" and a zero),
--- TPM_PT_TOTAL_COMMANDS, TPM_PT_LOCKOUT_COUNTER, TPM_PT_MAX_AUTH_FAIL, TPM_PT_LOCKOUT_INTERVAL and
--- TPM_PT_LOCKOUT_RECOVERY
-abbrev pub property_elements : LockoutState → List Element
-property_elements lockout =
-    record { number = 0x100; told = 0x322e3000 }
-    ∷ record { number = 0x129; told = length all_codes }
-    ∷ record { number = 0x20e; told = lockout.fields.failed_tries }
-    ∷ record { number = 0x20f; told = lockout.fields.max_tries }
-    ∷ record { number = 0x210; told = lockout.fields.recovery_time }
-    ∷ record { number = 0x211; told = lockout.fields.lockout_recovery }
-    ∷ []
+abbrev pub command_elements : Profile → List Element
+command_elements profile = flat_map (served_element profile) all_codes

@@ -1,6 +1,6 @@
 -- TPM2_GetCapability. TPM 2.0 Library, Part 3, section 30.2.
 use Rattle.tpm_types_common.specs.declared.action_check.ActionCheck.TheVariants as action
-use Rattle.std.specs.Prelude.{◌≡◌, ℕ, ◌==◌, ◌/◌, ◌%◌, ◌^◌, List, [], ◌∷◌, ◌++◌, if◌then◌else◌, Result, Ok, Err}
+use Rattle.std.specs.Prelude.{◌≡◌, ℕ, ◌==◌, ◌||◌, ◌/◌, ◌%◌, ◌^◌, Bool, List, [], ◌∷◌, ◌++◌, if◌then◌else◌, Result, Ok, Err}
 use Rattle.std.specs.Int.{w32, to_be_bytes}
 use Rattle.tpm_bytes.specs.Reading.{◌>>=◌, number_at, or_fault}
 use Rattle.tpm_mac.specs.declared.algorithm.HashAlg.TheVariants as alg
@@ -9,13 +9,18 @@ use Rattle.tpm_types_common.specs.Rc.{plain}
 use Rattle.tpm_types_common.specs.declared.pcr_selection.BankSelection.{BankSelection}
 use Rattle.tpm_types_common.specs.declared.rc.ResponseCode.TheVariants as code
 use Rattle.tpm_types_common.specs.declared.refused.Refused.{Refused}
+use Rattle.tpm_commands.specs.declared.profile.Profile.{Profile}
+use Rattle.tpm_commands.specs.declared.profile.Profile.TheVariants.{Complete, Symmetric}
 use Rattle.tpm_record.specs.Record.{Record}
 use Rattle.tpm_record.specs.rows.Answer.{Plain, answer_of}
 use Rattle.tpm_record.specs.rows.Refusals.{parameter_refusal}
 use Rattle.tpm_record.specs.rows.Request.{Request}
 use Rattle.tpm_record.specs.rows.Rows.{Success, all_read, parameter, unchanged_success}
+use Rattle.tpm_actions_capability.specs.Algorithms.{algorithm_elements}
 use Rattle.tpm_actions_capability.specs.Element.{listing}
-use Rattle.tpm_actions_capability.specs.Elements.{command_elements, index_elements, object_elements, pcr_elements, permanent_elements, persistent_elements, property_elements, session_elements}
+use Rattle.tpm_actions_capability.specs.Elements.{command_elements, index_elements, object_elements, pcr_elements, permanent_elements, persistent_elements, session_elements}
+use Rattle.tpm_actions_capability.specs.PcrProperties.{pcr_property_elements}
+use Rattle.tpm_actions_capability.specs.Properties.{property_elements}
 use Rattle.tpm_actions_capability.specs.declared.element.Element.{Element}
 use Rattle.tpm_actions_capability.specs.declared.element.Telling.TheVariants as tell
 use Rattle.tpm_actions_capability.specs.declared.get_capability.CapabilityParameters.{CapabilityParameters}
@@ -31,14 +36,31 @@ capability_parameters text = do
   ended ← all_read count.1
   Ok (record { capability = capability.0; property = property.0; count = count.0 })
 
--- the capability with this number. Refused by check A1 if it is not supported
-abbrev pub capability_of : ℕ → Result Capability Refused
-capability_of number =
+-- whether a device of the complete profile answers this capability with an empty list: it requires
+-- no physical presence (3), audits no command (4), and has no elliptic curve (8)
+abbrev pub is_empty : (capability : ℕ) → Bool
+is_empty capability = (capability == 3) || ((capability == 4) || (capability == 8))
+
+-- the capability with this number, if only the complete profile has it. Refused by check A1 if it
+-- is not supported
+abbrev pub further_capability_of : Profile → ℕ → Result Capability Refused
+further_capability_of Symmetric number =
+    Err (parameter_refusal action.First 1 code.Value)
+further_capability_of Complete number =
+    if number == 0 then Ok capability.Algorithms
+    else (if number == 7 then Ok capability.PcrProperties
+    else (if is_empty number then Ok capability.Nothing
+    else Err (parameter_refusal action.First 1 code.Value)))
+
+-- the capability with this number. Refused by check A1 if a device of this profile does not support
+-- it
+abbrev pub capability_of : Profile → ℕ → Result Capability Refused
+capability_of profile number =
     if number == 1 then Ok capability.Handles
     else (if number == 2 then Ok capability.Commands
     else (if number == 5 then Ok capability.Pcrs
     else (if number == 6 then Ok capability.Properties
-    else Err (parameter_refusal action.First 1 code.Value))))
+    else further_capability_of profile number)))
 
 -- the handles with this most significant byte; the list of saved sessions (03) is always empty.
 -- Refused by check A2 if no handle type has this byte
@@ -73,15 +95,21 @@ abbrev pub told_of : Record → CapabilityParameters → Capability → Result (
 told_of r p capability.Handles = do
   elements ← handle_elements r (p.property / 2 ^ 24)
   Ok (listing tell.Value 1 (first_handle_of p.property) p.count elements)
-told_of r p capability.Commands = Ok (listing tell.Value 2 p.property p.count command_elements)
+told_of r p capability.Commands =
+    Ok (listing tell.Value 2 p.property p.count (command_elements r.fixed.profile))
 told_of r p capability.Pcrs = Ok pcrs_text
 told_of r p capability.Properties =
-    Ok (listing tell.NumberAndValue 6 p.property p.count (property_elements r.fixed.lockout))
+    Ok (listing tell.NumberAndValue 6 p.property p.count (property_elements r.fixed.profile r))
+told_of r p capability.Algorithms =
+    Ok (listing tell.Algorithm 0 p.property p.count algorithm_elements)
+told_of r p capability.PcrProperties =
+    Ok (listing tell.Selection 7 p.property p.count pcr_property_elements)
+told_of r p capability.Nothing = Ok (listing tell.Value p.capability p.property p.count [])
 
 unfoldable pub get_capability_row : Record → Request → Result Success Refused
 get_capability_row r q = do
   p ← capability_parameters q.parameters
-  capability ← capability_of p.capability
+  capability ← capability_of r.fixed.profile p.capability
   text ← told_of r p capability
   Ok (unchanged_success r (answer_of (Plain text)))
 

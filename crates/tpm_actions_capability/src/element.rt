@@ -1,9 +1,10 @@
 //! An element of a capability's list, and how part of a list is returned: the requested number of
 //! elements, starting at a given number (TPM 2.0 Library, Part 3, section 30.2).
 
-ghost use Rattle.std.specs.Prelude.{◌≡◌, ◌≤◌, ◌+◌, ◌*◌, ◌++◌, List, [], ◌∷◌, length};
+ghost use Rattle.std.specs.Prelude.{◌≡◌, ◌≤◌, ◌+◌, ◌*◌, ◌++◌, List, [], ◌∷◌, length, take};
+ghost use Rattle.std.specs.Int.{w32, to_le_bytes};
 ghost use Rattle.tpm_types_common.specs.Limits.{answer_limit};
-ghost use Rattle.tpm_actions_capability.specs.Element.{by_itself, found_count, is_from, listing, text_of, told_text};
+ghost use Rattle.tpm_actions_capability.specs.Element.{by_itself, element, found_count, is_from, listing, text_of, told_text};
 ghost use Rattle.tpm_actions_capability.specs.declared.element.Element.{Element as ListedElement};
 
 use arrayvec::ArrayVec;
@@ -26,19 +27,37 @@ pub struct Element {
 /// How an element is listed.
 #[derive(Clone, Copy, PartialEq, Eq)]
 pub enum Telling {
+    /// The value: a handle, or the attributes of a command.
     Value,
+    /// The number and the value: a property.
     NumberAndValue,
+    /// The number in two bytes, and the attributes of an algorithm.
+    Algorithm,
+    /// The number, and the PCRs that have this property.
+    Selection,
+}
+
+/// The three octets that select PCRs.
+fn octets(select: u32) -> [u8; 3]
+    ensures { result ≡ take 3 (to_le_bytes w32 select) }
+{
+    let octets = select.to_le_bytes();
+    [octets[0], octets[1], octets[2]]
 }
 
 impl Element {
+    /// An element with this number, and with the value that is listed for it.
+    pub(crate) fn new(number: u32, told: u32) -> Element
+        ensures { result ≡ element number told }
+    {
+        Element { number, told }
+    }
+
     /// An element whose listed value is its own number.
     pub(crate) fn by_itself(number: u32) -> Element
         ensures { result ≡ by_itself number }
     {
-        Element {
-            number,
-            told: number,
-        }
+        Element::new(number, number)
     }
 
     fn is_from(&self, from: u32) -> bool
@@ -52,10 +71,22 @@ impl Element {
         ensures told { text.new ≡ text.old ++ told_text telling self.now }
         ensures few { length text.new ≤ length text.old + 8 }
     {
-        if telling == Telling::NumberAndValue {
-            text.append_u32(self.number);
+        match telling {
+            Telling::Value => text.append_u32(self.told),
+            Telling::NumberAndValue => {
+                text.append_u32(self.number);
+                text.append_u32(self.told);
+            }
+            Telling::Algorithm => {
+                text.append_u16((self.number % (1 << 16)) as u16);
+                text.append_u32(self.told);
+            }
+            Telling::Selection => {
+                text.append_u32(self.number);
+                text.append_u8(3);
+                text.append(&octets(self.told));
+            }
         }
-        text.append_u32(self.told);
     }
 }
 

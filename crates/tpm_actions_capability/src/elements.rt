@@ -1,17 +1,19 @@
 //! The elements that each capability of the device lists, in ascending order: PCRs, handles,
-//! commands and properties.
+//! commands, algorithms and properties of PCRs.
 
 ghost use Rattle.tpm_types_common.specs.Limits.{object_limit, session_limit};
 ghost use Rattle.std.specs.Prelude.{◌≡◌, ◌≤◌, ◌<◌, ◌+◌, ◌++◌, [], length, map};
+ghost use Rattle.tpm_actions_capability.specs.Algorithms.{algorithm_elements};
 ghost use Rattle.tpm_actions_capability.specs.Element.{by_itself};
-ghost use Rattle.tpm_actions_capability.specs.Elements.{command_attributes, command_element, command_elements};
+ghost use Rattle.tpm_actions_capability.specs.PcrProperties.{pcr_property_elements};
+ghost use Rattle.std.specs.List.{flat_map};
+ghost use Rattle.tpm_actions_capability.specs.Elements.{command_attributes, command_element, command_elements, served_element};
 ghost use Rattle.tpm_actions_capability.specs.Elements.{index_elements, object_element, object_elements, persistent_elements};
-ghost use Rattle.tpm_actions_capability.specs.Elements.{pcr_elements, permanent_elements, property_elements, session_element, session_elements};
+ghost use Rattle.tpm_actions_capability.specs.Elements.{pcr_elements, permanent_elements, session_element, session_elements};
 
 use crate::element::{Element, Elements};
-use tpm_commands::CommandCode;
+use tpm_commands::{CommandCode, Profile};
 use tpm_containers::numbered;
-use tpm_lockout::Lockout;
 use tpm_nv::Indices;
 use tpm_record::{Keep, PersistentObjects};
 use tpm_session::handle_of;
@@ -144,43 +146,70 @@ fn command(code: CommandCode) -> Element
     }
 }
 
-/// Lists the given commands.
-#[tactic(auto, using(crate::proofs::Listing::one_more))]
-fn list_commands(codes: &[CommandCode], elements: &mut Elements)
-    requires empty { elements.old.items ≡ [] }
-    requires few { length codes.now ≤ 64 }
-    ensures { elements.new.items ≡ map command_element codes.now }
+/// Lists a command, if a device of this profile serves it.
+fn list_command(profile: Profile, code: CommandCode, elements: &mut Elements)
+    requires room { length elements.old.items < 64 }
+    ensures added { elements.new.items ≡ elements.old.items ++ served_element profile code }
+    ensures few { length elements.new.items ≤ length elements.old.items + 1 }
 {
-    for code in codes {
-        elements.push(command(*code));
+    if profile.serves(code) {
+        elements.push(command(code));
     }
 }
 
-/// Lists the implemented commands.
-pub(crate) fn commands(elements: &mut Elements)
-    requires { elements.old.items ≡ [] }
-    ensures { elements.new.items ≡ command_elements }
+/// Lists those of the given commands that a device of this profile serves.
+#[tactic(auto, using(crate::proofs::Listing::one_more))]
+fn list_commands(profile: Profile, codes: &[CommandCode], elements: &mut Elements)
+    requires empty { elements.old.items ≡ [] }
+    requires few { length codes.now ≤ 64 }
+    ensures { elements.new.items ≡ flat_map (served_element profile) codes.now }
 {
-    list_commands(CommandCode::ALL, elements);
+    for code in codes {
+        list_command(profile, *code, elements);
+    }
 }
 
-/// The list element for a property, with this value.
-fn property(number: u32, told: u32) -> Element
-    ensures { result ≡ record { number = number; told = told } }
+/// Lists the commands that a device of this profile serves.
+pub(crate) fn commands(profile: Profile, elements: &mut Elements)
+    requires { elements.old.items ≡ [] }
+    ensures { elements.new.items ≡ command_elements profile }
 {
-    Element { number, told }
+    list_commands(profile, CommandCode::ALL, elements);
 }
 
-/// Lists the properties.
-pub(crate) fn properties(lockout: &Lockout, elements: &mut Elements)
+/// Lists the algorithms.
+pub(crate) fn algorithms(elements: &mut Elements)
     requires { elements.old.items ≡ [] }
-    ensures { elements.new.items ≡ property_elements lockout.now }
+    ensures { elements.new.items ≡ algorithm_elements }
 {
-    let fields = lockout.fields();
-    elements.push(property(0x100, u32::from_be_bytes(*b"2.0\0")));
-    elements.push(property(0x129, CommandCode::ALL.len() as u32));
-    elements.push(property(0x20e, fields.failed_tries));
-    elements.push(property(0x20f, fields.max_tries));
-    elements.push(property(0x210, fields.recovery_time));
-    elements.push(property(0x211, fields.lockout_recovery));
+    elements.push(Element::new(0x04, 0x004));
+    elements.push(Element::new(0x05, 0x104));
+    elements.push(Element::new(0x06, 0x002));
+    elements.push(Element::new(0x08, 0x30c));
+    elements.push(Element::new(0x0a, 0x006));
+    elements.push(Element::new(0x0b, 0x004));
+    elements.push(Element::new(0x22, 0x404));
+    elements.push(Element::new(0x25, 0x008));
+    elements.push(Element::new(0x43, 0x202));
+}
+
+/// Lists the properties of PCRs.
+pub(crate) fn pcr_properties(elements: &mut Elements)
+    requires { elements.old.items ≡ [] }
+    ensures { elements.new.items ≡ pcr_property_elements }
+{
+    elements.push(Element::new(0x00, 0x00_ffff));
+    elements.push(Element::new(0x01, 0x81_ffff));
+    elements.push(Element::new(0x02, 0x81_0000));
+    elements.push(Element::new(0x03, 0x81_ffff));
+    elements.push(Element::new(0x04, 0x81_0000));
+    elements.push(Element::new(0x05, 0xff_ffff));
+    elements.push(Element::new(0x06, 0x81_0000));
+    elements.push(Element::new(0x07, 0xff_ffff));
+    elements.push(Element::new(0x08, 0x81_0000));
+    elements.push(Element::new(0x09, 0xff_ffff));
+    elements.push(Element::new(0x0a, 0xff_0000));
+    elements.push(Element::new(0x11, 0));
+    elements.push(Element::new(0x13, 0));
+    elements.push(Element::new(0x14, 0));
 }

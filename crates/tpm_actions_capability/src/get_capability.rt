@@ -5,18 +5,23 @@ ghost use Rattle.std.specs.Prelude.{◌≡◌, []};
 ghost use Rattle.tpm_record.specs.rows.Request.{request_of};
 ghost use Rattle.tpm_record.specs.rows.Rows.{Acts};
 ghost use Rattle.tpm_actions_capability.specs.Element.{listing};
-ghost use Rattle.tpm_actions_capability.specs.Elements.{command_elements, property_elements};
-ghost use Rattle.tpm_actions_capability.specs.GetCapability.{Tells, capability_of, capability_parameters, first_handle_of};
+ghost use Rattle.tpm_actions_capability.specs.Algorithms.{algorithm_elements};
+ghost use Rattle.tpm_actions_capability.specs.Elements.{command_elements};
+ghost use Rattle.tpm_actions_capability.specs.PcrProperties.{pcr_property_elements};
+ghost use Rattle.tpm_actions_capability.specs.Properties.{property_elements};
+ghost use Rattle.tpm_actions_capability.specs.GetCapability.{Tells, capability_of, capability_parameters, first_handle_of, further_capability_of};
 ghost use Rattle.tpm_actions_capability.specs.GetCapability.{get_capability_row, handle_elements, pcrs_text, told_of};
 ghost use Rattle.tpm_actions_capability.specs.declared.element.Telling.TheVariants as tell;
 ghost use Rattle.tpm_actions_capability.specs.declared.get_capability.Capability.TheVariants.{Handles};
 
 use crate::element::{Elements, Telling, list};
 use crate::elements::{
-    commands, indices, objects, pcrs, permanent, persistent, properties, sessions,
+    algorithms, commands, indices, objects, pcr_properties, pcrs, permanent, persistent, sessions,
 };
+use crate::properties::properties;
 use arrayvec::ArrayVec;
 use tpm_bytes::Cursor;
+use tpm_commands::Profile;
 use tpm_mac::HashAlg;
 use tpm_record::Keep;
 use tpm_record::rows::answer::{Answer, Parameters};
@@ -42,6 +47,10 @@ pub enum Capability {
     Commands,
     Pcrs,
     Properties,
+    Algorithms,
+    PcrProperties,
+    /// Something that the device does not have.
+    Nothing,
 }
 
 #[tactic(auto, unfolding(crate::specs::GetCapability::capability_parameters))]
@@ -61,16 +70,30 @@ fn read_parameters(parameters: &[u8]) -> Result<CapabilityParameters, Refused>
 }
 
 impl Capability {
-    /// The capability with this number. Returns VALUE if it is not supported.
-    fn of(number: u32) -> Result<Capability, Refused>
-        ensures { result ≡ capability_of number }
+    /// The capability with this number, if only the complete profile has it. Returns VALUE if it is
+    /// not supported.
+    fn further(profile: Profile, number: u32) -> Result<Capability, Refused>
+        ensures { result ≡ further_capability_of profile number }
+    {
+        match (profile, number) {
+            (Profile::Complete, 0) => Ok(Capability::Algorithms),
+            (Profile::Complete, 3 | 4 | 8) => Ok(Capability::Nothing),
+            (Profile::Complete, 7) => Ok(Capability::PcrProperties),
+            _ => Err(parameter_refusal(ActionCheck::First, 1, ResponseCode::Value)),
+        }
+    }
+
+    /// The capability with this number. Returns VALUE if a device of this profile does not support
+    /// it.
+    fn of(profile: Profile, number: u32) -> Result<Capability, Refused>
+        ensures { result ≡ capability_of profile number }
     {
         match number {
             1 => Ok(Capability::Handles),
             2 => Ok(Capability::Commands),
             5 => Ok(Capability::Pcrs),
             6 => Ok(Capability::Properties),
-            _ => Err(parameter_refusal(ActionCheck::First, 1, ResponseCode::Value)),
+            _ => Capability::further(profile, number),
         }
     }
 }
@@ -127,12 +150,13 @@ fn tell_handles<K: Keep>(
     Ok(())
 }
 
-fn tell_commands(asked: CapabilityParameters, text: &mut Parameters)
+fn tell_commands(profile: Profile, asked: CapabilityParameters, text: &mut Parameters)
     requires { text.old ≡ [] }
-    ensures { text.new ≡ listing tell.Value 2 asked.property asked.count command_elements }
+    ensures { text.new ≡ listing tell.Value 2 asked.property asked.count
+        (command_elements profile) }
 {
     let mut elements = ArrayVec::new();
-    commands(&mut elements);
+    commands(profile, &mut elements);
     list(
         elements.as_slice(),
         Telling::Value,
@@ -165,15 +189,63 @@ fn tell_pcrs(text: &mut Parameters)
 fn tell_properties<K: Keep>(keep: &K, asked: CapabilityParameters, text: &mut Parameters)
     requires { text.old ≡ [] }
     ensures { text.new ≡ listing tell.NumberAndValue 6 asked.property asked.count
-        (property_elements (K.record_of keep.now).fixed.lockout) }
+        (property_elements (K.record_of keep.now).fixed.profile (K.record_of keep.now)) }
 {
     let mut elements = ArrayVec::new();
-    properties(&keep.fixed().lockout, &mut elements);
+    properties(keep.fixed().profile, keep, &mut elements);
     let telling = Telling::NumberAndValue;
     list(
         elements.as_slice(),
         telling,
         6,
+        asked.property,
+        asked.count,
+        text,
+    );
+}
+
+fn tell_algorithms(asked: CapabilityParameters, text: &mut Parameters)
+    requires { text.old ≡ [] }
+    ensures { text.new ≡ listing tell.Algorithm 0 asked.property asked.count algorithm_elements }
+{
+    let mut elements = ArrayVec::new();
+    algorithms(&mut elements);
+    list(
+        elements.as_slice(),
+        Telling::Algorithm,
+        0,
+        asked.property,
+        asked.count,
+        text,
+    );
+}
+
+fn tell_pcr_properties(asked: CapabilityParameters, text: &mut Parameters)
+    requires { text.old ≡ [] }
+    ensures { text.new
+        ≡ listing tell.Selection 7 asked.property asked.count pcr_property_elements }
+{
+    let mut elements = ArrayVec::new();
+    pcr_properties(&mut elements);
+    list(
+        elements.as_slice(),
+        Telling::Selection,
+        7,
+        asked.property,
+        asked.count,
+        text,
+    );
+}
+
+/// Writes an empty list for the requested capability.
+fn tell_nothing(asked: CapabilityParameters, text: &mut Parameters)
+    requires { text.old ≡ [] }
+    ensures { text.new ≡ listing tell.Value asked.capability asked.property asked.count [] }
+{
+    list(
+        &[],
+        Telling::Value,
+        asked.capability,
         asked.property,
         asked.count,
         text,
@@ -193,11 +265,14 @@ pub fn get_capability<K: Keep>(
     answer.clear();
     let asked = read_parameters(call.parameters)?;
     let text = &mut answer.parameters;
-    match Capability::of(asked.capability)? {
+    match Capability::of(keep.fixed().profile, asked.capability)? {
         Capability::Handles => tell_handles(keep, asked, text)?,
-        Capability::Commands => tell_commands(asked, text),
+        Capability::Commands => tell_commands(keep.fixed().profile, asked, text),
         Capability::Pcrs => tell_pcrs(text),
         Capability::Properties => tell_properties(keep, asked, text),
+        Capability::Algorithms => tell_algorithms(asked, text),
+        Capability::PcrProperties => tell_pcr_properties(asked, text),
+        Capability::Nothing => tell_nothing(asked, text),
     }
     Ok(())
 }

@@ -2,10 +2,17 @@ pub mod PcrChange
 pub mod Startup
 pub mod Clear
 pub mod ClearControl
+pub mod ClockSet
+pub mod ClockRateAdjust
 pub mod Shutdown
 pub mod SelfTest
+pub mod IncrementalSelfTest
+pub mod TestParms
+pub mod Hash
 pub mod ReadClock
 pub mod GetRandom
+pub mod StirRandom
+pub mod GetTestResult
 pub mod PcrRead
 pub mod PcrExtend
 pub mod PcrEvent

@@ -11,11 +11,16 @@
 
 pub mod clear;
 pub mod clear_control;
+pub mod clock_rate_adjust;
+pub mod clock_set;
 pub mod dictionary_attack_lock_reset;
 pub mod dictionary_attack_parameters;
 pub mod flush_context;
 pub mod get_random;
+pub mod get_test_result;
+pub mod hash;
 pub mod hierarchy_change_auth;
+pub mod incremental_self_test;
 mod pcr_change;
 pub mod pcr_event;
 pub mod pcr_extend;
@@ -26,3 +31,5 @@ pub mod self_test;
 pub mod shutdown;
 pub mod start_auth_session;
 pub mod startup;
+pub mod stir_random;
+pub mod test_parms;

@@ -7,10 +7,12 @@ use Rattle.tpm_session.specs.declared.session.Session.{Session}
 use Rattle.tpm_types_common.specs.declared.rc.ResponseCode.TheVariants as code
 use Rattle.tpm_types_common.specs.Rc.{plain}
 use Rattle.tpm_types_common.specs.declared.refused.Refused.{Refused}
+use Rattle.tpm_record.specs.Record.{Record}
 use Rattle.tpm_record.specs.rows.Rows.{only}
 
--- the assertion of TPM2_PolicyCommandCode. Parameter: code, the only command that is allowed
-abbrev pub command_code_assertion : List ℕ → Result (Session → Assertion) Refused
-command_code_assertion text = do
+-- the assertion of TPM2_PolicyCommandCode. Parameter: code, the only command that is allowed, which
+-- the device must serve
+abbrev pub command_code_assertion : Record → List ℕ → Result (Session → Assertion) Refused
+command_code_assertion r text = do
   number ← only (or_fault (number_at w32 text) (plain code.Insufficient))
-  Ok (λ s. CommandCode number)
+  Ok (λ s. CommandCode r.fixed.profile number)

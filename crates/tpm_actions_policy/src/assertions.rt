@@ -58,7 +58,9 @@ impl AssertionParameters<'_> {
                 policy.password(hash);
                 Ok(())
             }
-            AssertionParameters::CommandCode(number) => policy.command_code(hash, number),
+            AssertionParameters::CommandCode(number) => {
+                policy.command_code(hash, keep.fixed().profile, number)
+            }
             AssertionParameters::CpHash(cp_hash) => policy.cp_hash(hash, cp_hash),
             AssertionParameters::NvWritten(is_written) => policy.nv_written(hash, is_written),
             AssertionParameters::Locality(localities) => policy.locality(hash, localities),

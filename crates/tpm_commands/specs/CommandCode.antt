@@ -1,10 +1,12 @@
 -- The facts about a command: its number, its name, and how it uses its handles and its first
 -- parameter. TPM 2.0 Library, Part 2, section 6.5.2 (TPM_CC), and Part 3.
-use Rattle.std.specs.Prelude.{ℕ, ◌==◌, nat_eq, is_some, count_by, Bool, true, false, List, [], ◌∷◌, length, Option, slice_get}
+use Rattle.std.specs.Prelude.{ℕ, ◌==◌, nat_eq, is_some, not, count_by, Bool, true, false, List, [], ◌∷◌, length, Option, slice_get}
 use Rattle.std.specs.Cmp.Lexicographic.{pointwise}
 use Rattle.std.specs.List.{find}
 use Rattle.std.specs.Option.{option_map_or, unwrap_or}
 use Rattle.tpm_commands.specs.declared.command_code.CommandCode.{CommandCode}
+use Rattle.tpm_commands.specs.declared.profile.Profile.{Profile}
+use Rattle.tpm_commands.specs.declared.profile.Profile.TheVariants.{Symmetric, Complete}
 use Rattle.tpm_commands.specs.declared.shape.HandleRule.{HandleRule}
 use Rattle.tpm_commands.specs.declared.shape.ParameterKind.{ParameterKind}
 use Rattle.tpm_types_common.specs.declared.nv_use.NvUse.{NvUse}
@@ -35,9 +37,20 @@ shape_of code = (command_facts code).shape
 unfoldable pub code_named : ℕ → Option CommandCode
 code_named number = find (λ code. code_number code == number) all_codes
 
--- whether a command with this number is supported, and therefore whether a policy can name it
-abbrev pub is_served : ℕ → Bool
-is_served number = is_some (code_named number)
+-- whether a device of this profile serves a command. Every device serves the commands of the
+-- symmetric profile
+abbrev pub serves : Profile → CommandCode → Bool
+serves Complete code = true
+serves Symmetric code = not (shape_of code).complete_only
+
+-- the number of commands that a device of this profile serves
+abbrev pub served_count : Profile → ℕ
+served_count profile = count_by (serves profile) all_codes
+
+-- whether a device of this profile serves a command with this number, and therefore whether a policy
+-- can name it
+abbrev pub is_served : Profile → ℕ → Bool
+is_served profile number = option_map_or (serves profile) (code_named number) false
 
 -- the command with this name, or None if it is not supported
 unfoldable pub code_called : List ℕ → Option CommandCode

@@ -12,7 +12,7 @@ use Rattle.tpm_commands.specs.declared.shape.ParameterKind.{ParameterKind}
 use Rattle.tpm_commands.specs.declared.shape.ParameterKind.TheVariants as parameter
 use Rattle.tpm_commands.specs.Part.{Part, Nothing, Sessions, Objects, SessionsAndObjects, Persistent, NvData}
 use Rattle.tpm_commands.specs.Part.{NvCounter, NvAuthValue, NvDefined, NvUndefined, AuthValues, Lockout, Banks}
-use Rattle.tpm_commands.specs.Part.{Beginning, Saved, DisableClear, Cleared}
+use Rattle.tpm_commands.specs.Part.{Beginning, Saved, DisableClear, Clock, Cleared}
 use Rattle.tpm_commands.specs.Shape.{Facts, admin, rule_without_role, shape_with, user}
 
 pub record CommandFacts : Type 0 where
@@ -51,6 +51,10 @@ reading shape = record shape { reads_nv = true }
 -- the shape of a command that does not allow sessions
 abbrev pub without_sessions : Facts → Facts
 without_sessions shape = record shape { forbids_sessions = true }
+
+-- the shape of a command that only a device of the complete profile serves
+abbrev pub of_complete : Facts → Facts
+of_complete shape = record shape { complete_only = true }
 
 -- the shape of a command that creates a session or an object, and can run out of memory. The
 -- command returns the new handle, followed by a sized buffer
@@ -104,6 +108,10 @@ create_parameters =
 abbrev pub define_parameters : List ParameterKind
 define_parameters = parameter.Buffer 32 ∷ parameter.NvPublic ∷ []
 
+-- the parameters of TPM2_Hash: data, hashAlg, hierarchy
+abbrev pub hash_parameters : List ParameterKind
+hash_parameters = parameter.Buffer data_limit ∷ parameter.Hash ∷ parameter.Hierarchy ∷ []
+
 -- the handles of TPM2_PolicySecret: authHandle, policySession
 abbrev pub secret_handles : List HandleRule
 secret_handles = user kind.EntityNotNull ∷ rule_without_role kind.PolicySession ∷ []
@@ -137,12 +145,18 @@ command_facts code.NvUndefineSpace =
 command_facts code.Clear = facts 0x126 "Clear" Cleared (on_clear [])
 command_facts code.ClearControl =
     facts 0x127 "ClearControl" DisableClear (on_clear (parameter.YesNo ∷ []))
+command_facts code.ClockSet =
+    facts 0x128 "ClockSet" Clock
+    (of_complete (shape_with (user kind.Provision ∷ []) (parameter.U64 ∷ [])))
 command_facts code.HierarchyChangeAuth =
     facts 0x129 "HierarchyChangeAuth" AuthValues
     (shape_with (user kind.HierarchyAuth ∷ []) (parameter.Buffer 32 ∷ []))
 command_facts code.NvDefineSpace =
     facts 0x12a "NV_DefineSpace" NvDefined
     (growing (shape_with (user kind.Provision ∷ []) define_parameters))
+command_facts code.ClockRateAdjust =
+    facts 0x130 "ClockRateAdjust" Nothing
+    (of_complete (keeping (shape_with (user kind.Provision ∷ []) (parameter.U8 ∷ []))))
 command_facts code.CreatePrimary =
     facts 0x131 "CreatePrimary" Objects
     (making (shape_with (user kind.Hierarchy ∷ []) create_parameters))
@@ -165,12 +179,18 @@ command_facts code.PcrEvent =
     facts 0x13c "PCR_Event" Banks
     (shape_with (user kind.PcrOrNull ∷ []) (parameter.Buffer data_limit ∷ []))
 command_facts code.PcrReset = facts 0x13d "PCR_Reset" Banks (shape_with (user kind.Pcr ∷ []) [])
+command_facts code.IncrementalSelfTest =
+    facts 0x142 "IncrementalSelfTest" Nothing
+    (of_complete (keeping (shape_with [] (parameter.AlgorithmList ∷ []))))
 command_facts code.SelfTest =
     facts 0x143 "SelfTest" Nothing (keeping (shape_with [] (parameter.YesNo ∷ [])))
 command_facts code.Startup =
     facts 0x144 "Startup" Beginning (without_sessions (shape_with [] (parameter.StartupType ∷ [])))
 command_facts code.Shutdown =
     facts 0x145 "Shutdown" Saved (keeping (shape_with [] (parameter.StartupType ∷ [])))
+command_facts code.StirRandom =
+    facts 0x146 "StirRandom" Nothing
+    (of_complete (keeping (shape_with [] (parameter.Buffer 128 ∷ []))))
 command_facts code.PolicyNv =
     facts 0x149 "PolicyNV" Sessions (reading (shape_with compared_handles compared_parameters))
 command_facts code.NvRead =
@@ -212,6 +232,12 @@ command_facts code.GetCapability =
     (keeping (shape_with [] (parameter.U32 ∷ parameter.U32 ∷ parameter.U32 ∷ [])))
 command_facts code.GetRandom =
     facts 0x17b "GetRandom" Nothing (keeping (answering (shape_with [] (parameter.U16 ∷ []))))
+command_facts code.GetTestResult =
+    facts 0x17c "GetTestResult" Nothing
+    (of_complete (keeping (answering (shape_with [] []))))
+command_facts code.Hash =
+    facts 0x17d "Hash" Nothing
+    (of_complete (keeping (answering (shape_with [] hash_parameters))))
 command_facts code.PcrRead =
     facts 0x17e "PCR_Read" Nothing (keeping (shape_with [] (parameter.Selection ∷ [])))
 command_facts code.PolicyPcr =
@@ -223,6 +249,9 @@ command_facts code.PcrExtend =
     facts 0x182 "PCR_Extend" Banks (shape_with (user kind.PcrOrNull ∷ []) (parameter.Digests ∷ []))
 command_facts code.PolicyGetDigest =
     facts 0x189 "PolicyGetDigest" Nothing (keeping (answering (on_policy [])))
+command_facts code.TestParms =
+    facts 0x18a "TestParms" Nothing
+    (of_complete (keeping (shape_with [] (parameter.PublicParameters ∷ []))))
 command_facts code.PolicyPassword = facts 0x18c "PolicyPassword" Sessions (on_policy [])
 command_facts code.PolicyNvWritten =
     facts 0x18f "PolicyNvWritten" Sessions (on_policy (parameter.YesNo ∷ []))
@@ -234,8 +263,10 @@ all_codes =
     ∷ code.NvUndefineSpace
     ∷ code.Clear
     ∷ code.ClearControl
+    ∷ code.ClockSet
     ∷ code.HierarchyChangeAuth
     ∷ code.NvDefineSpace
+    ∷ code.ClockRateAdjust
     ∷ code.CreatePrimary
     ∷ code.NvIncrement
     ∷ code.NvSetBits
@@ -247,9 +278,11 @@ all_codes =
     ∷ code.NvChangeAuth
     ∷ code.PcrEvent
     ∷ code.PcrReset
+    ∷ code.IncrementalSelfTest
     ∷ code.SelfTest
     ∷ code.Startup
     ∷ code.Shutdown
+    ∷ code.StirRandom
     ∷ code.PolicyNv
     ∷ code.NvRead
     ∷ code.NvReadLock
@@ -269,12 +302,15 @@ all_codes =
     ∷ code.StartAuthSession
     ∷ code.GetCapability
     ∷ code.GetRandom
+    ∷ code.GetTestResult
+    ∷ code.Hash
     ∷ code.PcrRead
     ∷ code.PolicyPcr
     ∷ code.PolicyRestart
     ∷ code.ReadClock
     ∷ code.PcrExtend
     ∷ code.PolicyGetDigest
+    ∷ code.TestParms
     ∷ code.PolicyPassword
     ∷ code.PolicyNvWritten
     ∷ []

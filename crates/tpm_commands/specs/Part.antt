@@ -33,5 +33,7 @@ pub data Part : Type 0 where
   Saved : Part
   -- whether TPM2_Clear is disabled
   DisableClear : Part
+  -- Clock
+  Clock : Part
   -- what TPM2_Clear removes, including objects and NV indices
   Cleared : Part

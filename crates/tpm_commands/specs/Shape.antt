@@ -70,6 +70,9 @@ is_sized parameter.Digests = false
 is_sized parameter.DigestList = false
 is_sized parameter.Operation = false
 is_sized parameter.PersistentHandle = false
+is_sized parameter.Hierarchy = false
+is_sized parameter.AlgorithmList = false
+is_sized parameter.PublicParameters = false
 is_sized parameter.YesNo = false
 
 -- the shape of a command, as a value: it has lists where `Shape` has slices
@@ -92,6 +95,8 @@ pub record Facts : Type 0 where
   -- whether the command, if it succeeds, preserves the state that TPM2_Shutdown saved. If false,
   -- the command's success discards that state (Part 3, section 9.4)
   pub keeps_shutdown : Bool
+  -- whether only a device of the complete profile serves the command
+  pub complete_only : Bool
 
 abbrev pub facts_of : Shape → Facts
 facts_of s = record {
@@ -103,6 +108,7 @@ facts_of s = record {
   grows = s.grows;
   reads_nv = s.reads_nv;
   keeps_shutdown = s.keeps_shutdown;
+  complete_only = s.complete_only;
 }
 
 -- the rule for a handle that is authorized in the role USER
@@ -128,4 +134,5 @@ shape_with handles parameters = record {
   grows = false;
   reads_nv = false;
   keeps_shutdown = false;
+  complete_only = false;
 }

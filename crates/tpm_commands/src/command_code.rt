@@ -4,22 +4,25 @@
 ghost use Rattle.std.specs.Prelude.{◌≡◌, ◌≤◌, ◌==◌, IfSome, Some, length, true};
 
 use crate::shape::ParameterKind::{
-    Buffer, DigestList, Digests, Hash, HashOrNull, NvPublic, Operation, PersistentHandle, Public,
-    Selection, SensitiveCreate, SessionType, StartupType, Symmetric, U8, U16, U32, U64, YesNo,
+    AlgorithmList, Buffer, DigestList, Digests, Hash, HashOrNull, Hierarchy, NvPublic, Operation,
+    PersistentHandle, Public, PublicParameters, Selection, SensitiveCreate, SessionType,
+    StartupType, Symmetric, U8, U16, U32, U64, YesNo,
 };
 use crate::shape::{HandleKind, HandleRule, ParameterKind, Shape};
 use tpm_types_common::{DATA_LIMIT, NvUse, Role};
 
-/// The supported commands, in ascending order of number. Each line of `facts!` contains all facts
-/// about one command.
+/// The commands of both profiles, in ascending order of number. Each line of `facts!` contains all
+/// facts about one command.
 #[derive(Clone, Copy, PartialEq, Eq)]
 pub enum CommandCode {
     EvictControl,
     NvUndefineSpace,
     Clear,
     ClearControl,
+    ClockSet,
     HierarchyChangeAuth,
     NvDefineSpace,
+    ClockRateAdjust,
     CreatePrimary,
     NvIncrement,
     NvSetBits,
@@ -31,9 +34,11 @@ pub enum CommandCode {
     NvChangeAuth,
     PcrEvent,
     PcrReset,
+    IncrementalSelfTest,
     SelfTest,
     Startup,
     Shutdown,
+    StirRandom,
     PolicyNv,
     NvRead,
     NvReadLock,
@@ -53,12 +58,15 @@ pub enum CommandCode {
     StartAuthSession,
     GetCapability,
     GetRandom,
+    GetTestResult,
+    Hash,
     PcrRead,
     PolicyPcr,
     PolicyRestart,
     ReadClock,
     PcrExtend,
     PolicyGetDigest,
+    TestParms,
     PolicyPassword,
     PolicyNvWritten,
 }
@@ -159,6 +167,9 @@ const SECRET: &[ParameterKind] = &[Buffer(32), Buffer(32), Buffer(32), U32];
 /// The parameters of TPM2_PolicyNV: operandB, offset, operation.
 const COMPARED: &[ParameterKind] = &[Buffer(32), U16, Operation];
 
+/// The parameters of TPM2_Hash: data, hashAlg, hierarchy.
+const HASHED: &[ParameterKind] = &[Buffer(DATA_SIZE), Hash, Hierarchy];
+
 /// The parameters of TPM2_StartAuthSession: nonceCaller, encryptedSalt, sessionType, symmetric,
 /// authHash.
 const START: &[ParameterKind] = &[Buffer(32), Buffer(32), SessionType, Symmetric, Hash];
@@ -171,6 +182,7 @@ macro_rules! holds {
     (grows: grows $($rest:ident)*) => { true };
     (reads_nv: reads_nv $($rest:ident)*) => { true };
     (keeps_shutdown: keeps_shutdown $($rest:ident)*) => { true };
+    (complete_only: complete_only $($rest:ident)*) => { true };
     ($fact:ident: $other:ident $($rest:ident)*) => { holds!($fact: $($rest)*) };
     ($fact:ident:) => { false };
 }
@@ -187,8 +199,14 @@ macro_rules! shape {
             grows: holds!(grows: $($fact)*),
             reads_nv: holds!(reads_nv: $($fact)*),
             keeps_shutdown: holds!(keeps_shutdown: $($fact)*),
+            complete_only: holds!(complete_only: $($fact)*),
         }
     };
+}
+
+/// Whether only a device of the complete profile serves a command with these facts.
+macro_rules! complete_only {
+    ([$($handle:expr),*], $parameters:expr $(, $fact:ident)*) => { holds!(complete_only: $($fact)*) };
 }
 
 /// Expands to one column of the table `facts!`: all commands; the number, name or shape of a
@@ -206,6 +224,9 @@ macro_rules! column {
     (name of $code:expr; $($number:literal $variant:ident $name:literal $shape:tt)*) => {
         match $code { $(CommandCode::$variant => $name,)* }
     };
+    (complete_only of $code:expr; $($number:literal $variant:ident $name:literal $shape:tt)*) => {
+        match $code { $(CommandCode::$variant => complete_only! $shape,)* }
+    };
     (shape of $code:expr; $($number:literal $variant:ident $name:literal $shape:tt)*) => {
         match $code { $(CommandCode::$variant => shape! $shape,)* }
     };
@@ -222,8 +243,11 @@ macro_rules! facts {
             0x122 NvUndefineSpace "NV_UndefineSpace" ([USER_PROVISION, NV_INDEX], &[])
             0x126 Clear "Clear" ([USER_CLEAR], &[])
             0x127 ClearControl "ClearControl" ([USER_CLEAR], &[YesNo])
+            0x128 ClockSet "ClockSet" ([USER_PROVISION], &[U64], complete_only)
             0x129 HierarchyChangeAuth "HierarchyChangeAuth" ([USER_HIERARCHY_AUTH], &[Buffer(32)])
             0x12a NvDefineSpace "NV_DefineSpace" ([USER_PROVISION], &[Buffer(32), NvPublic], grows)
+            0x130 ClockRateAdjust "ClockRateAdjust"
+                ([USER_PROVISION], &[U8], keeps_shutdown, complete_only)
             0x131 CreatePrimary "CreatePrimary"
                 ([USER_HIERARCHY], CREATE, sized_answer, answers_handle, grows)
             0x134 NvIncrement "NV_Increment" ([USER_NV_AUTH, NV_INDEX], &[])
@@ -237,9 +261,12 @@ macro_rules! facts {
             0x13b NvChangeAuth "NV_ChangeAuth" ([ADMIN_NV_INDEX], &[Buffer(32)])
             0x13c PcrEvent "PCR_Event" ([USER_PCR_OR_NULL], &[Buffer(DATA_SIZE)])
             0x13d PcrReset "PCR_Reset" ([USER_PCR], &[])
+            0x142 IncrementalSelfTest "IncrementalSelfTest"
+                ([], &[AlgorithmList], keeps_shutdown, complete_only)
             0x143 SelfTest "SelfTest" ([], &[YesNo], keeps_shutdown)
             0x144 Startup "Startup" ([], &[StartupType], forbids_sessions)
             0x145 Shutdown "Shutdown" ([], &[StartupType], keeps_shutdown)
+            0x146 StirRandom "StirRandom" ([], &[Buffer(128)], keeps_shutdown, complete_only)
             0x149 PolicyNv "PolicyNV" ([USER_NV_AUTH, NV_INDEX, POLICY_SESSION], COMPARED, reads_nv)
             0x14e NvRead "NV_Read"
                 ([USER_NV_AUTH, NV_INDEX], &[U16, U16], sized_answer, reads_nv, keeps_shutdown)
@@ -263,6 +290,9 @@ macro_rules! facts {
                 ([NULL, ENTITY], START, sized_answer, answers_handle, grows)
             0x17a GetCapability "GetCapability" ([], &[U32, U32, U32], keeps_shutdown)
             0x17b GetRandom "GetRandom" ([], &[U16], sized_answer, keeps_shutdown)
+            0x17c GetTestResult "GetTestResult"
+                ([], &[], sized_answer, keeps_shutdown, complete_only)
+            0x17d Hash "Hash" ([], HASHED, sized_answer, keeps_shutdown, complete_only)
             0x17e PcrRead "PCR_Read" ([], &[Selection], keeps_shutdown)
             0x17f PolicyPcr "PolicyPCR" ([POLICY_SESSION], &[Buffer(32), Selection])
             0x180 PolicyRestart "PolicyRestart" ([POLICY_SESSION], &[])
@@ -270,6 +300,7 @@ macro_rules! facts {
             0x182 PcrExtend "PCR_Extend" ([USER_PCR_OR_NULL], &[Digests])
             0x189 PolicyGetDigest "PolicyGetDigest"
                 ([POLICY_SESSION], &[], sized_answer, keeps_shutdown)
+            0x18a TestParms "TestParms" ([], &[PublicParameters], keeps_shutdown, complete_only)
             0x18c PolicyPassword "PolicyPassword" ([POLICY_SESSION], &[])
             0x18f PolicyNvWritten "PolicyNvWritten" ([POLICY_SESSION], &[YesNo])
         }
@@ -277,7 +308,7 @@ macro_rules! facts {
 }
 
 impl CommandCode {
-    ghost use Rattle.tpm_commands.specs.CommandCode.{authorized_handles, code_called, code_name, code_named, code_number, handle_count, has_sized_parameter, is_served, nv_use_at, role_at, shape_of};
+    ghost use Rattle.tpm_commands.specs.CommandCode.{authorized_handles, code_called, code_name, code_named, code_number, handle_count, has_sized_parameter, nv_use_at, role_at, shape_of};
     ghost use Rattle.tpm_commands.specs.Shape.{facts_of};
 
     /// All supported commands, in ascending order of number.
@@ -291,14 +322,6 @@ impl CommandCode {
         ensures again { code_named result ≡ Some self }
     {
         facts!(number of self)
-    }
-
-    /// Whether a command with this number is supported, and therefore whether a policy can name
-    /// it.
-    pub fn is_served(number: u32) -> bool
-        ensures { result ≡ is_served number }
-    {
-        CommandCode::named(number).is_some()
     }
 
     /// The command with this number, or None if it is not supported.
@@ -340,6 +363,14 @@ impl CommandCode {
         ensures few { length result.handles.now ≤ 3 }
     {
         facts!(shape of self)
+    }
+
+    /// Whether only a device of the complete profile serves the command.
+    #[tactic(auto, unfolding(crate::specs::CommandCode::shape_of))]
+    pub fn is_complete_only(self) -> bool
+        ensures { result ≡ (shape_of self).complete_only }
+    {
+        facts!(complete_only of self)
     }
 
     /// The number of handles after the command's header.

@@ -11,8 +11,10 @@
 
 pub mod command_code;
 pub mod handle_area;
+pub mod profile;
 pub mod shape;
 
 pub use command_code::CommandCode;
 pub use handle_area::read_handles;
+pub use profile::Profile;
 pub use shape::{HandleKind, HandleRule, ParameterKind};

@@ -128,6 +128,12 @@ pub enum ParameterKind {
     Operation,
     /// The handle of a persistent object: TPMI_DH_PERSISTENT.
     PersistentHandle,
+    /// The handle of a hierarchy or TPM_RH_NULL: TPMI_RH_HIERARCHY+.
+    Hierarchy,
+    /// A list of algorithms: TPML_ALG.
+    AlgorithmList,
+    /// The type of an object and the parameters of its public area: TPMT_PUBLIC_PARMS.
+    PublicParameters,
     /// A yes-or-no value: TPMI_YES_NO.
     YesNo,
 }
@@ -158,6 +164,9 @@ impl ParameterKind {
             | ParameterKind::DigestList
             | ParameterKind::Operation
             | ParameterKind::PersistentHandle
+            | ParameterKind::Hierarchy
+            | ParameterKind::AlgorithmList
+            | ParameterKind::PublicParameters
             | ParameterKind::YesNo => false,
         }
     }
@@ -182,4 +191,6 @@ pub struct Shape {
     /// Whether the command, if it succeeds, preserves the state that TPM2_Shutdown saved. If false,
     /// the command's success discards that state.
     pub keeps_shutdown: bool,
+    /// Whether only a device of the complete profile serves the command.
+    pub complete_only: bool,
 }

@@ -7,10 +7,11 @@ use Rattle.std.specs.List.{flat_map}
 use Rattle.tpm_bytes.specs.Reading.{◌>>=◌, number_at, refused_if, too_short}
 use Rattle.tpm_bytes.specs.declared.cursor.Short.{Short}
 use Rattle.tpm_commands.specs.CommandFacts.{all_codes}
+use Rattle.tpm_commands.specs.declared.profile.Profile.TheVariants as profile
 use Rattle.tpm_commands.specs.declared.command_code.CommandCode.{CommandCode}
 use Rattle.tpm_commands.specs.declared.command_code.CommandCode.TheVariants as command
 use Rattle.tpm_record.specs.Record.{Record}
-use Rattle.tpm_actions_capability.specs.Elements.{command_element, object_elements}
+use Rattle.tpm_actions_capability.specs.Elements.{served_element, object_elements}
 use Rattle.tpm_actions_capability.specs.declared.element.Element.{Element}
 use Rattle.tpm_completion.specs.Answer.{is_refusal}
 use Rattle.tpm_completion.specs.Handles.{sessions_shown}
@@ -65,9 +66,9 @@ own_before command.PolicyPassword = element 0x18a 0x18a ∷ []
 own_before _ = []
 
 -- the elements of the layer's own commands that directly precede a command, and the element of the
--- command itself
+-- command itself, if the device serves it
 unfoldable pub commands_by : CommandCode → List Element
-commands_by code = own_before code ++ command_element code ∷ []
+commands_by code = own_before code ++ served_element profile.Symmetric code
 
 abbrev pub command_elements : List Element
 command_elements = flat_map commands_by all_codes

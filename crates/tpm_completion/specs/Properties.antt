@@ -9,7 +9,8 @@ use Rattle.tpm_nv.specs.declared.head.Head.{Head}
 use Rattle.tpm_types_common.specs.Limits.{buffer_limit, data_limit, nv_data_limit, nv_index_limit, object_limit, persistent_limit, session_limit}
 use Rattle.tpm_types_nv.specs.NvAttributes.{is_of}
 use Rattle.tpm_types_nv.specs.declared.nv_type.NvType.TheVariants as type
-use Rattle.tpm_commands.specs.CommandFacts.{all_codes}
+use Rattle.tpm_commands.specs.CommandCode.{served_count}
+use Rattle.tpm_commands.specs.declared.profile.Profile.TheVariants.{Symmetric}
 use Rattle.tpm_record.specs.Record.{Record}
 use Rattle.tpm_record.specs.declared.fixed.Fixed.{Fixed}
 use Rattle.tpm_record.specs.declared.hierarchy.Hierarchies.{Hierarchies}
@@ -29,7 +30,7 @@ own_count = 12
 
 -- the number of all commands, each of which the TPM 2.0 Library defines
 abbrev pub command_count : ℕ
-command_count = length all_codes + own_count
+command_count = served_count Symmetric + own_count
 
 -- the device's manufacturer and specification: family "2.0", level 0, revision 1.38 of 29 September
 -- 2016, manufacturer "TSIM", vendor "tpmsim", model 1, firmware 1.0

@@ -22,14 +22,14 @@ use crate::properties::properties;
 use arrayvec::ArrayVec;
 use tpm_actions_capability::element::Element;
 use tpm_bytes::{Cursor, Short, Sink};
-use tpm_commands::CommandCode;
+use tpm_commands::{CommandCode, Profile};
 use tpm_record::Keep;
 
 /// The bytes of a list in the answer to TPM2_GetCapability.
 pub type Listing = Sink<LISTING_LIMIT>;
 
 /// The capacity of a list of commands: three elements for each command of the device.
-const COMMANDS_ROOM: usize = 160;
+const COMMANDS_ROOM: usize = 192;
 
 type Commands = ArrayVec<Element, COMMANDS_ROOM>;
 
@@ -120,7 +120,9 @@ fn list_command(code: CommandCode, elements: &mut Commands)
         CommandCode::PolicyPassword => elements.push(element(0x18a, 0x18a)),
         _ => {}
     }
-    elements.push(command(code));
+    if Profile::Symmetric.serves(code) {
+        elements.push(command(code));
+    }
 }
 
 /// Lists these commands, each after the layer's own commands that precede it.

@@ -10,7 +10,7 @@ use crate::handles::{objects, sessions};
 use crate::listing::{Elements, element};
 use arrayvec::ArrayVec;
 use tpm_actions_capability::element::Element;
-use tpm_commands::CommandCode;
+use tpm_commands::Profile;
 use tpm_context::CONTEXT_SIZE;
 use tpm_lockout::Lockout;
 use tpm_nv::{Head, Indices};
@@ -28,7 +28,7 @@ const OWN_COUNT: u32 = 12;
 fn command_count() -> u32
     ensures { result ≡ command_count }
 {
-    CommandCode::ALL.len() as u32 + OWN_COUNT
+    Profile::Symmetric.served_count() as u32 + OWN_COUNT
 }
 
 /// The properties that state the device's manufacturer and specification.

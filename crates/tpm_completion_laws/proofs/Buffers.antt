@@ -19,7 +19,7 @@ use Rattle.tpm_types_common.specs.Limits.{buffer_limit}
 use Rattle.tpm_types_common.specs.Rc.{code_number}
 use Rattle.tpm_types_common.specs.declared.check.Check.TheVariants as check
 use Rattle.tpm_types_command.proofs.Tags.{tag_named-again}
-use Rattle.tpm_types_command.specs.Header.{code_field, header_at, size_field, tag_field}
+use Rattle.tpm_types_command.specs.Header.{code_field, header_at, if_served, size_field, tag_field}
 use Rattle.tpm_types_command.specs.Tag.{tag_named}
 use Rattle.tpm_types_command.specs.declared.header.Header.{Header}
 use Rattle.tpm_types_command.specs.declared.header.HeaderFault.{HeaderFault}
@@ -98,7 +98,8 @@ unfolding acceptance_in general code_number
 step_lacks r buffer locality elapsed random e =
     let t = after_tick r elapsed in
     ap (λ (h : Result (Header × List ℕ) HeaderFault). answer_where false t random
-    ((in_header h >>= (λ header. in_command header.0.code (body_of t header.0 header.1)))
+    ((in_header (if_served t.fixed.profile h) >>= (λ header.
+    in_command header.0.code (body_of t header.0 header.1)))
     >>= (λ command. in_command command.code (acceptance t command locality random)))) e
 
 -- ---- the layer

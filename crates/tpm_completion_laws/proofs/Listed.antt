@@ -9,6 +9,7 @@ use Rattle.tpm_actions_capability.specs.Element.{if_there}
 use Rattle.tpm_actions_capability.specs.Elements.{object_element, session_element}
 use Rattle.tpm_actions_capability.specs.declared.element.Element.{Element}
 use Rattle.tpm_bytes.specs.Numbers.{numbers_below}
+use Rattle.tpm_commands.specs.CommandCode.{shape_of}
 use Rattle.tpm_containers.specs.Slots.{at_place}
 use Rattle.tpm_record.specs.Record.{Record}
 use Rattle.tpm_session.specs.Sessions.{handle_of}
@@ -78,17 +79,17 @@ serves_its_own r c command response none =
     }
 
 pub lists_its_own : ListsItsOwn
-unfolding commands_by
+unfolding commands_by shape_of
 lists_its_own = refl
 
 pub counts_all : CountsAll
-unfolding commands_by
+unfolding commands_by shape_of
 counts_all = refl
 
 -- ---- order
 
 pub commands_ascend : CommandsAscend
-unfolding commands_by
+unfolding commands_by shape_of
 commands_ascend = refl
 
 pub properties_ascend : PropertiesAscend

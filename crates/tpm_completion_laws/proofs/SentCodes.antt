@@ -6,7 +6,8 @@ use Rattle.std.specs.Prelude.{◌==◌, ◌&&◌, ◌||◌, nat_lt, not, ok_or, 
 use Rattle.std.proofs.lemmas.Nat.{from_be_bytes-to_be_bytes_4}
 use Rattle.tpm_bytes.specs.Reading.{◌>>=◌, refused_if}
 use Rattle.tpm_bytes.specs.declared.cursor.Short.{Short}
-use Rattle.tpm_commands.specs.CommandCode.{code_named}
+use Rattle.tpm_commands.specs.CommandCode.{code_named, serves}
+use Rattle.tpm_commands.specs.declared.profile.Profile.{Profile}
 use Rattle.tpm_commands.specs.declared.command_code.CommandCode.{CommandCode}
 use Rattle.tpm_commands.specs.declared.command_code.CommandCode.TheVariants as command
 use Rattle.tpm_mac.specs.declared.algorithm.HashAlg.{HashAlg}
@@ -20,13 +21,13 @@ use Rattle.tpm_types_common.specs.declared.handle.Handle.{Handle}
 use Rattle.tpm_types_common.specs.declared.refused.Refused.{Refused}
 use Rattle.tpm_types_command.specs.AuthEntry.{Entry}
 use Rattle.tpm_types_command.specs.Command.{Whole, sessions_at}
-use Rattle.tpm_types_command.specs.Header.{code_field, header_at, size_field, tag_field}
+use Rattle.tpm_types_command.specs.Header.{code_field, header_at, if_served, size_field, tag_field}
 use Rattle.tpm_types_command.specs.Tag.{tag_named}
 use Rattle.tpm_types_command.specs.declared.header.Header.{Header}
 use Rattle.tpm_types_command.specs.declared.header.HeaderFault.{HeaderFault}
 use Rattle.tpm_types_command.specs.declared.header.HeaderFault.TheVariants as fault
 use Rattle.tpm_step.specs.step.Answer.{framed_message}
-use Rattle.tpm_step.specs.step.General.{body_of, general, in_command, in_header, present_handles_at, sessions_pass}
+use Rattle.tpm_step.specs.step.General.{body_of, general, in_command, in_header, present_handles_at, served_header, sessions_pass}
 use Rattle.tpm_step.specs.step.Step.{acceptance, acceptance_in, request_in}
 use Rattle.tpm_step.specs.step.Table.{row_of}
 use Rattle.tpm_completion.specs.Answer.{is_refusal}
@@ -98,10 +99,14 @@ in_command_is : {X : Type 0} (c : CommandCode) (x : Result X Refused) (Is : X �
 in_command_is c (Ok x) Is is = is
 in_command_is c (Err e) Is is = tt
 
-in_header_is : (x : Result (Header × List ℕ) HeaderFault) (Is : Header × List ℕ → Type 0)
-    → IfOk x Is → IfOk (in_header x) Is
-in_header_is (Ok h) Is is = is
-in_header_is (Err f) Is is = tt
+in_header_is : (profile : Profile) (x : Result (Header × List ℕ) HeaderFault)
+    (Is : Header × List ℕ → Type 0) → IfOk x Is → IfOk (in_header (if_served profile x)) Is
+in_header_is profile (Ok h) Is is = by (serves profile h.0.code)
+  where
+    by : (b : Bool) → IfOk (in_header (if b then Ok h else Err fault.Code)) Is
+    by true = is
+    by false = tt
+in_header_is profile (Err f) Is is = tt
 
 whole_is : (Is : CommandCode → Type 0) (header : Header) (x : Result Whole Refused) → Is header.code
     → IfOk x (λ c. c.code ≡ header.code) → IfOk x (λ c. Is c.code)
@@ -112,8 +117,8 @@ general_code : (Is : CommandCode → Type 0) (r : Record) (buffer : List ℕ) �
     → IfOk (general r buffer) (λ c. Is c.code)
 unfolding general
 general_code Is r buffer has =
-    ok_then (λ h. Is h.0.code) (λ c. Is c.code) (in_header (header_at buffer)) _
-    (in_header_is (header_at buffer) (λ h. Is h.0.code) has) (λ header is.
+    ok_then (λ h. Is h.0.code) (λ c. Is c.code) (in_header (served_header r buffer)) _
+    (in_header_is r.fixed.profile (header_at buffer) (λ h. Is h.0.code) has) (λ header is.
     in_command_is header.0.code (body_of r header.0 header.1) (λ c. Is c.code)
     (whole_is Is header.0 (body_of r header.0 header.1) is (body_code r header.0 header.1)))
 

@@ -103,6 +103,7 @@ touched_keeps part.Banks old new holds is = by_record old new _ is (same_keeps _
 touched_keeps part.Saved old new holds is = by_record old new _ is (same_keeps _ _ refl refl refl)
 touched_keeps part.DisableClear old new holds is =
     by_record old new _ is (same_keeps _ _ refl refl refl)
+touched_keeps part.Clock old new holds is = by_record old new _ is (same_keeps _ _ refl refl refl)
 touched_keeps part.Beginning old new holds is = absurd (false≢true holds)
 touched_keeps part.Cleared old new holds is = absurd (false≢true holds)
 

@@ -10,6 +10,8 @@ pub fn example_of(code: CommandCode) -> &'static str {
         CommandCode::NvUndefineSpace => "OWNER 01000000 pw:-",
         CommandCode::Clear => "LOCKOUT pw:-",
         CommandCode::ClearControl => "LOCKOUT pw:- 1",
+        CommandCode::ClockSet => "OWNER pw:- 1000",
+        CommandCode::ClockRateAdjust => "OWNER pw:- 1",
         CommandCode::HierarchyChangeAuth => "OWNER pw:- 616263",
         CommandCode::NvDefineSpace => "OWNER pw:- - 01000000000b0004000400000008",
         CommandCode::CreatePrimary => {
@@ -25,9 +27,11 @@ pub fn example_of(code: CommandCode) -> &'static str {
         CommandCode::NvChangeAuth => "01000000 s:03000000:-:01:- 616263",
         CommandCode::PcrEvent => "00000010 pw:- 616263",
         CommandCode::PcrReset => "00000010 pw:-",
+        CommandCode::IncrementalSelfTest => "0x4+0xb",
         CommandCode::SelfTest => "1",
         CommandCode::Startup => "0",
         CommandCode::Shutdown => "0",
+        CommandCode::StirRandom => "616263",
         CommandCode::PolicyNv => "OWNER 01000000 03000000 pw:- 00 0 0",
         CommandCode::NvRead => "OWNER 01000000 pw:- 8 0",
         CommandCode::NvReadLock => "OWNER 01000000 pw:-",
@@ -54,6 +58,8 @@ pub fn example_of(code: CommandCode) -> &'static str {
         }
         CommandCode::GetCapability => "6 0x100 1",
         CommandCode::GetRandom => "16",
+        CommandCode::GetTestResult => "",
+        CommandCode::Hash => "616263 sha256 NULL",
         CommandCode::PcrRead => "sha256:0,7",
         CommandCode::PolicyPcr => "03000000 - sha256:7",
         CommandCode::PolicyRestart => "03000000",
@@ -62,6 +68,7 @@ pub fn example_of(code: CommandCode) -> &'static str {
             "0000000a pw:- sha256:e3b0c44298fc1c149afbf4c8996fb92427ae41e4649b934ca495991b7852b855"
         }
         CommandCode::PolicyGetDigest => "03000000",
+        CommandCode::TestParms => "00080005000b",
         CommandCode::PolicyPassword => "03000000",
         CommandCode::PolicyNvWritten => "03000000 1",
     }

@@ -39,7 +39,7 @@ pub fn handle_word(kind: HandleKind) -> &'static str
 #[tactic(auto, unfolding(crate::specs::Form::parameter_word))]
 pub fn parameter_word(kind: ParameterKind) -> &'static str
     ensures value { result.now ≡ parameter_word kind }
-    ensures short { length result.now ≤ 9 }
+    ensures short { length result.now ≤ 10 }
 {
     match kind {
         ParameterKind::SessionType | ParameterKind::YesNo | ParameterKind::U8 => "u8",
@@ -51,6 +51,9 @@ pub fn parameter_word(kind: ParameterKind) -> &'static str
         ParameterKind::Selection => "Selection",
         ParameterKind::Digests => "Digests",
         ParameterKind::DigestList => "Buffers",
+        ParameterKind::Hierarchy => "Hierarchy",
+        ParameterKind::AlgorithmList => "Algorithms",
+        ParameterKind::PublicParameters => "Bytes",
         ParameterKind::Buffer(_)
         | ParameterKind::SensitiveCreate
         | ParameterKind::Public
@@ -102,7 +105,7 @@ fn put_handles(rules: &[HandleRule], form: &mut Form)
 
 /// Adds a word for each parameter, preceded by a space.
 fn put_parameters(kinds: &[ParameterKind], form: &mut Form)
-    requires { array_string_len form.old + 10 * length kinds.now ≤ 128 }
+    requires { array_string_len form.old + 11 * length kinds.now ≤ 128 }
     ensures { form.new.bytes ≡ form.old.bytes ++ flat_map parameter_form kinds.now }
 {
     let Some((kind, others)) = kinds.split_first() else {

@@ -2,6 +2,8 @@
 -- encoding. This file also proves how large a body can be.
 use Rattle.tpm_image_text.specs.Sizes.{body_size}
 use Rattle.std.proofs.Common.{◌≡◌, ℕ, ◌^◌, ◌<◌, ◌≤◌, List, ◌++◌, length, Ok, refl, arith, length-append}
+use Rattle.tpm_commands.specs.declared.profile.Profile.{Profile}
+use Rattle.tpm_commands.specs.declared.profile.Profile.TheVariants.{Symmetric, Complete}
 use Rattle.tpm_containers.specs.SortedMap.{Entries}
 use Rattle.tpm_bytes.proofs.Fields.{AreBytes}
 use Rattle.tpm_nv.specs.Index.{NvIndex}
@@ -10,6 +12,7 @@ use Rattle.tpm_object.specs.declared.object.Object.{Object}
 use Rattle.tpm_image_text.specs.Body.{body_of, image_body_text, indices_text, kept_in, limits_text, objects_text, state_text}
 use Rattle.tpm_image_text.specs.Image.{IsWithin}
 use Rattle.tpm_image_text.specs.NonVolatile.{IsNonVolatile, KeptState, NonVolatile, nv_of}
+use Rattle.tpm_image_text.specs.Version.{version_of}
 use Rattle.tpm_image_text.specs.declared.version.Version.{Version}
 use Rattle.tpm_image_text.specs.declared.version.Version.TheVariants.{Two}
 use Rattle.tpm_types_common.proofs.Spelled.{Spelled, all_read, first, four_texts, respelled, then}
@@ -28,9 +31,22 @@ stored : (version : Version) (kept : NonVolatile) → IsNonVolatile kept → IsW
 stored version kept is within =
     record { ascends = is.nv.ascends; few = within.few; small = within.small; each = is.nv.indices }
 
--- the NV indices of a device are always within the limits of version 2
-pub within_device : (kept : NonVolatile) → IsNonVolatile kept → IsWithin Two kept
-within_device kept is = record { few = is.nv.few; small = is.nv.small }
+-- the NV indices of a device are always within the limits of the version of its profile
+pub within_device : (kept : NonVolatile) → IsNonVolatile kept
+    → IsWithin (version_of kept.profile) kept
+within_device kept is = by kept.profile refl
+  where
+    by : (p : Profile) → kept.profile ≡ p → IsWithin (version_of p) kept
+    by Symmetric is_of = record { few = is.nv.few; small = is.nv.small; profile = is_of }
+    by Complete is_of = record { few = is.nv.few; small = is.nv.small; profile = is_of }
+
+stored_device : (kept : NonVolatile) → IsNonVolatile kept → AreStored Two kept.indices
+stored_device kept is = record {
+  ascends = is.nv.ascends;
+  few = is.nv.few;
+  small = is.nv.small;
+  each = is.nv.indices;
+}
 
 -- if an image of some version can store these NV indices, they are valid contents of the device's
 -- NV memory
@@ -47,13 +63,14 @@ indices_is version kept count are =
     }
 
 abbrev Fields : Type 0
-Fields = ((Unit {0} × KeptState) × Entries Object) × Entries NvIndex
+Fields = ((Profile × KeptState) × Entries Object) × Entries NvIndex
 
 abbrev fields_of : NonVolatile → Fields
-fields_of kept = (((tt, kept.state), kept.persistent), kept.indices)
+fields_of kept = (((kept.profile, kept.state), kept.persistent), kept.indices)
 
 abbrev kept_of_fields : Fields → NonVolatile
-kept_of_fields f = record { state = f.0.0.1; persistent = f.0.1; indices = f.1 }
+kept_of_fields f =
+    record { profile = f.0.0.0; state = f.0.0.1; persistent = f.0.1; indices = f.1 }
 
 pub kept_spelled : (version : Version)
     → Spelled (image_body_text version) (λ kept. IsNonVolatile kept × IsWithin version kept)
@@ -75,10 +92,10 @@ kept_spelled version =
         nv =
             indices_is version kept is.1.0.1 stored;
       },
-      record { few = stored.few; small = stored.small },
+      record { few = stored.few; small = stored.small; profile = is.0 },
     ))
     (λ kept is. (
-      tt,
+      is.1.profile,
       (
         (is.0.state, is.0.nv.max_count),
         (is.0.persistent, (stored version kept is.0 is.1, tt)),
@@ -111,7 +128,7 @@ body_small version kept is =
       limits_small version,
       state_small kept.state is.state,
       objects_small kept.persistent is.persistent,
-      indices_small kept.indices (stored Two kept is (within_device kept is)),
+      indices_small kept.indices (stored_device kept is),
       length-append limits state,
       length-append (limits ++ state) objects,
       length-append (limits ++ state ++ objects) (indices_text kept.indices),

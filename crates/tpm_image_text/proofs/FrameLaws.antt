@@ -1,7 +1,7 @@
 -- Frames: decoding returns a body exactly when the bytes are that body in its frame. Truncated
 -- bytes are refused.
 use Rattle.std.proofs.Common.{◌≡◌, ℕ, ◌+◌, ◌-◌, ◌^◌, ◌<◌, ◌≤◌, Bool, true, false, Option, Some, None, List, ◌++◌, length, take, drop, Result, Ok, Err, refl, sym, ap, subst, ◌∙◌, append_assoc, arith, length-append}
-use Rattle.std.specs.Prelude.{◌==◌, nat_lt, not, ok_or}
+use Rattle.std.specs.Prelude.{◌==◌, ◌||◌, nat_lt, not, ok_or}
 use Rattle.std.specs.Int.{w16, w32, to_be_bytes}
 use Rattle.std.specs.Str.{bytes_eq}
 use Rattle.std.proofs.Math.Seq.{take-add, take-append-add}
@@ -15,17 +15,59 @@ use Rattle.tpm_mac.specs.Digest.{hash_of}
 use Rattle.tpm_mac.specs.declared.algorithm.HashAlg.TheVariants.{Sha256}
 use Rattle.tpm_mac.proofs.DigestSize.{length-hash_of}
 use Rattle.tpm_types_common.proofs.Spelled.{rest_fits}
-use Rattle.tpm_image_text.specs.Frame.{Format, before_digest, digest_bytes, digest_of, digested_text, framed_in, head_bytes, head_in, image_format, length_of, number_of, within_frame, word_of}
-use Rattle.tpm_image_text.proofs.VersionLaws.{number_small, numbered-again, numbered-is}
+use Rattle.tpm_image_text.specs.Frame.{Format, before_digest, digest_bytes, digest_of, complete_word, digested_text, framed_in, head_bytes, head_in, image_format, image_version, is_image_word, length_of, number_of, symmetric_word, within_frame, word_of}
+use Rattle.tpm_image_text.specs.Version.{version_letter, version_number}
+use Rattle.tpm_image_text.specs.declared.version.Version.{Version}
+use Rattle.tpm_image_text.specs.declared.version.Version.TheVariants.{One, Two, CompleteOne}
+use Rattle.tpm_image_text.proofs.VersionLaws.{is_complete, number_small, numbered-again, numbered-is}
 
--- A number decodes to a version of a format exactly when it is the number of that version.
+-- A magic word and a number decode to a version of a format exactly when they are those of that
+-- version.
 pub record AreNumbered {V E : Type 0} (format : Format V E) : Type 0 where
-  pub is : (n : ℕ) (version : V) → format.numbered n ≡ Some version → n ≡ format.number version
-  pub again : (version : V) → format.numbered (format.number version) ≡ Some version
+  pub is : (word : List ℕ) (n : ℕ) (version : V) → format.is_word word ≡ true
+      → format.numbered word n ≡ Some version
+      → (word ≡ word_of (format.letter version)) × (n ≡ format.number version)
+  pub known : (version : V) → format.is_word (word_of (format.letter version)) ≡ true
+  pub again : (version : V)
+      → format.numbered (word_of (format.letter version)) (format.number version) ≡ Some version
   pub small : (version : V) → format.number version < 2 ^ 16
 
+left_holds : (a : Bool) → (a || false) ≡ true → a ≡ true
+left_holds true any = refl
+left_holds false any = absurd cc
+
+-- a word that is a magic word of images is that of a version with the same profile
+word_is : (word : List ℕ) (version : Version) (complete : Bool)
+    → bytes_eq word complete_word ≡ complete → complete ≡ is_complete version
+    → (bytes_eq word symmetric_word || complete) ≡ true
+    → word ≡ word_of (version_letter version)
+word_is word One false told has any = (bytes_eq-Decides word symmetric_word).0 (left_holds _ any)
+word_is word One true told has any = absurd cc
+word_is word Two false told has any = (bytes_eq-Decides word symmetric_word).0 (left_holds _ any)
+word_is word Two true told has any = absurd cc
+word_is word CompleteOne false told has any = absurd cc
+word_is word CompleteOne true told has any = (bytes_eq-Decides word complete_word).0 told
+
 pub image_numbered : AreNumbered image_format
-image_numbered = record { is = numbered-is; again = numbered-again; small = number_small }
+image_numbered = record { is = is; known = known; again = again; small = number_small }
+  where
+    is : (word : List ℕ) (n : ℕ) (version : Version) → is_image_word word ≡ true
+        → image_version word n ≡ Some version
+        → (word ≡ word_of (version_letter version)) × (n ≡ version_number version)
+    is word n version known found =
+        let has = numbered-is (bytes_eq word complete_word) n version found in
+        (word_is word version (bytes_eq word complete_word) refl has.0 known, has.1)
+
+    known : (version : Version) → is_image_word (word_of (version_letter version)) ≡ true
+    known One = refl
+    known Two = refl
+    known CompleteOne = refl
+
+    again : (version : Version)
+        → image_version (word_of (version_letter version)) (version_number version) ≡ Some version
+    again One = numbered-again One
+    again Two = numbered-again Two
+    again CompleteOne = numbered-again CompleteOne
 
 abbrev whole_of : List ℕ → ℕ
 whole_of body = head_bytes + length body + digest_bytes
@@ -43,8 +85,8 @@ module _ {V E : Type 0} (format : Format V E) where
 
   record IsFramed (version : V) (text : List ℕ) : Type 0 where
     long : head_bytes + digest_bytes ≤ length text
-    word : take 4 text ≡ word_of format.letter
-    number : format.numbered (number_of text) ≡ Some version
+    word : format.is_word (take 4 text) ≡ true
+    number : format.numbered (take 4 text) (number_of text) ≡ Some version
     whole : length_of text ≡ length text
     digest : hash_of Sha256 (before_digest text) ≡ digest_of text
 
@@ -53,11 +95,10 @@ module _ {V E : Type 0} (format : Format V E) where
   unfolding within_frame
   passes version text is =
       let long = le-ltb (length text) (head_bytes + digest_bytes) is.long in
-      let word = (bytes_eq-Decides (take 4 text) (word_of format.letter)).1 is.word in
       let whole = (Decides-eqb (length_of text) (length text)).1 is.whole in
       let digest = (bytes_eq-Decides (hash_of Sha256 (before_digest text)) (digest_of text)).1
       is.digest in
-      rw (long, word, is.number, whole, digest) refl
+      rw (long, is.word, is.number, whole, digest) refl
 
   -- if decoding a frame succeeds, all five tests passed
   none_refuses : (short word : Bool) (version : Option V) (whole digest : Bool) (body : List ℕ)
@@ -80,12 +121,12 @@ module _ {V E : Type 0} (format : Format V E) where
   unfolding within_frame
   has_passed text said e =
       let t = none_refuses (nat_lt (length text) (head_bytes + digest_bytes))
-      (bytes_eq (take 4 text) (word_of format.letter)) (format.numbered (number_of text))
+      (format.is_word (take 4 text)) (format.numbered (take 4 text) (number_of text))
       (length_of text == length text)
       (bytes_eq (hash_of Sha256 (before_digest text)) (digest_of text)) (inner text) said e in
       let is : IsFramed t.0 text = record {
         long = ltb-false _ _ t.1;
-        word = (bytes_eq-Decides _ _).0 t.2;
+        word = t.2;
         number = t.3;
         whole = eqb-true _ _ t.4;
         digest = (bytes_eq-Decides _ _).0 t.5;
@@ -121,10 +162,11 @@ module _ {V E : Type 0} (format : Format V E) where
   module _ (numbers : AreNumbered format) where
     -- the version decoded from a head is the version that was written, whatever follows the head
     version_said : (version : V) (whole : ℕ) (rest : List ℕ)
-        → format.numbered (number_of (head_in format version whole ++ rest)) ≡ Some version
+        → format.numbered (word_of (format.letter version))
+        (number_of (head_in format version whole ++ rest)) ≡ Some version
     version_said version whole rest =
-        ap format.numbered (wide16.again (format.number version) (numbers.small version))
-        ∙ numbers.again version
+        ap (format.numbered (word_of (format.letter version)))
+        (wide16.again (format.number version) (numbers.small version)) ∙ numbers.again version
 
     pub framed_again : (version : V) (body : List ℕ) → whole_of body < 2 ^ 32
         → within_frame format (framed_in format version body) ≡ Ok (version, body)
@@ -139,7 +181,7 @@ module _ {V E : Type 0} (format : Format V E) where
         let before : before_digest text ≡ front = take_at front digest _ place in
         let is : IsFramed version text = record {
           long = omega (arith, whole);
-          word = refl;
+          word = numbers.known version;
           number = version_said version (whole_of body) (body ++ digest);
           whole = ap length_of (append_assoc head body digest)
               ∙ length_said version (whole_of body) (body ++ digest) small ∙ sym whole;
@@ -158,15 +200,16 @@ module _ {V E : Type 0} (format : Format V E) where
         omega (arith, is.long, length-take 2 (drop 4 text), length-drop 4 text) in
         let four : length size ≡ 4 =
         omega (arith, is.long, length-take 4 (drop 6 text), length-drop 6 text) in
+        let said = numbers.is (take 4 text) (number_of text) version is.word is.number in
         let named : number ≡ to_be_bytes w16 (format.number version) =
         sym (wide16.back number two (AreBytes-take 2 (drop 4 text) (fits_behind text fits 4)))
-        ∙ ap (to_be_bytes w16) (numbers.is (number_of text) version is.number) in
+        ∙ ap (to_be_bytes w16) said.1 in
         let whole : size ≡ to_be_bytes w32 (length text) =
         sym (wide32.back size four (AreBytes-take 4 (drop 6 text) (fits_behind text fits 6)))
         ∙ ap (to_be_bytes w32) is.whole in
         take-add 6 4 text
         ∙ ap (λ (l : List ℕ). l ++ size) (take-add 4 2 text)
-        ∙ rw (is.word, named, whole) refl
+        ∙ rw (said.0, named, whole) refl
 
     pub framed_taken : (text : List ℕ) (said : V × List ℕ) → AreBytes text
         → within_frame format text ≡ Ok said → (text ≡ framed_in format said.0 said.1)
@@ -201,8 +244,7 @@ module _ {V E : Type 0} (format : Format V E) where
     other_length version whole rest small long less =
         let text = head_in format version whole ++ rest in
         let not_short = le-ltb (length text) (head_bytes + digest_bytes) long in
-        let word : bytes_eq (take 4 text) (word_of format.letter) ≡ true =
-        (bytes_eq-Decides (take 4 text) (word_of format.letter)).1 refl in
+        let word : format.is_word (take 4 text) ≡ true = numbers.known version in
         let other : (length_of text == length text) ≡ false =
         ne_eqb (length_of text) (length text)
         (λ same. absurd (omega (arith, less, same, length_said version whole rest small))) in

@@ -7,11 +7,10 @@ use Rattle.tpm_mac.specs.Digest.{hash_of}
 use Rattle.tpm_mac.specs.declared.algorithm.HashAlg.TheVariants.{Sha256}
 use Rattle.tpm_record.specs.Record.{Record}
 use Rattle.tpm_image_text.specs.Body.{body_of}
-use Rattle.tpm_image_text.specs.Frame.{before_digest, within_frame, digest_of, framed_body, length_of, number_of, word_of}
+use Rattle.tpm_image_text.specs.Frame.{before_digest, within_frame, digest_of, framed_body, image_version, is_image_word, length_of, number_of}
 use Rattle.tpm_image_text.specs.Image.{image_of}
 use Rattle.tpm_image_text.specs.NonVolatile.{NonVolatile}
 use Rattle.tpm_image_text.specs.Opening.{Opens}
-use Rattle.tpm_image_text.specs.Version.{version_numbered}
 use Rattle.tpm_image_text.specs.declared.fault.ImageFault.{ImageFault}
 use Rattle.tpm_image_text.specs.declared.fault.ImageFault.TheVariants as fault
 use Rattle.tpm_image_text.specs.declared.fault.Malformed.{Malformed}
@@ -21,8 +20,8 @@ use Rattle.tpm_image_text.specs.declared.version.Version.{Version}
 frame_fits : (text : List ℕ) → framed_body text ≡ Err fault.NoMemory → ⊥
 unfolding within_frame
 frame_fits text is =
-    by (nat_lt (length text) 42) (not (bytes_eq (take 4 text) (word_of 0x49)))
-    (version_numbered (number_of text)) (not (length_of text == length text))
+    by (nat_lt (length text) 42) (not (is_image_word (take 4 text)))
+    (image_version (take 4 text) (number_of text)) (not (length_of text == length text))
     (not (bytes_eq (hash_of Sha256 (before_digest text)) (digest_of text))) _ is
   where
     by : (a b : Bool) (c : Option Version) (d e : Bool) (body : List ℕ)

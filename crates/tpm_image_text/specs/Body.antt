@@ -35,31 +35,43 @@ use Rattle.tpm_types_object.specs.declared.public.Public.{Public}
 use Rattle.tpm_types_object.specs.declared.sensitive.Sensitive.{Sensitive}
 use Rattle.tpm_image_text.specs.Fields.{auth_value_in, buffer_in, bytes_in, counted_in, counted_text, filling, in_body, is_trimmed, malformed_fault, number_in, passing, yes_no_in, yes_no_text}
 use Rattle.tpm_image_text.specs.NonVolatile.{KeptState, NonVolatile}
-use Rattle.tpm_image_text.specs.Version.{index_limit, space_limit}
+use Rattle.tpm_image_text.specs.Version.{index_limit, profile_of, space_limit}
 use Rattle.tpm_image_text.specs.declared.fault.Malformed.{Malformed}
 use Rattle.tpm_image_text.specs.declared.version.Version.{Version}
-use Rattle.tpm_image_text.specs.declared.version.Version.TheVariants.{One, Two}
+use Rattle.tpm_commands.specs.declared.profile.Profile.{Profile}
+use Rattle.tpm_image_text.specs.declared.version.Version.TheVariants.{One, Two, CompleteOne}
 
 -- ---- the limits
 
--- the encoding of the limits: nothing in version 1; in version 2, the largest number of NV indices
--- and the largest size of their data
+-- the encoding of the limits: nothing in version 1 of the symmetric profile; otherwise the largest
+-- number of NV indices and the largest size of their data
 unfoldable pub limits_text : Version → List ℕ
 limits_text One = []
 limits_text Two = to_be_bytes w16 (index_limit Two) ++ to_be_bytes w32 (space_limit Two)
+limits_text CompleteOne = to_be_bytes w16 (index_limit Two) ++ to_be_bytes w32 (space_limit Two)
 
 -- whether these limits are the version's limits
 abbrev pub are_limits_of : Version → (indices space : ℕ) → Bool
 are_limits_of version indices space =
     indices == index_limit version && space == space_limit version
 
-unfoldable pub limits_in : Version → List ℕ → Result (Unit {0} × List ℕ) Malformed
-limits_in One text = Ok (tt, text)
-limits_in Two text = do
+-- decodes the limits of the device
+unfoldable pub device_limits_in : List ℕ → Result (Unit {0} × List ℕ) Malformed
+device_limits_in text = do
   indices ← number_in w16 text
   space ← number_in w32 indices.1
   same ← refused_if (not (are_limits_of Two indices.0 space.0)) malformed_fault
   Ok (tt, space.1)
+
+-- decodes the limits, and returns the profile of the device, which the version determines
+unfoldable pub limits_in : Version → List ℕ → Result (Profile × List ℕ) Malformed
+limits_in One text = Ok (profile_of One, text)
+limits_in Two text = do
+  limits ← device_limits_in text
+  Ok (profile_of Two, limits.1)
+limits_in CompleteOne text = do
+  limits ← device_limits_in text
+  Ok (profile_of CompleteOne, limits.1)
 
 -- ---- the hierarchies
 
@@ -369,7 +381,12 @@ kept_in version text = do
   persistent ← objects_in state.1
   indices ← indices_in version persistent.1
   Ok (
-    record { state = state.0; persistent = persistent.0; indices = indices.0 },
+    record {
+      profile = limits.0;
+      state = state.0;
+      persistent = persistent.0;
+      indices = indices.0;
+    },
     indices.1,
   )
 

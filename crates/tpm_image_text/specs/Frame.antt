@@ -1,23 +1,25 @@
 -- The frame of an image or of a state text: a head before the body, and a digest after both. The
 -- formats are specific to this device.
-use Rattle.std.specs.Prelude.{ℕ, ◌+◌, ◌-◌, ◌==◌, nat_lt, not, List, [], ◌∷◌, ◌++◌, length, take, drop}
+use Rattle.std.specs.Prelude.{ℕ, ◌+◌, ◌-◌, ◌==◌, nat_lt, not, ◌||◌, Bool, List, [], ◌∷◌, ◌++◌, length, take, drop}
 use Rattle.std.specs.Prelude.{ok_or, Option, Result, Ok}
 use Rattle.std.specs.Int.{w16, w32, from_be_bytes, to_be_bytes}
 use Rattle.std.specs.Str.{bytes_eq}
 use Rattle.tpm_bytes.specs.Reading.{◌>>=◌, refused_if}
 use Rattle.tpm_mac.specs.Digest.{hash_of}
 use Rattle.tpm_mac.specs.declared.algorithm.HashAlg.TheVariants.{Sha256}
-use Rattle.tpm_image_text.specs.Version.{version_number, version_numbered}
+use Rattle.tpm_image_text.specs.Version.{complete_letter, symmetric_letter, version_letter, version_number, version_numbered}
 use Rattle.tpm_image_text.specs.declared.fault.ImageFault.{ImageFault}
 use Rattle.tpm_image_text.specs.declared.fault.ImageFault.TheVariants as fault
 use Rattle.tpm_image_text.specs.declared.version.Version.{Version}
 
--- a format of framed bytes: the last letter of its magic word, the numbers of its versions, and its
+-- a format of framed bytes: the last letter of each version's magic word, and the version's number;
+-- whether a word is a magic word of the format; the version with a magic word and a number; and the
 -- faults in the order of the checks; `whole` is the fault of a wrong length
 pub record Format (V E : Type 0) : Type 0 where
-  pub letter : ℕ
+  pub letter : V → ℕ
   pub number : V → ℕ
-  pub numbered : ℕ → Option V
+  pub is_word : List ℕ → Bool
+  pub numbered : (word : List ℕ) → ℕ → Option V
   pub short : E
   pub magic : E
   pub version : E
@@ -31,7 +33,7 @@ word_of letter = 0x54 ∷ 0x50 ∷ 0x4d ∷ letter ∷ []
 -- the head of a frame: the magic word, the number of the version, and the size of the whole frame
 abbrev pub head_in : {V E : Type 0} → Format V E → V → (whole : ℕ) → List ℕ
 head_in format version whole =
-    word_of format.letter
+    word_of (format.letter version)
     ++ to_be_bytes w16 (format.number version) ++ to_be_bytes w32 whole
 
 abbrev pub head_bytes : ℕ
@@ -70,8 +72,8 @@ digest_of text = drop (length text - digest_bytes) text
 unfoldable pub within_frame : {V E : Type 0} → Format V E → List ℕ → Result (V × List ℕ) E
 within_frame format text = do
   long ← refused_if (nat_lt (length text) (head_bytes + digest_bytes)) format.short
-  word ← refused_if (not (bytes_eq (take 4 text) (word_of format.letter))) format.magic
-  version ← ok_or (format.numbered (number_of text)) format.version
+  word ← refused_if (not (format.is_word (take 4 text))) format.magic
+  version ← ok_or (format.numbered (take 4 text) (number_of text)) format.version
   whole ← refused_if (not (length_of text == length text)) format.whole
   digest ← refused_if
       (not (bytes_eq (hash_of Sha256 (before_digest text)) (digest_of text))) format.digest
@@ -79,12 +81,25 @@ within_frame format text = do
 
 -- ---- the frame of an image
 
--- the format of an image, which begins with TPMI
+-- the magic words of images: TPMI, and TPMC for a device of the complete profile
+abbrev pub symmetric_word : List ℕ
+symmetric_word = word_of symmetric_letter
+
+abbrev pub complete_word : List ℕ
+complete_word = word_of complete_letter
+
+abbrev pub is_image_word : List ℕ → Bool
+is_image_word word = bytes_eq word symmetric_word || bytes_eq word complete_word
+
+abbrev pub image_version : (word : List ℕ) → ℕ → Option Version
+image_version word number = version_numbered (bytes_eq word complete_word) number
+
 abbrev pub image_format : Format Version ImageFault
 image_format = record {
-  letter = 0x49;
+  letter = version_letter;
   number = version_number;
-  numbered = version_numbered;
+  is_word = is_image_word;
+  numbered = image_version;
   short = fault.Short;
   magic = fault.Magic;
   version = fault.Version;
@@ -92,8 +107,7 @@ image_format = record {
   digest = fault.Digest;
 }
 
--- the head of an image: the magic word TPMI, the number of the version, and the size of the whole
--- image
+-- the head of an image: the magic word, the number of the version, and the size of the whole image
 abbrev pub head_text : Version → (whole : ℕ) → List ℕ
 head_text version whole = head_in image_format version whole
 

@@ -1,6 +1,7 @@
 -- The state that a device keeps without power. TPM 2.0 Library, Part 1, sections 12.2.2 (_TPM_Init)
 -- and 37 (NV memory).
 use Rattle.std.specs.Prelude.{ℕ, ◌<◌, ◌^◌, Bool, false}
+use Rattle.tpm_commands.specs.declared.profile.Profile.{Profile}
 use Rattle.tpm_containers.specs.SortedMap.{Entries}
 use Rattle.tpm_lockout.specs.Lockout.{IsLockout, restored_lockout}
 use Rattle.tpm_lockout.specs.declared.fields.LockoutFields.{LockoutFields}
@@ -28,8 +29,9 @@ pub record KeptState : Type 0 where
   pub max_count : ℕ
   pub saved : SavedState
 
--- a non-volatile state: the fixed part, the persistent objects and the NV indices
+-- a non-volatile state: the profile, the fixed part, the persistent objects and the NV indices
 pub record NonVolatile : Type 0 where
+  pub profile : Profile
   pub state : KeptState
   pub persistent : Entries Object
   pub indices : Entries NvIndex
@@ -37,6 +39,7 @@ pub record NonVolatile : Type 0 where
 -- the non-volatile part of a record
 abbrev pub kept_of : Record → NonVolatile
 kept_of r = record {
+  profile = r.fixed.profile;
   state = record {
     hierarchies = r.fixed.hierarchies;
     disable_clear = r.fixed.disable_clear;
@@ -69,6 +72,7 @@ powered_on kept = record {
     clock = kept.state.clock;
     reset_count = kept.state.reset_count;
     restart_count = kept.state.restart_count;
+    profile = kept.profile;
   };
   sessions = no_sessions;
   objects = no_objects;

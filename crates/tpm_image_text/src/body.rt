@@ -6,7 +6,7 @@ ghost use Rattle.tpm_image_text.specs.Body.{body_of, image_body_text, kept_in, s
 ghost use Rattle.tpm_image_text.specs.Filling.{PowersOn, PowersOnFrom, Restores};
 ghost use Rattle.tpm_image_text.specs.KeptText.{with_clock};
 ghost use Rattle.tpm_image_text.specs.NonVolatile.{kept_of};
-ghost use Rattle.tpm_image_text.specs.declared.version.Version.TheVariants.{Two};
+ghost use Rattle.tpm_image_text.specs.Version.{version_of};
 ghost use Rattle.tpm_record.specs.Record.{manufactured};
 
 use crate::fault::{FillFault, Malformed};
@@ -18,15 +18,19 @@ use crate::objects::{read_objects, write_objects};
 use crate::saved::{read_saved, write_saved};
 use crate::version::{Version, read_limits, write_limits};
 use tpm_bytes::Cursor;
+use tpm_commands::Profile;
 use tpm_lockout::Lockout;
 use tpm_nv::Indices;
 use tpm_record::{Fixed, Keep};
 
-/// Reads the fixed part of a body, and returns the largest value that an NV counter ever had.
+/// Reads the fixed part of a body of a device of this profile, and returns the largest value that an
+/// NV counter ever had.
 #[tactic(auto, unfolding(crate::specs::Body::state_in))]
-fn read_state(fixed: &mut Fixed, text: &mut Cursor) -> Result<u64, Malformed>
-    ensures { Restores (state_in text.old) fixed.old result fixed.new text.new }
+fn read_state(profile: Profile, fixed: &mut Fixed, text: &mut Cursor) -> Result<u64, Malformed>
+    ensures { Restores (state_in text.old) (record fixed.old { profile = profile }) result fixed.new
+        text.new }
 {
+    fixed.profile = profile;
     fixed.hierarchies = read_hierarchies(text)?;
     fixed.disable_clear = read_bool(text)?;
     fixed.lockout = Lockout::restore(read_lockout(text)?);
@@ -50,10 +54,10 @@ pub fn read_kept<K: Keep>(
     ensures { PowersOnFrom K.can_refuse (kept_in version text.old) result (K.record_of keep.new)
         text.new }
 {
-    let Ok(()) = read_limits(version, text) else {
+    let Ok(profile) = read_limits(version, text) else {
         return Err(FillFault::Malformed);
     };
-    let Ok(max_count) = read_state(keep.fixed_mut(), text) else {
+    let Ok(max_count) = read_state(profile, keep.fixed_mut(), text) else {
         return Err(FillFault::Malformed);
     };
     keep.nv_mut().set_max_count(max_count);
@@ -98,7 +102,8 @@ fn write_state<K: Keep>(keep: &K, clock: u64, text: &mut Text)
 /// Writes a whole body in the version that this device writes.
 pub fn write_body<K: Keep>(keep: &K, text: &mut Text)
     requires { text.old ≡ [] }
-    ensures written { text.new ≡ image_body_text Two (kept_of (K.record_of keep.now)) }
+    ensures written { text.new ≡ image_body_text
+        (version_of (K.record_of keep.now).fixed.profile) (kept_of (K.record_of keep.now)) }
     ensures small { length text.new ≤ body_size }
 {
     write_body_at(keep, keep.fixed().clock, text);
@@ -108,11 +113,12 @@ pub fn write_body<K: Keep>(keep: &K, text: &mut Text)
 #[tactic(auto, unfolding(crate::specs::Body::image_body_text))]
 pub fn write_body_at<K: Keep>(keep: &K, clock: u64, text: &mut Text)
     requires { text.old ≡ [] }
-    ensures written { text.new ≡ image_body_text Two (with_clock clock
-        (kept_of (K.record_of keep.now))) }
+    ensures written { text.new ≡ image_body_text
+        (version_of (K.record_of keep.now).fixed.profile)
+        (with_clock clock (kept_of (K.record_of keep.now))) }
     ensures small { length text.new ≤ body_size }
 {
-    write_limits(text);
+    write_limits(keep.fixed().profile, text);
     write_state(keep, clock, text);
     write_objects(keep.persistent(), text);
     write_indices(keep.nv(), text);

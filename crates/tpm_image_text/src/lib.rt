@@ -31,8 +31,8 @@ pub use fields::{
     Text, read_array, read_auth_value, read_bool, read_sized, read_u8, read_u32, read_u64,
     write_array, write_bool, write_sized, write_u16, write_u32, write_u64,
 };
-pub use frame::framed_body;
+pub use frame::{FRAME_BYTES, framed_body};
 pub use objects::{read_object_fields, write_object_fields};
 pub use opening::{fault_of, fill, is_body};
 pub use saving::{put_front, send, write_image};
-pub use version::Version;
+pub use version::{SYMMETRIC_WORD, Version};

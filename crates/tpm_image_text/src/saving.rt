@@ -6,7 +6,7 @@ ghost use Rattle.tpm_bytes.specs.Tap.{AppendsFront, device_of, marks_of};
 ghost use Rattle.tpm_image_text.specs.Image.{image_text};
 ghost use Rattle.tpm_image_text.specs.NonVolatile.{kept_of};
 ghost use Rattle.tpm_image_text.specs.Saving.{PutsFront};
-ghost use Rattle.tpm_image_text.specs.declared.version.Version.TheVariants.{Two};
+ghost use Rattle.tpm_image_text.specs.Version.{version_of};
 
 use crate::body::write_body;
 use crate::fault::SaveFault;
@@ -17,16 +17,17 @@ use tpm_bytes::{Sink, Tap};
 use tpm_mac::{HashAlg, digest_parts};
 use tpm_record::Keep;
 
-/// Writes the body of a version 2 image, followed by the digest, to an empty buffer. Returns the
+/// Writes the body of an image, followed by the digest, to an empty buffer. Returns the
 /// head, which must be put before the body.
 #[tactic(auto, unfolding(crate::specs::Image::image_text))]
 pub fn write_image<K: Keep>(keep: &K, text: &mut Text) -> Sink<10>
     requires { text.old ≡ [] }
-    ensures image { result ++ text.new ≡ image_text Two (kept_of (K.record_of keep.now)) }
+    ensures image { result ++ text.new ≡ image_text
+        (version_of (K.record_of keep.now).fixed.profile) (kept_of (K.record_of keep.now)) }
     ensures fits { length result + length text.new < 2 ^ 32 }
 {
     write_body(keep, text);
-    let head = head(text.len());
+    let head = head(keep.fixed().profile, text.len());
     let digest = digest_parts(HashAlg::Sha256, &[head.as_slice(), text.as_slice()]);
     text.append(digest.as_slice());
     head

@@ -10,7 +10,7 @@ use Rattle.tpm_journal_text.specs.declared.head.Head.{Head}
 use Rattle.tpm_journal_text.specs.declared.head.HeadKind.{HeadKind}
 use Rattle.tpm_journal_text.specs.declared.head.HeadKind.TheVariants.{Image, State, Versioned}
 use Rattle.tpm_state_text.specs.Body.{WholeState}
-use Rattle.tpm_state_text.specs.State.{current_state_of_text}
+use Rattle.tpm_state_text.specs.State.{state_of_text}
 use Rattle.tpm_state_text.specs.declared.fault.StateFault.{StateFault}
 use Rattle.tpm_journal.specs.Opening.{OpensJournal, Reads}
 use Rattle.tpm_journal.specs.Replay.{Replays}
@@ -75,17 +75,17 @@ no_entry_in_state clock text (Err other) why e = absurd cc
 is_held : (kind : HeadKind) (clock : ℕ) (content : List ℕ)
     → start_by kind clock content ≡ Err fault.NoJournal → ⊥
 is_held Image clock content e = no_head_in_image clock content (image_of content) e
-is_held State clock content e = no_head_in_state clock content (current_state_of_text content) e
+is_held State clock content e = no_head_in_state clock content (state_of_text content) e
 is_held (Versioned version) clock content e =
-    no_head_in_state clock content (current_state_of_text content) e
+    no_head_in_state clock content (state_of_text content) e
 
 is_no_entry : (kind : HeadKind) (clock : ℕ) (content : List ℕ) (why : FollowFault)
     → start_by kind clock content ≡ Err (fault.Follow why) → ⊥
 is_no_entry Image clock content why e = no_entry_in_image clock content (image_of content) why e
 is_no_entry State clock content why e =
-    no_entry_in_state clock content (current_state_of_text content) why e
+    no_entry_in_state clock content (state_of_text content) why e
 is_no_entry (Versioned version) clock content why e =
-    no_entry_in_state clock content (current_state_of_text content) why e
+    no_entry_in_state clock content (state_of_text content) why e
 
 pub not_started : (text : List ℕ) (head : Head) (why : OpenFault) → IsHeadOf text head
     → start_by head.kind head.clock head.content.now ≡ Err why → StartsNot text why

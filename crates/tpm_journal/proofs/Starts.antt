@@ -2,9 +2,8 @@
 use Rattle.std.proofs.Common.{◌≡◌, ℕ, List, ◌++◌, Result, Ok, ap, ◌∙◌}
 use Rattle.std.specs.List.{AllByRecursion}
 use Rattle.tpm_completion.specs.declared.completion.Completion.{Completion}
-use Rattle.tpm_image_text.specs.Image.{image_text}
-use Rattle.tpm_image_text.specs.NonVolatile.{kept_of}
-use Rattle.tpm_image_text.specs.declared.version.Version.TheVariants.{Two}
+use Rattle.tpm_image_text.specs.Image.{device_image}
+use Rattle.tpm_image_text.specs.Version.{version_of}
 use Rattle.tpm_image_text.proofs.RecordLaws.{record_again, record_image}
 use Rattle.tpm_journal_text.specs.Entry.{IsEntry, PlainEntry}
 use Rattle.tpm_journal_text.specs.Head.{head_sum, head_text}
@@ -15,7 +14,7 @@ use Rattle.tpm_record.specs.IsRecord.{IsRecord}
 use Rattle.tpm_record.specs.Record.{Record}
 use Rattle.tpm_state_text.specs.Body.{IsWholeState, WholeState}
 use Rattle.tpm_state_text.specs.State.{state_text}
-use Rattle.tpm_state_text.proofs.StateLaws.{current_told}
+use Rattle.tpm_state_text.proofs.StateLaws.{text_told}
 use Rattle.tpm_snapshot.proofs.Layers.{layer_again}
 use Rattle.tpm_journal.specs.Checkpoint.{checkpointed_journal, state_beside}
 use Rattle.tpm_journal.specs.Living.{Lives}
@@ -29,14 +28,14 @@ use Rattle.tpm_journal.proofs.Again.{opened_again}
 use Rattle.tpm_journal.proofs.Ignoring.{lives_alike}
 
 pub image_starts : (clock : ℕ) (r : Record) → IsRecord r
-    → start_by Image clock (image_text Two (kept_of r))
+    → start_by Image clock (device_image r)
     ≡ Ok (record {
-      journal = journal_begun clock (image_text Two (kept_of r));
+      journal = journal_begun clock (device_image r);
       device =
           after_cycle r;
     })
-image_starts clock r is = ap (start_by_image clock (image_text Two (kept_of r)))
-    (record_again Two r is (record_image r is).0)
+image_starts clock r is = ap (start_by_image clock (device_image r))
+    (record_again (version_of r.fixed.profile) r is (record_image r is).0)
 
 pub state_starts : (clock : ℕ) (state : WholeState) → IsWholeState state
     → start_by State clock (state_text state)
@@ -44,7 +43,7 @@ pub state_starts : (clock : ℕ) (state : WholeState) → IsWholeState state
       journal = journal_resumed (head_sum clock (state_text state)) clock state.layer;
       device = state.device;
     })
-state_starts clock state is = ap (start_by_state clock (state_text state)) (current_told state is)
+state_starts clock state is = ap (start_by_state clock (state_text state)) (text_told state is)
 
 -- ---- a checkpoint
 

@@ -9,7 +9,7 @@ use Rattle.tpm_journal_text.specs.declared.head.HeadKind.{HeadKind}
 use Rattle.tpm_journal_text.specs.declared.head.HeadKind.TheVariants.{Image, State, Versioned}
 use Rattle.tpm_record.specs.Record.{Record}
 use Rattle.tpm_state_text.specs.Body.{WholeState}
-use Rattle.tpm_state_text.specs.State.{current_state_of_text}
+use Rattle.tpm_state_text.specs.State.{state_of_text}
 use Rattle.tpm_state_text.specs.declared.fault.RestoreFault.TheVariants.{Text}
 use Rattle.tpm_state_text.specs.declared.fault.StateFault.{StateFault}
 use Rattle.tpm_journal.specs.State.{journal_begun, journal_resumed}
@@ -43,9 +43,9 @@ start_by_state clock text (Err why) = Err (fault.State (Text why))
 -- the start from a head of this kind with this clock and content, or the fault in the content
 abbrev pub start_by : HeadKind → (clock : ℕ) → (content : List ℕ) → Result Start OpenFault
 start_by Image clock content = start_by_image clock content (image_of content)
-start_by State clock content = start_by_state clock content (current_state_of_text content)
+start_by State clock content = start_by_state clock content (state_of_text content)
 start_by (Versioned version) clock content =
-    start_by_state clock content (current_state_of_text content)
+    start_by_state clock content (state_of_text content)
 
 -- The input is a head of this kind with this clock and content, followed by the rest.
 pub record BeginsWith (text : List ℕ) (kind : HeadKind) (clock : ℕ) (content rest : List ℕ)

@@ -3,10 +3,8 @@
 ghost use Rattle.std.specs.Prelude.{◌≡◌, ◌≤◌, ◌<◌, ◌+◌, ◌++◌, [], Ok, Some, false, length, option_copied, take};
 ghost use Rattle.tpm_completion.specs.Execution.{seen_of};
 ghost use Rattle.tpm_machine.specs.Follows.{After, Follows};
-ghost use Rattle.tpm_image_text.specs.Image.{image_text};
-ghost use Rattle.tpm_image_text.specs.NonVolatile.{kept_of};
+ghost use Rattle.tpm_image_text.specs.Image.{device_image};
 ghost use Rattle.tpm_image_text.specs.Saving.{PutsFront};
-ghost use Rattle.tpm_image_text.specs.declared.version.Version.TheVariants.{Two};
 ghost use Rattle.tpm_journal.specs.Checkpoint.{checkpointed_journal, state_beside};
 ghost use Rattle.tpm_journal.specs.Command.{Executed, command_at, elapsed_of, entry_of};
 ghost use Rattle.tpm_journal.specs.Starting.{start_by};
@@ -83,7 +81,7 @@ impl Journal {
         buffer: &mut [u8],
     ) -> usize
         ensures head { PutsFront (head_text Image now_ms
-            (image_text Two (kept_of (after_cycle (state_of K.record_of machine.old)))))
+            (device_image (after_cycle (state_of K.record_of machine.old))))
             buffer.old result buffer.new }
         ensures executes { result ≤ length buffer.old → Executes K.can_refuse
             (state_of K.record_of machine.old) Cycled
@@ -92,7 +90,7 @@ impl Journal {
             (state_of K.record_of machine.old) Cycled
             (outcome_step (state_of K.record_of machine.new) outcome.new) }
         ensures journal { result ≤ length buffer.old → self.new ≡ journal_begun now_ms
-            (image_text Two (kept_of (after_cycle (state_of K.record_of machine.old)))) }
+            (device_image (after_cycle (state_of K.record_of machine.old))) }
         ensures no_room { length buffer.old < result
             → state_of K.record_of machine.new ≡ state_of K.record_of machine.old }
         ensures no_journal { length buffer.old < result → self.new ≡ self.old }
@@ -238,7 +236,7 @@ fn put_head(
 fn write_image<K: Keep>(machine: &Machine<K>, text: &mut Text) -> Sink<10>
     requires { text.old ≡ [] }
     ensures image { result ++ text.new
-        ≡ image_text Two (kept_of (state_of K.record_of machine.now)) }
+        ≡ device_image (state_of K.record_of machine.now) }
     ensures small { length result + length text.new ≤ content_limit Image }
 {
     image_laws();
@@ -253,10 +251,10 @@ fn put_image<K: Keep>(
     buffer: &mut [u8],
 ) -> usize
     ensures head { PutsFront (head_text Image clock_ms
-        (image_text Two (kept_of (state_of K.record_of machine.now)))) buffer.old result
+        (device_image (state_of K.record_of machine.now))) buffer.old result
         buffer.new }
     ensures sum { result ≤ length buffer.old → sum.new ≡ head_sum clock_ms
-        (image_text Two (kept_of (state_of K.record_of machine.now))) }
+        (device_image (state_of K.record_of machine.now)) }
 {
     let mut text = Text::new();
     let head = write_image(machine, &mut text);

@@ -6,9 +6,7 @@ ghost use Rattle.std.specs.List.{AllByRecursion};
 ghost use Rattle.tpm_completion.specs.declared.completion.Completion.{Completion};
 ghost use Rattle.tpm_machine.specs.Follows.{Follows, StretchFollows};
 ghost use Rattle.tpm_machine.specs.History.{History};
-ghost use Rattle.tpm_image_text.specs.Image.{image_text};
-ghost use Rattle.tpm_image_text.specs.NonVolatile.{kept_of};
-ghost use Rattle.tpm_image_text.specs.declared.version.Version.TheVariants.{Two};
+ghost use Rattle.tpm_image_text.specs.Image.{device_image};
 ghost use Rattle.tpm_journal.specs.Checkpoint.{checkpointed_journal, state_beside};
 ghost use Rattle.tpm_journal.specs.Living.{Answers, Lives};
 ghost use Rattle.tpm_journal.specs.Opening.{IsOpenedAgain, OpensJournal};
@@ -61,8 +59,8 @@ pub fn following_laws()
 #[tactic(auto, using(crate::proofs::Starts::image_starts, crate::proofs::Starts::state_starts, crate::proofs::Starts::checkpoint_starts))]
 pub fn starting_laws()
     ensures image { (clock : ℕ) (r : Record) → IsRecord r
-        → start_by Image clock (image_text Two (kept_of r)) ≡ Ok (record {
-          journal = journal_begun clock (image_text Two (kept_of r));
+        → start_by Image clock (device_image r) ≡ Ok (record {
+          journal = journal_begun clock (device_image r);
           device = after_cycle r;
         }) }
     ensures state { (clock : ℕ) (state : WholeState) → IsWholeState state

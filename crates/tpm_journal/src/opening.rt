@@ -7,7 +7,7 @@ ghost use Rattle.tpm_journal.specs.Starting.{IsStart, StartsBy, start_by, start_
 ghost use Rattle.tpm_journal_text.specs.Head.{head_sum};
 ghost use Rattle.tpm_machine.specs.State.{state_of};
 ghost use Rattle.tpm_record.specs.Record.{manufactured};
-ghost use Rattle.tpm_state_text.specs.State.{current_state_of_text};
+ghost use Rattle.tpm_state_text.specs.State.{state_of_text};
 
 use crate::following::FollowFault;
 use crate::journal::Journal;
@@ -15,7 +15,7 @@ use tpm_image::{ImageFault, open_into};
 use tpm_journal_text::{CONTENT_LIMIT, Head, HeadKind, read_head};
 use tpm_machine::Machine;
 use tpm_record::Keep;
-use tpm_snapshot::resume_new;
+use tpm_snapshot::restore_new;
 use tpm_state_text::RestoreFault;
 use tpm_step::Outcome;
 
@@ -63,16 +63,15 @@ fn open_image<K: Keep>(machine: &mut Machine<K>, head: &Head) -> Result<Journal,
     }
 }
 
-/// Restores the device from a head's state text in a new machine. A state text of version 1 is
-/// refused, because an earlier completing layer answered the entries after it.
+/// Restores the device from a head's state text in a new machine.
 fn open_state<K: Keep>(machine: &mut Machine<K>, head: &Head) -> Result<Journal, OpenFault>
     requires new { state_of K.record_of machine.old ≡ manufactured (replicate 256 0) }
     requires never_refused { K.can_refuse ≡ false }
     requires sum { head.now.sum ≡ head_sum head.now.clock head.now.content.now }
     ensures { IsStart (start_by_state head.now.clock head.now.content.now
-        (current_state_of_text head.now.content.now)) result (state_of K.record_of machine.new) }
+        (state_of_text head.now.content.now)) result (state_of K.record_of machine.new) }
 {
-    match resume_new(machine, head.content) {
+    match restore_new(machine, head.content) {
         Ok(layer) => Ok(Journal::resumed(head.sum, head.clock, layer.as_ref())),
         Err(fault) => Err(OpenFault::State(fault)),
     }

@@ -16,10 +16,10 @@ use Rattle.tpm_journal_text.specs.declared.head.HeadKind.TheVariants.{Image, Sta
 use Rattle.tpm_keeping.specs.Journal.{Spot}
 use Rattle.tpm_snapshot.specs.Layer.{completion_of}
 use Rattle.tpm_state_text.specs.Body.{WholeState}
-use Rattle.tpm_state_text.specs.State.{current_state_of_text, state_text}
+use Rattle.tpm_state_text.specs.State.{state_of_text, state_text}
 use Rattle.tpm_state_text.specs.declared.fault.StateFault.{StateFault}
 use Rattle.tpm_state_text.specs.declared.layer.Layer.{Layer}
-use Rattle.tpm_state_text.proofs.StateLaws.{current_short, current_found}
+use Rattle.tpm_state_text.proofs.StateLaws.{front_short, text_found}
 use Rattle.tpm_kept_journal.specs.Opening.{after_head_text, head_of, head_sum_of, is_state_text, no_head, opened_text, spot_after_walk, spot_by, started_at, started_by, started_no_head, walked_after, whole_head}
 use Rattle.tpm_kept_journal.specs.State.{DeviceState, bytes_of, content_in, state_of_bytes, time_in}
 use Rattle.tpm_kept_journal.specs.texts.HeadAt.{PlainHead, head_at, text_of_head}
@@ -75,13 +75,13 @@ has_head text is = record {
 
 -- An encoded state has at least eight bytes, which encode the time.
 content_some : (text : List ℕ) (whole : WholeState)
-    → current_state_of_text (content_in text) ≡ Ok whole → 8 ≤ length text
+    → state_of_text (content_in text) ≡ Ok whole → 8 ≤ length text
 content_some text whole says = long (content_in text) refl
   where
     long : (content : List ℕ) → content_in text ≡ content → 8 ≤ length text
     long [] none =
-        let no : Ok whole ≡ Err _ = sym says ∙ ap current_state_of_text none
-        ∙ current_short [] 0 (omega arith) in
+        let no : Ok whole ≡ Err _ = sym says ∙ ap state_of_text none
+        ∙ front_short [] 0 (omega arith) in
         absurd cc
     long (byte ∷ content) some = omega (arith, ap length some, length-drop 8 text)
 
@@ -101,7 +101,7 @@ text_again text is =
     wide64.back (take 8 text) (length-take-le 8 text long) (AreBytes-take 8 text is.are) in
     let whole : content_in text ≡ state_text
     (record { device = says.device; layer = Some says.layer }) =
-    (current_found (content_in text) _ (content_bytes text is.are) says.says).1 in
+    (text_found (content_in text) _ (content_bytes text is.are) says.says).1 in
     ap (λ (l : Layer). to_be_bytes w64 (time_in text)
     ++ state_text (record { device = says.device; layer = Some l })) (layer_back says.layer)
     ∙ ap (λ (l : List ℕ). to_be_bytes w64 (time_in text) ++ l) (sym whole)

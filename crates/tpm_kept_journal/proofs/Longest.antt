@@ -20,7 +20,7 @@ use Rattle.tpm_journal_text.specs.declared.head.HeadKind.TheVariants.{Image, Sta
 use Rattle.tpm_journal_text.proofs.Tails.{torn_nothing}
 use Rattle.tpm_keeping.specs.Journal.{Spot}
 use Rattle.tpm_state_text.specs.Body.{WholeState}
-use Rattle.tpm_state_text.specs.State.{current_state_of_text}
+use Rattle.tpm_state_text.specs.State.{state_of_text}
 use Rattle.tpm_state_text.specs.declared.fault.StateFault.{StateFault}
 use Rattle.tpm_kept_journal.specs.Effect.{left_by}
 use Rattle.tpm_kept_journal.specs.Opening.{opened_text, performance, performed_on, spot_after_walk, walk}
@@ -165,8 +165,8 @@ module _ (clock : ℕ) (content : List ℕ) (start : Start) where
   start_sum : (kind : HeadKind) → start_by kind clock content ≡ Ok start
       → start.journal.sum ≡ head_sum clock content
   start_sum Image is = sum_by_image (image_of content) is
-  start_sum State is = sum_by_state (current_state_of_text content) is
-  start_sum (Versioned version) is = sum_by_state (current_state_of_text content) is
+  start_sum State is = sum_by_state (state_of_text content) is
+  start_sum (Versioned version) is = sum_by_state (state_of_text content) is
 
 module _ (h : PlainHead) (rest : List ℕ) (p : Spot) (n : ℕ) (has : HasHead h.kind h.clock h.content)
     (leads : opened_text (text_of_head h ++ rest) ≡ Some (p, n)) where

@@ -26,10 +26,10 @@ use Rattle.tpm_record.specs.IsRecord.{IsRecord}
 use Rattle.tpm_record.specs.Record.{Record}
 use Rattle.tpm_state_text.specs.Body.{IsWholeState, WholeState}
 use Rattle.tpm_state_text.specs.Layer.{IsLayer}
-use Rattle.tpm_state_text.specs.State.{current_state_of_text}
+use Rattle.tpm_state_text.specs.State.{state_of_text}
 use Rattle.tpm_state_text.specs.declared.fault.StateFault.{StateFault}
 use Rattle.tpm_state_text.specs.declared.layer.Layer.{Layer}
-use Rattle.tpm_state_text.proofs.StateLaws.{current_found}
+use Rattle.tpm_state_text.proofs.StateLaws.{text_found}
 use Rattle.tpm_step.proofs.step.PowerCycles.{none_taken, starting_banks}
 use Rattle.tpm_types_common.specs.Limits.{object_limit, session_limit}
 use Rattle.tpm_kept_journal.specs.Opening.{walked_after, opened_text, spot_by, started_at, started_by, started_no_head, spot_after_walk}
@@ -93,11 +93,11 @@ module _ (clock : ℕ) (content : List ℕ) (small : clock < 2 ^ 64) (are : AreB
       (powered_record kept (image_taken content kept are e).1))
   by_image (Err why) e is = absurd cc
 
-  by_state : (read : Result WholeState StateFault) → current_state_of_text content ≡ read
+  by_state : (read : Result WholeState StateFault) → state_of_text content ≡ read
       → start_by_state clock content read ≡ Ok start
       → IsDeviceState (state_in start.journal start.device)
   by_state (Ok whole) e is =
-      let found = (current_found content whole are e).0 in
+      let found = (text_found content whole are e).0 in
       subst (λ (s : Start). IsDeviceState (state_in s.journal s.device))
       (ok_is {E = OpenFault} _ start is)
       (device_is clock _ whole.device small
@@ -107,8 +107,8 @@ module _ (clock : ℕ) (content : List ℕ) (small : clock < 2 ^ 64) (are : AreB
   starts_whole : (kind : HeadKind) → start_by kind clock content ≡ Ok start
       → IsDeviceState (state_in start.journal start.device)
   starts_whole Image is = by_image (image_of content) refl is
-  starts_whole State is = by_state (current_state_of_text content) refl is
-  starts_whole (Versioned version) is = by_state (current_state_of_text content) refl is
+  starts_whole State is = by_state (state_of_text content) refl is
+  starts_whole (Versioned version) is = by_state (state_of_text content) refl is
 
 -- ---- bytes that begin with a head
 

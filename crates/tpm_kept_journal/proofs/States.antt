@@ -7,10 +7,10 @@ use Rattle.tpm_record.specs.Record.{Record}
 use Rattle.tpm_snapshot.specs.Layer.{completion_of, layer_of}
 use Rattle.tpm_snapshot.proofs.Layers.{layer_again}
 use Rattle.tpm_state_text.specs.Body.{WholeState}
-use Rattle.tpm_state_text.specs.State.{current_state_of_text, state_text}
+use Rattle.tpm_state_text.specs.State.{state_of_text, state_text}
 use Rattle.tpm_state_text.specs.declared.fault.StateFault.{StateFault}
 use Rattle.tpm_state_text.specs.declared.layer.Layer.{Layer}
-use Rattle.tpm_state_text.proofs.StateLaws.{current_told}
+use Rattle.tpm_state_text.proofs.StateLaws.{text_told}
 use Rattle.tpm_kept_journal.specs.State.{DeviceState, IsDeviceState, bytes_of, content_in, state_by, state_of_bytes, state_with, time_in, whole_of}
 
 -- ---- decoding an encoded state
@@ -34,9 +34,9 @@ content_of s = drop_at (to_be_bytes w64 s.time) (state_text (whole_of s)) 8 (wid
 pub state_told : (s : DeviceState) → IsDeviceState s → state_of_bytes (bytes_of s) ≡ Some s
 unfolding state_of_bytes
 state_told s is =
-    ap (λ (n : ℕ). state_by n (current_state_of_text (content_in (bytes_of s)))) (time_of s is.time)
-    ∙ ap (λ (t : List ℕ). state_by s.time (current_state_of_text t)) (content_of s)
-    ∙ ap (state_by s.time) (current_told (whole_of s) is.whole)
+    ap (λ (n : ℕ). state_by n (state_of_text (content_in (bytes_of s)))) (time_of s is.time)
+    ∙ ap (λ (t : List ℕ). state_by s.time (state_of_text t)) (content_of s)
+    ∙ ap (state_by s.time) (text_told (whole_of s) is.whole)
     ∙ state_of s
 
 -- ---- bytes that decode to a state
@@ -48,13 +48,13 @@ layer_back layer = refl
 pub record IsStateText (text : List ℕ) : Type 0 where
   pub layer : Layer
   pub device : Record
-  pub says : current_state_of_text (content_in text)
+  pub says : state_of_text (content_in text)
       ≡ Ok (record { device = device; layer = Some layer })
   pub is : state_of_bytes text
       ≡ Some (record { time = time_in text; layer = completion_of (Some layer); device = device })
 
 said_with : (text : List ℕ) (device : Record) (layer : Option Layer) (s : DeviceState)
-    → current_state_of_text (content_in text) ≡ Ok (record { device = device; layer = layer })
+    → state_of_text (content_in text) ≡ Ok (record { device = device; layer = layer })
     → state_with (time_in text) device layer ≡ Some s → IsStateText text
 unfolding state_of_bytes
 said_with text device (Some layer) s e is =
@@ -62,11 +62,11 @@ said_with text device (Some layer) s e is =
 said_with text device None s e is = absurd cc
 
 said_by : (text : List ℕ) (read : Result WholeState StateFault) (s : DeviceState)
-    → current_state_of_text (content_in text) ≡ read
+    → state_of_text (content_in text) ≡ read
     → state_by (time_in text) read ≡ Some s → IsStateText text
 said_by text (Ok whole) s e is = said_with text whole.device whole.layer s e is
 said_by text (Err why) s e is = absurd cc
 
 pub text_says : (text : List ℕ) (s : DeviceState) → state_of_bytes text ≡ Some s → IsStateText text
 unfolding state_of_bytes
-text_says text s is = said_by text (current_state_of_text (content_in text)) s refl is
+text_says text s is = said_by text (state_of_text (content_in text)) s refl is

@@ -8,7 +8,7 @@ use Rattle.tpm_keeping.specs.Journal.{Spot}
 use Rattle.tpm_record.specs.Record.{Record}
 use Rattle.tpm_snapshot.specs.Layer.{completion_of, layer_of}
 use Rattle.tpm_state_text.specs.Body.{IsWholeState, WholeState}
-use Rattle.tpm_state_text.specs.State.{current_state_of_text, state_text}
+use Rattle.tpm_state_text.specs.State.{state_of_text, state_text}
 use Rattle.tpm_state_text.specs.declared.fault.StateFault.{StateFault}
 use Rattle.tpm_state_text.specs.declared.layer.Layer.{Layer}
 
@@ -52,7 +52,7 @@ abbrev pub content_in : List ℕ → List ℕ
 content_in text = drop 8 text
 
 unfoldable pub state_of_bytes : List ℕ → Option DeviceState
-state_of_bytes text = state_by (time_in text) (current_state_of_text (content_in text))
+state_of_bytes text = state_by (time_in text) (state_of_text (content_in text))
 
 -- the state of a device with this journal
 abbrev pub state_in : Journal → Record → DeviceState

@@ -11,7 +11,7 @@ use tpm_types_common::Handle;
 const ENTRIES: u8 = 3;
 
 /// Adds a handle to the line: the name of a permanent entity, or eight hex digits.
-fn put_handle<W: Write>(handle: Handle, line: &mut W) -> fmt::Result {
+pub fn put_handle<W: Write>(handle: Handle, line: &mut W) -> fmt::Result {
     if handle == Handle::OWNER {
         line.write_str("OWNER")
     } else if handle == Handle::NULL {

@@ -12,7 +12,7 @@ use arrayvec::ArrayString;
 use std::alloc::Global;
 use std::fmt::Write;
 use tpm_bytes::Cursor;
-use tpm_commands::CommandCode;
+use tpm_commands::{CommandCode, Profile};
 use tpm_text::{Draft, assemble_in};
 use tpm_types_command::Tag;
 
@@ -56,7 +56,7 @@ fn is_spelled(line: &[u8], buffer: &[u8]) -> bool
     ensures { result ≡ true → assembled_bytes line.now ≡ Ok buffer.now }
 {
     let mut draft = Draft::new();
-    match assemble_in(line, &mut draft) {
+    match assemble_in(Profile::Symmetric, line, &mut draft) {
         Ok(bytes) => bytes == buffer,
         Err(_) => false,
     }

@@ -1,7 +1,8 @@
-//! Writes lists in words: lists of PCR selections, of digests with their algorithms, and of sized
-//! buffers.
+//! Writes lists in words: lists of PCR selections, of digests with their algorithms, of sized buffers,
+//! and of algorithms.
 
 use crate::fault::SpellFault;
+use crate::number::{Form, put_number};
 use crate::word::{hash_word, put_buffer, put_digits};
 use std::fmt::Write;
 use tpm_bytes::Cursor;
@@ -16,6 +17,8 @@ pub enum Element {
     Digest,
     /// A digest in a sized buffer: TPM2B_DIGEST.
     Buffer,
+    /// The number of an algorithm: TPM_ALG_ID.
+    Algorithm,
 }
 
 /// Adds the elements of a list to the line, separated by `+`, or `-` for an empty list.
@@ -36,6 +39,7 @@ pub fn put_list<W: Write>(
             Element::Bank => put_bank(fields, line)?,
             Element::Digest => put_digest(fields, line)?,
             Element::Buffer => put_buffer(fields, line)?,
+            Element::Algorithm => put_number(u64::from(fields.u16()?), Form::Hexadecimal, line)?,
         }
     }
     Ok(())

@@ -1,12 +1,14 @@
 //! Writes each parameter of a command in words.
 
+use crate::entry::put_handle;
 use crate::fault::SpellFault;
 use crate::list::{Element, put_list};
 use crate::number::{Form, put_number};
-use crate::word::{put_buffer, put_hash, put_symmetric};
+use crate::word::{put_buffer, put_bytes, put_hash, put_symmetric};
 use std::fmt::Write;
 use tpm_bytes::Cursor;
 use tpm_commands::{CommandCode, ParameterKind};
+use tpm_types_common::Handle;
 
 /// Adds the parameters of a command to the line.
 pub fn put_parameters<W: Write>(
@@ -48,6 +50,17 @@ fn put_parameter<W: Write>(
         ParameterKind::Selection => put_list(Element::Bank, fields, line)?,
         ParameterKind::Digests => put_list(Element::Digest, fields, line)?,
         ParameterKind::DigestList => put_list(Element::Buffer, fields, line)?,
+        ParameterKind::AlgorithmList => put_list(Element::Algorithm, fields, line)?,
+        ParameterKind::Hierarchy => {
+            put_handle(
+                Handle {
+                    number: fields.u32()?,
+                },
+                line,
+            )?;
+        }
+        // The only command with such a parameter, TPM2_TestParms, has no other parameter.
+        ParameterKind::PublicParameters => put_bytes(fields.take(fields.len())?, line)?,
         ParameterKind::Buffer(_)
         | ParameterKind::SensitiveCreate
         | ParameterKind::Public

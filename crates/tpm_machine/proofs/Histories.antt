@@ -2,7 +2,8 @@
 -- accepted events added.
 use Rattle.std.proofs.Common.{◌≡◌, Bool, List, [], Bor, ℕ, subst, sym}
 use Rattle.std.specs.Fn.{Mut}
-use Rattle.tpm_record.specs.Record.{Record, manufactured}
+use Rattle.tpm_commands.specs.declared.profile.Profile.{Profile}
+use Rattle.tpm_record.specs.Record.{Record, manufactured_as}
 use Rattle.tpm_step.specs.step.Events.{PlainEvent}
 use Rattle.tpm_step.specs.step.Execution.{Executes}
 use Rattle.tpm_step.specs.step.Run.{Runs}
@@ -10,11 +11,12 @@ use Rattle.tpm_step.specs.step.Step.{Stepped}
 use Rattle.tpm_step.specs.declared.event.Outcome.{Outcome}
 use Rattle.tpm_step.specs.history.Follows.{After, Follows, FollowsOn, RunFollows}
 use Rattle.tpm_step.specs.history.History.{History}
-use Rattle.tpm_step.proofs.history.Following.{execution_follows, manufactured_follows, run_follows}
+use Rattle.tpm_step.proofs.history.Following.{execution_follows, manufactured_as_follows, run_follows}
 
-pub new_follows : (r : Record) (random : List ℕ) → r ≡ manufactured random → Follows r []
-new_follows r random is =
-    subst (λ (x : Record). Follows x []) (sym is) (manufactured_follows random)
+pub new_follows : (r : Record) (profile : Profile) (random : List ℕ)
+    → r ≡ manufactured_as profile random → Follows r []
+new_follows r profile random is =
+    subst (λ (x : Record). Follows x []) (sym is) (manufactured_as_follows profile random)
 
 -- If a device follows a history, then after an event it follows the history with this event added.
 -- An event that was not accepted is not added. The other claims of `FollowsOn` hold too.

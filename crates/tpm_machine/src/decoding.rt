@@ -176,7 +176,12 @@ fn decode_whole<'a, 'b, 'k, K: Keep>(
 {
     let mut text = Cursor::new(buffer);
     match Header::read(&mut text) {
-        Ok(header) => decode_body(keep, header, text, entries, entities),
+        Ok(header) => {
+            if !keep.fixed().profile.serves(header.code) {
+                return Err(header_refusal(HeaderFault::Code));
+            }
+            decode_body(keep, header, text, entries, entities)
+        }
         Err(fault) => Err(header_refusal(fault)),
     }
 }

@@ -5,7 +5,7 @@ ghost use Rattle.tpm_types_common.specs.Limits.{buffer_limit, response_limit};
 ghost use Rattle.std.specs.Prelude.{◌≡◌, ◌≤◌, [], IfOk, OnErr, false, length, map, true};
 ghost use Rattle.std.specs.Borrow.{Lends, sem};
 ghost use Rattle.tpm_record.specs.IsRecord.{IsRecord};
-ghost use Rattle.tpm_record.specs.Record.{manufactured};
+ghost use Rattle.tpm_record.specs.Record.{manufactured, manufactured_as};
 ghost use Rattle.tpm_step.specs.step.Events.{IsEvent, plain_event};
 ghost use Rattle.tpm_step.specs.step.Run.{Runs, after_all};
 ghost use Rattle.tpm_step.specs.step.Execution.{Executes};
@@ -24,7 +24,7 @@ use arrayvec::ArrayVec;
 use std::alloc::Global;
 use tpm_auth::Cache;
 use tpm_bytes::NoMemory;
-use tpm_commands::CommandCode;
+use tpm_commands::{CommandCode, Profile};
 use tpm_record::rows::answer::Answer;
 use tpm_record::tick::tick;
 use tpm_record::{Fixed, Keep, power_cycle, read_widths};
@@ -62,8 +62,28 @@ impl<K: Keep> Machine<K> {
         // The history of a new device is empty.
         ensures history { IfOk result (λ machine. Follows (state_of K.record_of machine) []) }
     {
+        Machine::manufacture_as(alloc, Profile::Symmetric, random)
+    }
+
+    /// Manufactures a device of this profile. Allocates its memory from `alloc`, and takes the
+    /// secrets of its hierarchies from the random bytes.
+    #[inline(always)]
+    pub fn manufacture_as(
+        alloc: Global,
+        profile: Profile,
+        random: &[u8; 256],
+    ) -> Result<Machine<K>, NoMemory>
+        // An error is possible only if an allocation for an empty state can fail.
+        ensures refused { OnErr result (K.empty_can_refuse ≡ true) }
+        ensures state { IfOk result (λ machine. state_of K.record_of machine
+            ≡ manufactured_as profile random.now) }
+        ensures is_record { IfOk result (λ machine. IsRecord (state_of K.record_of machine)) }
+
+        // The history of a new device is empty.
+        ensures history { IfOk result (λ machine. Follows (state_of K.record_of machine) []) }
+    {
         let mut keep = K::empty(alloc)?;
-        *keep.fixed_mut() = Fixed::manufactured(random);
+        *keep.fixed_mut() = Fixed::manufactured_as(profile, random);
         read_widths(&keep);
         Ok(Machine::from_keep(keep))
     }

@@ -21,11 +21,16 @@ use arrayvec::ArrayVec;
 use tpm_actions_capability::get_capability::get_capability;
 use tpm_actions_device::clear::clear;
 use tpm_actions_device::clear_control::clear_control;
+use tpm_actions_device::clock_rate_adjust::clock_rate_adjust;
+use tpm_actions_device::clock_set::clock_set;
 use tpm_actions_device::dictionary_attack_lock_reset::dictionary_attack_lock_reset;
 use tpm_actions_device::dictionary_attack_parameters::dictionary_attack_parameters;
 use tpm_actions_device::flush_context::flush_context;
 use tpm_actions_device::get_random::get_random;
+use tpm_actions_device::get_test_result::get_test_result;
+use tpm_actions_device::hash::hash;
 use tpm_actions_device::hierarchy_change_auth::hierarchy_change_auth;
+use tpm_actions_device::incremental_self_test::incremental_self_test;
 use tpm_actions_device::pcr_event::pcr_event;
 use tpm_actions_device::pcr_extend::pcr_extend;
 use tpm_actions_device::pcr_read::pcr_read;
@@ -35,6 +40,8 @@ use tpm_actions_device::self_test::self_test;
 use tpm_actions_device::shutdown::shutdown;
 use tpm_actions_device::start_auth_session::start_auth_session;
 use tpm_actions_device::startup::startup;
+use tpm_actions_device::stir_random::stir_random;
+use tpm_actions_device::test_parms::test_parms;
 use tpm_actions_object::create::create;
 use tpm_actions_object::create_primary::create_primary;
 use tpm_actions_object::evict_control::evict_control;
@@ -93,6 +100,8 @@ fn act<K: Keep>(
         CommandCode::NvUndefineSpace => nv_undefine_space(keep, call, answer),
         CommandCode::Clear => clear(keep, call, answer),
         CommandCode::ClearControl => clear_control(keep, call, answer),
+        CommandCode::ClockSet => clock_set(keep, call, answer),
+        CommandCode::ClockRateAdjust => clock_rate_adjust(keep, call, answer),
         CommandCode::HierarchyChangeAuth => hierarchy_change_auth(keep, call, answer),
         CommandCode::NvDefineSpace => nv_define_space(keep, call, answer),
         CommandCode::CreatePrimary => create_primary(keep, call, answer),
@@ -106,9 +115,11 @@ fn act<K: Keep>(
         CommandCode::NvChangeAuth => nv_change_auth(keep, call, answer),
         CommandCode::PcrEvent => pcr_event(keep, call, answer),
         CommandCode::PcrReset => pcr_reset(keep, call, answer),
+        CommandCode::IncrementalSelfTest => incremental_self_test(keep, call, answer),
         CommandCode::SelfTest => self_test(keep, call, answer),
         CommandCode::Startup => startup(keep, call, answer),
         CommandCode::Shutdown => shutdown(keep, call, answer),
+        CommandCode::StirRandom => stir_random(keep, call, answer),
         CommandCode::PolicyNv => policy_nv(keep, call, answer),
         CommandCode::NvRead => nv_read(keep, call, answer),
         CommandCode::NvReadLock => nv_read_lock(keep, call, answer),
@@ -129,12 +140,15 @@ fn act<K: Keep>(
         CommandCode::StartAuthSession => start_auth_session(keep, call, answer),
         CommandCode::GetCapability => get_capability(keep, call, answer),
         CommandCode::GetRandom => get_random(keep, call, answer),
+        CommandCode::GetTestResult => get_test_result(keep, call, answer),
+        CommandCode::Hash => hash(keep, call, answer),
         CommandCode::PcrRead => pcr_read(keep, call, answer),
         CommandCode::PolicyPcr => policy_pcr(keep, call, answer),
         CommandCode::PolicyRestart => policy_restart(keep, call, answer),
         CommandCode::ReadClock => read_clock(keep, call, answer),
         CommandCode::PcrExtend => pcr_extend(keep, call, answer),
         CommandCode::PolicyGetDigest => policy_get_digest(keep, call, answer),
+        CommandCode::TestParms => test_parms(keep, call, answer),
         CommandCode::PolicyPassword => policy_password(keep, call, answer),
     }
 }

@@ -7,6 +7,7 @@
 use Rattle.tpm_commands.specs.declared.command_code.CommandCode.{CommandCode as ServedCommand}
 use Rattle.tpm_commands.specs.CommandCode.{code_number, is_served}
 use Rattle.tpm_commands.specs.declared.command_code.CommandCode.TheVariants as served
+use Rattle.tpm_commands.specs.declared.profile.Profile.{Profile}
 use Rattle.std.specs.Prelude.{◌≡◌, ℕ, ◌==◌, ◌&&◌, ◌||◌, not, nat_lt, bit_and, if◌then◌else◌}
 use Rattle.std.specs.Prelude.{Bool, true, false, List, [], ◌∷◌, ◌++◌, length, replicate}
 use Rattle.std.specs.Prelude.{Option, Some, None, Result, Ok, Err}
@@ -110,7 +111,7 @@ pub data Assertion : Type 0 where
   Or : (digests : List (List ℕ)) → Assertion
   AuthValue : Assertion
   Password : Assertion
-  CommandCode : (number : ℕ) → Assertion
+  CommandCode : Profile → (number : ℕ) → Assertion
   Locality : (localities : ℕ) → Assertion
   CpHash : (cp_hash : List ℕ) → Assertion
   NvWritten : (is_written : Bool) → Assertion
@@ -186,14 +187,14 @@ auth_value_asserted hash policy = demanding hash demand.AuthValue policy
 unfoldable pub password_asserted : HashAlg → Policy → Policy
 password_asserted hash policy = demanding hash demand.Password policy
 
--- TPM2_PolicyCommandCode (section 23.11): only this command is allowed. It must be supported, and
+-- TPM2_PolicyCommandCode (section 23.11): only this command is allowed. The device must serve it, and
 -- no other command may have been recorded. A trial session makes both checks too (a choice of this
 -- implementation)
-unfoldable pub command_code_asserted : HashAlg → (number : ℕ)
+unfoldable pub command_code_asserted : HashAlg → Profile → (number : ℕ)
     → Policy → Result Policy ActionFault
-command_code_asserted hash number policy = do
+command_code_asserted hash profile number policy = do
   a1 ← refused_if (is_other policy.command number) (parameter_fault action.First 1 code.Value)
-  a2 ← refused_if (not (is_served number)) (parameter_fault action.Second 1 code.PolicyCc)
+  a2 ← refused_if (not (is_served profile number)) (parameter_fault action.Second 1 code.PolicyCc)
   Ok (record (extended_policy hash served.PolicyCommandCode (to_be_bytes w32 number) policy)
       { command = Some number })
 
@@ -286,7 +287,8 @@ asserted_policy hash trial (Pcr pcr) policy = pcr_asserted hash trial pcr policy
 asserted_policy hash trial (Or digests) policy = or_asserted hash trial digests policy
 asserted_policy hash trial AuthValue policy = Ok (auth_value_asserted hash policy)
 asserted_policy hash trial Password policy = Ok (password_asserted hash policy)
-asserted_policy hash trial (CommandCode number) policy = command_code_asserted hash number policy
+asserted_policy hash trial (CommandCode profile number) policy =
+    command_code_asserted hash profile number policy
 asserted_policy hash trial (Locality localities) policy = locality_asserted hash localities policy
 asserted_policy hash trial (CpHash cp_hash) policy = cp_hash_asserted hash cp_hash policy
 asserted_policy hash trial (NvWritten is_written) policy =

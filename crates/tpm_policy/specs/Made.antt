@@ -18,7 +18,7 @@ policy_with hash trial (Pcr pcr) policy =
 policy_with hash trial (Or digests) policy = record policy { digest = or_digest hash digests }
 policy_with hash trial AuthValue policy = auth_value_asserted hash policy
 policy_with hash trial Password policy = password_asserted hash policy
-policy_with hash trial (CommandCode number) policy =
+policy_with hash trial (CommandCode profile number) policy =
     record (extended_policy hash command.PolicyCommandCode (to_be_bytes w32 number) policy) {
       command = Some number;
     }

@@ -14,7 +14,7 @@ ghost use Rattle.tpm_policy.specs.Assertion.{cp_hash_asserted, nv_written_assert
 use crate::state::{Demand, PolicyState};
 use arrayvec::ArrayVec;
 use tpm_bytes::{copied, is_equal};
-use tpm_commands::CommandCode;
+use tpm_commands::{CommandCode, Profile};
 use tpm_mac::{Digest, HashAlg, digest_parts};
 use tpm_types_common::{ActionCheck, ActionFault, DigestList, ResponseCode};
 
@@ -108,16 +108,22 @@ impl PolicyState {
     }
 
     /// TPM2_PolicyCommandCode: returns VALUE if the policy already names another command, and
-    /// POLICY_CC if no implemented command has this code.
+    /// POLICY_CC if a device of this profile serves no command with this code.
     #[tactic(auto, unfolding(crate::specs::Assertion::command_code_asserted))]
-    pub fn command_code(&mut self, hash: HashAlg, number: u32) -> Result<(), ActionFault>
-        ensures { Asserts (command_code_asserted hash number self.old) self.old result self.new }
+    pub fn command_code(
+        &mut self,
+        hash: HashAlg,
+        profile: Profile,
+        number: u32,
+    ) -> Result<(), ActionFault>
+        ensures { Asserts (command_code_asserted hash profile number self.old)
+            self.old result self.new }
     {
         if self.records_other_code(number) {
             let check = ActionCheck::First;
             return Err(ActionFault::in_parameter(check, 1, ResponseCode::Value));
         }
-        if !CommandCode::is_served(number) {
+        if !profile.serves_number(number) {
             let check = ActionCheck::Second;
             return Err(ActionFault::in_parameter(check, 1, ResponseCode::PolicyCc));
         }

@@ -115,7 +115,7 @@ module _ (hash : HashAlg) (Broken : Type 0) (One Other : List ℕ → Type 0)
   text_asserts PolicyAuthValue assertion.Password fits widths ours theirs is refs = inl tt
   text_asserts PolicyPassword assertion.AuthValue fits widths ours theirs is refs = inl tt
   text_asserts PolicyPassword assertion.Password fits widths ours theirs is refs = inl tt
-  text_asserts (PolicyCommandCode number) (assertion.CommandCode asserted) fits widths ours theirs
+  text_asserts (PolicyCommandCode number) (assertion.CommandCode profile asserted) fits widths ours theirs
       is refs =
       inl (number_same_4 asserted number widths fits (ap (drop 4) (sym is)))
   text_asserts (PolicyLocality localities) (assertion.Locality asserted) fits widths ours theirs is

@@ -112,7 +112,7 @@ module _ (hash : HashAlg) where
       grouped (session_digest hash earlier) command.PolicyAuthValue []
   digest_made assertion.Password earlier =
       grouped (session_digest hash earlier) command.PolicyAuthValue []
-  digest_made (assertion.CommandCode number) earlier =
+  digest_made (assertion.CommandCode profile number) earlier =
       grouped (session_digest hash earlier) command.PolicyCommandCode (to_be_bytes w32 number)
   digest_made (assertion.Locality localities) earlier =
       grouped (session_digest hash earlier) command.PolicyLocality (localities ∷ [])

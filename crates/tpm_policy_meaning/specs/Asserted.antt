@@ -48,7 +48,7 @@ Says assertion.AuthValue PolicyAuthValue = Unit {0}
 Says assertion.AuthValue PolicyPassword = Unit {0}
 Says assertion.Password PolicyAuthValue = Unit {0}
 Says assertion.Password PolicyPassword = Unit {0}
-Says (assertion.CommandCode asserted) (PolicyCommandCode number) = asserted ≡ number
+Says (assertion.CommandCode profile asserted) (PolicyCommandCode number) = asserted ≡ number
 Says (assertion.Locality asserted) (PolicyLocality localities) = asserted ≡ localities
 Says (assertion.CpHash asserted) (PolicyCpHash cp_hash) = asserted ≡ cp_hash
 Says (assertion.NvWritten asserted) (PolicyNvWritten is_written) = asserted ≡ is_written
@@ -70,7 +70,7 @@ IsAsserted assertions written =
 -- session's hash algorithm, a command code fits in 32 bits, and an offset fits in 16 bits.
 abbrev pub HasWidths : HashAlg → Assertion → Type 0
 HasWidths hash (assertion.Pcr parts) = length parts.digest ≡ digest_size hash
-HasWidths hash (assertion.CommandCode number) = number < 2 ^ 32
+HasWidths hash (assertion.CommandCode profile number) = number < 2 ^ 32
 HasWidths hash (assertion.Nv parts) = parts.offset < 2 ^ 16
 HasWidths hash _ = Unit {0}
 
@@ -97,7 +97,7 @@ update_by hash (assertion.Pcr parts) =
 update_by hash (assertion.Or digests) = or_update digests
 update_by hash assertion.AuthValue = plain_update command.PolicyAuthValue []
 update_by hash assertion.Password = plain_update command.PolicyAuthValue []
-update_by hash (assertion.CommandCode number) =
+update_by hash (assertion.CommandCode profile number) =
     plain_update command.PolicyCommandCode (to_be_bytes w32 number)
 update_by hash (assertion.Locality localities) =
     plain_update command.PolicyLocality (localities ∷ [])

@@ -3,6 +3,7 @@ use Rattle.std.specs.Prelude.{◌≡◌, ℕ, List, [], ◌∷◌, true, Ok}
 use Rattle.tpm_mac.specs.declared.algorithm.HashAlg.{HashAlg}
 use Rattle.tpm_policy.specs.Assertion as assertion
 use Rattle.tpm_policy.specs.Assertion.{Assertion}
+use Rattle.tpm_commands.specs.declared.profile.Profile.TheVariants.{Complete}
 use Rattle.tpm_types_common.specs.PcrSelection.{selection_text}
 use Rattle.tpm_policy_meaning.specs.Asserted.{evaluated_policy}
 use Rattle.tpm_policy_meaning.specs.Expression.{PolicyAssertion, PolicyPcr, PolicyAuthValue}
@@ -14,7 +15,8 @@ use Rattle.tpm_policy_meaning.specs.Meaning.{IsPolicyExpression}
 use Rattle.tpm_policy_meaning.specs.PolicyDigest.{branch_digests, policy_digest}
 
 -- the assertion that a trial session makes for an assertion of a policy expression; `pcrs_now` is
--- the current digest of the device's PCRs
+-- the current digest of the device's PCRs. The device serves the command of TPM2_PolicyCommandCode, as
+-- one of the complete profile does
 abbrev pub assertion_of : (pcrs_now : List ℕ) → PolicyAssertion → Assertion
 assertion_of pcrs_now (PolicyPcr selection digest) = assertion.Pcr (record {
   given = digest;
@@ -24,7 +26,7 @@ assertion_of pcrs_now (PolicyPcr selection digest) = assertion.Pcr (record {
 })
 assertion_of pcrs_now PolicyAuthValue = assertion.AuthValue
 assertion_of pcrs_now PolicyPassword = assertion.Password
-assertion_of pcrs_now (PolicyCommandCode number) = assertion.CommandCode number
+assertion_of pcrs_now (PolicyCommandCode number) = assertion.CommandCode Complete number
 assertion_of pcrs_now (PolicyLocality localities) = assertion.Locality localities
 assertion_of pcrs_now (PolicyCpHash cp_hash) = assertion.CpHash cp_hash
 assertion_of pcrs_now (PolicyNvWritten is_written) = assertion.NvWritten is_written

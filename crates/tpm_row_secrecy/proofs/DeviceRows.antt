@@ -1,13 +1,18 @@
 -- The rows for the device itself, for PCRs and for hierarchies reveal nothing about secrets.
-use Rattle.std.proofs.Common.{ap, refl}
+use Rattle.std.proofs.Common.{ap, refl, subst, sym}
 use Rattle.std.specs.Option.{option_map_or}
 use Rattle.std.specs.Prelude.{Bool, List, None, Ok, Option, Some, [], cond, drop, false, option_map, take, true, ℕ, ◌≡◌}
 use Rattle.tpm_actions_device.specs.Clear.{clear_row, cleared_fixed}
 use Rattle.tpm_actions_device.specs.ClearControl.{clear_control_row, with_disable_clear}
+use Rattle.tpm_actions_device.specs.ClockRateAdjust.{clock_rate_adjust_row}
+use Rattle.tpm_actions_device.specs.ClockSet.{clock_set_row, with_clock}
 use Rattle.tpm_actions_device.specs.DictionaryAttackLockReset.{dictionary_attack_lock_reset_row}
 use Rattle.tpm_actions_device.specs.DictionaryAttackParameters.{dictionary_attack_parameters_row}
 use Rattle.tpm_actions_device.specs.GetRandom.{get_random_row}
+use Rattle.tpm_actions_device.specs.GetTestResult.{get_test_result_row}
+use Rattle.tpm_actions_device.specs.Hash.{HashParameters, hash_answer, hash_parameters_in, hash_row, proof_for, ticket_hierarchy}
 use Rattle.tpm_actions_device.specs.HierarchyChangeAuth.{hierarchy_change_auth_row}
+use Rattle.tpm_actions_device.specs.IncrementalSelfTest.{incremental_self_test_row}
 use Rattle.tpm_actions_device.specs.PcrChange.{with_banks}
 use Rattle.tpm_actions_device.specs.PcrEvent.{pcr_event_row}
 use Rattle.tpm_actions_device.specs.PcrExtend.{pcr_extend_row}
@@ -16,9 +21,11 @@ use Rattle.tpm_actions_device.specs.PcrReset.{pcr_reset_row}
 use Rattle.tpm_actions_device.specs.ReadClock.{read_clock_row}
 use Rattle.tpm_actions_device.specs.SelfTest.{self_test_row}
 use Rattle.tpm_actions_device.specs.Shutdown.{shutdown_row}
+use Rattle.tpm_actions_device.specs.StirRandom.{stir_random_row}
 use Rattle.tpm_actions_device.specs.Startup.{reset_fixed, restart_fixed, resume_fixed, start_of, started_record, startup_row}
 use Rattle.tpm_actions_device.specs.declared.startup.Start.{Start}
 use Rattle.tpm_actions_device.specs.declared.startup.Start.TheVariants.{Reset, Restart, Resume}
+use Rattle.tpm_actions_device.specs.TestParms.{test_parms_row}
 use Rattle.tpm_bytes.specs.Reading.{refused_if}
 use Rattle.tpm_lockout.specs.Lockout.{LockoutState}
 use Rattle.tpm_nv.specs.Clear.{contents_after_clear}
@@ -28,7 +35,7 @@ use Rattle.tpm_pcr.specs.Changes.{clear_counted}
 use Rattle.tpm_pcr.specs.Values.{BankValues}
 use Rattle.tpm_record.specs.Clear.{cleared_objects, cleared_persistent, cleared_place, is_cleared, outlasts}
 use Rattle.tpm_record.specs.Entity.{with_hierarchy_auth}
-use Rattle.tpm_record.specs.Hierarchy.{cleared_hierarchies}
+use Rattle.tpm_record.specs.Hierarchy.{cleared_hierarchies, secrets_of}
 use Rattle.tpm_record.specs.Record.{Record, with_lockout, with_saved}
 use Rattle.tpm_record.specs.Saved.{SavedState, kind_of}
 use Rattle.tpm_record.specs.declared.fixed.Fixed.{Fixed}
@@ -36,16 +43,18 @@ use Rattle.tpm_record.specs.declared.hierarchy.Hierarchies.{Hierarchies}
 use Rattle.tpm_record.specs.rows.Answer.{AnswerParts, nothing}
 use Rattle.tpm_record.specs.rows.Refusals.{action_refusal, or_refusal}
 use Rattle.tpm_record.specs.rows.Request.{Request, first_handle}
-use Rattle.tpm_record.specs.rows.Rows.{all_read, only}
+use Rattle.tpm_record.specs.rows.Rows.{all_read, only, unchanged_success}
 use Rattle.tpm_types_common.specs.AuthValue.{auth_value_at}
 use Rattle.tpm_types_common.specs.Handle.{hierarchy_auth_of}
 use Rattle.tpm_types_common.specs.Rc.{plain}
 use Rattle.tpm_types_common.specs.StartupType.{startup_type_at}
 use Rattle.tpm_types_common.specs.declared.handle.HierarchyAuth.{HierarchyAuth}
+use Rattle.tpm_types_common.specs.declared.handle.HierarchyHandle.{HierarchyHandle}
+use Rattle.tpm_types_common.specs.declared.handle.HierarchyHandle.TheVariants as hierarchy
 use Rattle.tpm_row_secrecy.proofs.Bare.{hierarchies_again, object_again, objects_again, persistent_again, same_parts, sessions_again, unless_again, with_fixed}
 use Rattle.tpm_row_secrecy.proofs.Changes.{cleared_same, started_same}
 use Rattle.tpm_row_secrecy.proofs.Each.{all_places_same, kept_same, places}
-use Rattle.tpm_row_secrecy.proofs.Steps.{same_change, same_end, same_step, same_steps}
+use Rattle.tpm_row_secrecy.proofs.Steps.{same_change, same_end, same_step, same_steps, same_unchanged}
 use Rattle.tpm_row_secrecy.specs.Alike.{Same}
 use Rattle.tpm_row_secrecy.specs.Secrecy.{Secrecy, bare_fixed, bare_hierarchies, bare_nv, bare_object, without_secrets}
 use Rattle.tpm_types_common.specs.declared.action_check.ActionCheck.TheVariants as action
@@ -56,6 +65,24 @@ module _ (s : Secrecy) (r : Record) (q : Request) where
   pub self_test_tells : Same s (self_test_row (without_secrets s r) q) (self_test_row r q)
   unfolding self_test_row
   self_test_tells = search same_steps depth 12
+
+  pub get_test_result_tells : Same s (get_test_result_row (without_secrets s r) q)
+      (get_test_result_row r q)
+  unfolding get_test_result_row
+  get_test_result_tells = search same_steps depth 12
+
+  pub incremental_self_test_tells : Same s (incremental_self_test_row (without_secrets s r) q)
+      (incremental_self_test_row r q)
+  unfolding incremental_self_test_row
+  incremental_self_test_tells = search same_steps depth 12
+
+  pub test_parms_tells : Same s (test_parms_row (without_secrets s r) q) (test_parms_row r q)
+  unfolding test_parms_row
+  test_parms_tells = search same_steps depth 12
+
+  pub stir_random_tells : Same s (stir_random_row (without_secrets s r) q) (stir_random_row r q)
+  unfolding stir_random_row
+  stir_random_tells = search same_steps depth 12
 
   pub read_clock_tells : Same s (read_clock_row (without_secrets s r) q) (read_clock_row r q)
   unfolding read_clock_row
@@ -125,6 +152,46 @@ module _ (s : Secrecy) (r : Record) (q : Request) where
       (clear_control_row r q)
   unfolding clear_control_row
   clear_control_tells = search (same_steps, clearing_end) depth 12
+
+  clock_end : (answer : AnswerParts) (clock : ℕ)
+      → Same s (Ok (record { answer = answer; after = with_clock (without_secrets s r) clock }))
+      (Ok (record { answer = answer; after = with_clock r clock }))
+  clock_end answer clock = same_change s r answer (λ t. with_clock t clock) (λ t. refl)
+
+  pub clock_set_tells : Same s (clock_set_row (without_secrets s r) q) (clock_set_row r q)
+  unfolding clock_set_row
+  clock_set_tells = search (same_steps, clock_end) depth 12
+
+  pub clock_rate_adjust_tells : Same s (clock_rate_adjust_row (without_secrets s r) q)
+      (clock_rate_adjust_row r q)
+  unfolding clock_rate_adjust_row
+  clock_rate_adjust_tells = search same_steps depth 12
+
+  -- ---- TPM2_Hash
+
+  -- the proofs of the hierarchies are no secrets here
+  proof_same : (h : HierarchyHandle)
+      → (secrets_of (bare_hierarchies s r.fixed.hierarchies) h).proof
+      ≡ (secrets_of r.fixed.hierarchies h).proof
+  proof_same hierarchy.Owner = refl
+  proof_same hierarchy.Endorsement = refl
+  proof_same hierarchy.Platform = refl
+  proof_same hierarchy.Null = refl
+
+  hash_end : (p : HashParameters)
+      → Same s (Ok (unchanged_success (without_secrets s r)
+      (hash_answer (proof_for (without_secrets s r) p) p)))
+      (Ok (unchanged_success r (hash_answer (proof_for r p) p)))
+  hash_end p =
+      subst (λ (proof : List ℕ). Same s
+      (Ok (unchanged_success (without_secrets s r) (hash_answer proof p)))
+      (Ok (unchanged_success r (hash_answer (proof_for r p) p))))
+      (sym (proof_same (ticket_hierarchy p.asked p.message)))
+      (same_unchanged s r (hash_answer (proof_for r p) p))
+
+  pub hash_tells : Same s (hash_row (without_secrets s r) q) (hash_row r q)
+  unfolding hash_row
+  hash_tells = same_step s (hash_parameters_in q.parameters) _ _ hash_end
 
   -- ---- hierarchies
 

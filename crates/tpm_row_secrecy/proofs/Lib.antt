@@ -9,5 +9,6 @@ pub mod SessionRows
 pub mod PolicyRows
 pub mod ObjectRows
 pub mod IndexRows
+pub mod Listed
 pub mod CapabilityRows
 pub mod ReadAlike

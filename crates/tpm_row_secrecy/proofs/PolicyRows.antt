@@ -136,7 +136,7 @@ module _ (s : Secrecy) (r : Record) (q : Request) where
   policy_command_code_tells =
       by_parameters command.PolicyCommandCode
       (only (or_fault (number_at w32 q.parameters) (plain code.Insufficient)))
-      (λ number y. assertion.CommandCode number) (λ p y. refl)
+      (λ number y. assertion.CommandCode r.fixed.profile number) (λ p y. refl)
 
   pub policy_cp_hash_tells : Same s (assertion_row command.PolicyCpHash (without_secrets s r) q)
       (assertion_row command.PolicyCpHash r q)

@@ -214,6 +214,7 @@ untouched part.Banks old new is touches = ap (λ (r : Record). r.sessions) touch
 untouched part.Beginning old new is touches = ap (λ (r : Record). r.sessions) touches.0
 untouched part.Saved old new is touches = ap (λ (r : Record). r.sessions) touches
 untouched part.DisableClear old new is touches = ap (λ (r : Record). r.sessions) touches
+untouched part.Clock old new is touches = ap (λ (r : Record). r.sessions) touches
 untouched part.Cleared old new is touches = ap (λ (r : Record). r.sessions) touches
 
 others_keep : (r : Record) (c : CommandCode) (q : Request) → has_no_session (part_of c) ≡ true

@@ -250,6 +250,7 @@ is_apart part.Lockout = true
 is_apart part.Banks = true
 is_apart part.Saved = true
 is_apart part.DisableClear = true
+is_apart part.Clock = true
 is_apart _ = false
 
 module _ (s : Secrecy) where
@@ -270,6 +271,7 @@ module _ (s : Secrecy) where
   apart_same part.Saved old new is touches h = ap (λ (r : Record). has_secret_value s r h) touches
   apart_same part.DisableClear old new is touches h =
       ap (λ (r : Record). has_secret_value s r h) touches
+  apart_same part.Clock old new is touches h = ap (λ (r : Record). has_secret_value s r h) touches
   apart_same _ old new is touches h = absurd (false≢true is)
 
   index_secret : (h : Handle) (one other : Option NvIndex)

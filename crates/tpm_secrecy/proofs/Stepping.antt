@@ -24,7 +24,7 @@ use Rattle.tpm_step.proofs.rows.Acceptance.{accepted_is}
 use Rattle.tpm_step.proofs.rows.Table.{row_tells}
 use Rattle.tpm_step.specs.step.Answer.{Answered, answer_to, written_of}
 use Rattle.tpm_step.specs.step.Events.{Cycled, Given, Placed, PlainEvent}
-use Rattle.tpm_step.specs.step.General.{body_of, general, in_command, in_header, present_handle_at}
+use Rattle.tpm_step.specs.step.General.{body_of, general, in_command, in_header, present_handle_at, served_header}
 use Rattle.tpm_step.specs.step.Granted.{granted_entries}
 use Rattle.tpm_step.specs.step.Placing.{placed_at, record_with_object}
 use Rattle.tpm_step.specs.step.Step.{Accepted, Stepped, acceptance, acceptance_in, answer_where, counted_in, refusal_step, refusal_without_memory, request_in, settled_record, step_where, success_step, success_without_memory}
@@ -34,7 +34,6 @@ use Rattle.tpm_step.specs.declared.refused_command.RefusedCommand.{RefusedComman
 use Rattle.tpm_step.specs.rows.Acceptance.{IsAcceptance}
 use Rattle.tpm_types_common.specs.declared.refused.Refused.{Refused}
 use Rattle.tpm_types_command.specs.Command.{Whole}
-use Rattle.tpm_types_command.specs.Header.{header_at}
 use Rattle.tpm_types_command.specs.declared.header.Header.{Header}
 use Rattle.tpm_row_secrecy.proofs.Alike.{alike_after, alike_end, alike_err, alike_step_is}
 use Rattle.tpm_row_secrecy.proofs.Bare.{cycled_bare, object_again, objects_again, record_again, with_objects}
@@ -86,7 +85,8 @@ module _ (s : Secrecy) where
       → general (without_secrets s r) buffer ≡ general r buffer
   unfolding general
   general_bare r buffer =
-      then_same (in_header (header_at buffer)) (in_header (header_at buffer)) _ _ refl (λ header.
+      then_same (in_header (served_header (without_secrets s r) buffer))
+      (in_header (served_header r buffer)) _ _ refl (λ header.
       ap (in_command header.0.code) (body_same r header.0 header.1))
 
   pub general_same : (r t : Record) → DifferInSecrets s r t → (buffer : List ℕ)

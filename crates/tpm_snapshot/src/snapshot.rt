@@ -12,7 +12,7 @@ ghost use Rattle.tpm_state_text.specs.Body.{IsWholeState, WholeState};
 ghost use Rattle.tpm_state_text.specs.Filling.{Restores, RestoresAgain, RestoresInto, RestoresNew};
 ghost use Rattle.tpm_state_text.specs.Filling.{state_of as whole_state};
 ghost use Rattle.tpm_state_text.specs.Sizes.{state_text_size};
-ghost use Rattle.tpm_state_text.specs.State.{current_state_of_text, state_of_text, state_text};
+ghost use Rattle.tpm_state_text.specs.State.{state_of_text, state_text};
 
 use std::alloc::Global;
 use tpm_machine::Machine;
@@ -67,18 +67,6 @@ fn fill<K: Keep>(machine: &mut Machine<K>, text: &[u8]) -> Result<Option<Layer>,
         result }
 {
     tpm_state_text::restore_new(machine.keep_mut(), text)
-}
-
-/// Restores a machine like [`restore_new`], but accepts only the current version.
-pub fn resume_new<K: Keep>(
-    machine: &mut Machine<K>,
-    text: &[u8],
-) -> Result<Option<Layer>, RestoreFault>
-    requires { state_of K.record_of machine.old ≡ manufactured (replicate 256 0) }
-    ensures { RestoresNew K.can_refuse (current_state_of_text text.now)
-        (state_of K.record_of machine.new) result }
-{
-    tpm_state_text::resume_new(machine.keep_mut(), text)
 }
 
 /// Returns the machine that a state text encodes, with its completing layer; or the first fault

@@ -1,5 +1,5 @@
 -- Decoding returns a state exactly when the bytes are the body of its state text.
-use Rattle.std.proofs.Common.{◌≡◌, ℕ, ◌^◌, ◌<◌, Bool, List, [], ◌++◌, length, Option, Ok, refl, append_assoc, append-nil, arith}
+use Rattle.std.proofs.Common.{◌≡◌, ℕ, ◌^◌, ◌<◌, Bool, List, [], ◌++◌, length, Option, Ok, refl, subst, ◌∙◌, append_assoc, append-nil, arith}
 use Rattle.std.specs.Int.{w64, to_be_bytes}
 use Rattle.std.proofs.lemmas.Bool.{lt-ltb, ltb-true}
 use Rattle.tpm_bytes.proofs.Fields.{AreBytes}
@@ -16,7 +16,10 @@ use Rattle.tpm_types_common.proofs.Spelled.{Spelled, all_read, first, respelled,
 use Rattle.tpm_image_text.specs.Body.{image_body_text}
 use Rattle.tpm_image_text.specs.Fields.{yes_no_text}
 use Rattle.tpm_image_text.specs.NonVolatile.{NonVolatile, kept_of, nv_of}
-use Rattle.tpm_image_text.specs.declared.version.Version.TheVariants.{Two}
+use Rattle.tpm_commands.specs.declared.profile.Profile.{Profile}
+use Rattle.tpm_commands.specs.declared.profile.Profile.TheVariants.{Symmetric, Complete}
+use Rattle.tpm_image_text.specs.Image.{IsWithin}
+use Rattle.tpm_image_text.specs.Version.{profile_of, version_of}
 use Rattle.tpm_image_text.proofs.FieldSpelling.{bytes_spelled, filling_again, filling_taken, number_in_spelled, passing_spelled, three_texts, wide64, yes_no_spelled}
 use Rattle.tpm_image_text.proofs.BodyLaws.{kept_spelled, within_device}
 use Rattle.tpm_image_text.proofs.ImageLaws.{kept_is}
@@ -112,6 +115,7 @@ record_of f =
         clock = state.clock;
         reset_count = state.reset_count;
         restart_count = state.restart_count;
+        profile = f.0.0.0.0.0.0.0.profile;
       };
       sessions = f.0.1;
       objects = f.1;
@@ -119,16 +123,34 @@ record_of f =
       nv = nv_of f.0.0.0.0.0.0.0;
     }
 
-pub device_spelled : Spelled device_text IsRecord device_in
+-- the non-volatile state of a device of this profile fits the version of this profile
+within_profile : (profile : Profile) (r : Record) → IsRecord r → r.fixed.profile ≡ profile
+    → IsWithin (version_of profile) (kept_of r)
+within_profile profile r is same =
+    subst (λ (p : Profile). IsWithin (version_of p) (kept_of r)) same
+    (within_device (kept_of r) (kept_is r is))
+
+-- the version of a profile is that of devices of this profile
+profile_again : (profile : Profile) → profile_of (version_of profile) ≡ profile
+profile_again Symmetric = refl
+profile_again Complete = refl
+
+-- A record is of this profile, and a device can have it.
+pub record IsOf (profile : Profile) (r : Record) : Type 0 where
+  pub device : IsRecord r
+  pub same : r.fixed.profile ≡ profile
+
+pub device_spelled : (profile : Profile)
+    → Spelled (device_text profile) (IsOf profile) (device_in profile)
 unfolding device_in resumed_in device_text volatile_text
-device_spelled =
+device_spelled profile =
     let places =
     then sessions_spelled
     (then transients_spelled (all_read fields_of record_of (λ _. refl) (λ _. refl))) in
     let times = then (number_in_spelled w64 (2 ^ 64) wide64)
     (then lockout_time_spelled (then lockout_time_spelled places)) in
-    respelled (first (kept_spelled Two) (then yes_no_spelled (then banks_spelled times)))
-    (λ r. parts (image_body_text Two (kept_of r)) (yes_no_text r.fixed.started)
+    respelled (first (kept_spelled (version_of profile)) (then yes_no_spelled (then banks_spelled times)))
+    (λ r. parts (image_body_text (version_of profile) (kept_of r)) (yes_no_text r.fixed.started)
     (banks_text r.fixed.banks) (to_be_bytes w64 r.fixed.time)
     (to_be_bytes w64 r.fixed.lockout.forgiving_time)
     (to_be_bytes w64 r.fixed.lockout.closed_time) (sessions_text r.sessions)
@@ -150,27 +172,26 @@ device_spelled =
       closed_time = times.1.1.0;
     } in
     record {
-      saved = kept.saved;
-      hierarchies = kept.hierarchies;
-      lockout = lockout;
-      banks =
-          is.1.1.0;
-      sessions = sessions.0;
-      each_session = sessions.1;
-      objects =
-          objects.0;
-      each_object = objects.1;
-      persistent = is.0.0.persistent;
-      nv = is.0.0.nv;
-      time =
-          times.0;
-      clock = kept.clock;
-      reset_count = kept.reset_count;
-      restart_count =
-          kept.restart_count;
+      device = record {
+        saved = kept.saved;
+        hierarchies = kept.hierarchies;
+        lockout = lockout;
+        banks = is.1.1.0;
+        sessions = sessions.0;
+        each_session = sessions.1;
+        objects = objects.0;
+        each_object = objects.1;
+        persistent = is.0.0.persistent;
+        nv = is.0.0.nv;
+        time = times.0;
+        clock = kept.clock;
+        reset_count = kept.reset_count;
+        restart_count = kept.restart_count;
+      };
+      same = is.0.1.profile ∙ profile_again profile;
     })
-    (λ r is. (
-      (kept_is r is, within_device (kept_of r) (kept_is r is)),
+    (λ r of. let is = of.device in (
+      (kept_is r is, within_profile profile r is of.same),
       (
         tt,
         (
@@ -201,22 +222,35 @@ state_fields s = (s.device, s.layer)
 abbrev state_of : Record × Option Layer → WholeState
 state_of f = record { device = f.0; layer = f.1 }
 
-body_spelled : Spelled body_text IsWholeState body_in
+-- A device of this profile can have this state.
+pub record IsStateOf (profile : Profile) (state : WholeState) : Type 0 where
+  pub whole : IsWholeState state
+  pub same : state.device.fixed.profile ≡ profile
+
+body_spelled : (profile : Profile)
+    → Spelled (body_text profile) (IsStateOf profile) (body_in profile)
 unfolding body_in body_text
-body_spelled =
+body_spelled profile =
     respelled
-    (first device_spelled
+    (first (device_spelled profile)
     (then layer_part_spelled (all_read state_fields state_of (λ _. refl) (λ _. refl))))
-    (λ s. two_texts (device_text s.device) (layer_part_text s.layer))
-    (λ s is. record { device = is.0; layer = is.1.0 })
-    (λ s is. (is.device, (is.layer, tt)))
+    (λ s. two_texts (device_text profile s.device) (layer_part_text s.layer))
+    (λ s is. record {
+      whole = record { device = is.0.device; layer = is.1.0 };
+      same = is.0.same;
+    })
+    (λ s is. (
+      record { device = is.whole.device; same = is.same },
+      (is.whole.layer, tt),
+    ))
 
-pub body_taken : (text : List ℕ) (state : WholeState) → AreBytes text
-    → state_of_body text ≡ Ok state → (text ≡ body_text state) × IsWholeState state
+pub body_taken : (profile : Profile) (text : List ℕ) (state : WholeState) → AreBytes text
+    → state_of_body profile text ≡ Ok state
+    → (text ≡ body_text profile state) × IsStateOf profile state
 unfolding state_of_body
-body_taken text state fits e = filling_taken body_spelled text state fits e
+body_taken profile text state fits e = filling_taken (body_spelled profile) text state fits e
 
-pub body_again : (state : WholeState) → IsWholeState state
-    → state_of_body (body_text state) ≡ Ok state
+pub body_again : (profile : Profile) (state : WholeState) → IsStateOf profile state
+    → state_of_body profile (body_text profile state) ≡ Ok state
 unfolding state_of_body
-body_again state is = filling_again body_spelled state is
+body_again profile state is = filling_again (body_spelled profile) state is

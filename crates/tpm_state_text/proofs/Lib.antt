@@ -3,7 +3,6 @@ pub mod SessionLaws
 pub mod LayerLaws
 pub mod BodyLaws
 pub mod SizeLaws
-pub mod EarlierLaws
 pub mod StateLaws
 pub mod Loops
 pub mod Resuming

@@ -1,11 +1,7 @@
 -- The state text of a device encodes the state that the device keeps without power, and the state
 -- that a power cycle clears. Together, these two parts are the record of the restored device.
-use Rattle.std.proofs.Common.{◌≡◌, ℕ, Bool, List, Option, Result, Ok, refl, subst}
-use Rattle.tpm_image_text.specs.Body.{kept_in}
-use Rattle.tpm_image_text.specs.Filling.{Fills}
-use Rattle.tpm_image_text.specs.NonVolatile.{NonVolatile, kept_of, powered_on}
-use Rattle.tpm_image_text.specs.declared.fault.FillFault.{FillFault}
-use Rattle.tpm_image_text.specs.declared.version.Version.TheVariants.{Two}
+use Rattle.std.proofs.Common.{◌≡◌, ℕ, Bool, List, Option, Ok, refl}
+use Rattle.tpm_image_text.specs.NonVolatile.{kept_of}
 use Rattle.tpm_lockout.specs.Lockout.{LockoutState}
 use Rattle.tpm_lockout.specs.declared.fields.LockoutFields.{LockoutFields}
 use Rattle.tpm_object.specs.declared.object.Object.{Object}
@@ -14,7 +10,7 @@ use Rattle.tpm_record.specs.Record.{Record}
 use Rattle.tpm_record.specs.declared.fixed.Fixed.{Fixed}
 use Rattle.tpm_session.specs.declared.session.Session.{Session}
 use Rattle.tpm_state_text.specs.Banks.{banks_in}
-use Rattle.tpm_state_text.specs.Body.{device_in, lockout_time_in, resumed_in}
+use Rattle.tpm_state_text.specs.Body.{lockout_time_in, resumed_in}
 use Rattle.tpm_state_text.specs.Objects.{transients_in}
 use Rattle.tpm_state_text.specs.Sessions.{sessions_in}
 use Rattle.tpm_image_text.specs.Fields.{number_in, yes_no_in}
@@ -52,15 +48,3 @@ resumes r old lockout fields started banks time forgiving_time closed_time sessi
     behind_started behind_banks behind_time behind_forgiving behind_closed behind_sessions rest is
     same made written first second third fourth fifth sixth seventh =
     rw (written, made, same, is, first, second, third, fourth, fifth, sixth, seventh) refl
-
--- reading first the state that a device keeps without power, and then the state that a power cycle
--- clears, yields the complete device
-pub device_filled : (can : Bool) (kept : NonVolatile) (middle new : Record)
-    (result : Result (Unit {0}) FillFault) (text behind rest : List ℕ)
-    → kept_in Two text ≡ Ok (kept, behind) → middle ≡ powered_on kept
-    → Fills can (resumed_in (kept_of middle) behind) new result rest
-    → Fills can (device_in text) new result rest
-unfolding device_in
-device_filled can kept middle new result text behind rest is same filled =
-    rw is (subst (λ (r : Record). Fills can (resumed_in (kept_of r) behind) new result rest) same
-    filled)

@@ -25,7 +25,8 @@ use Rattle.tpm_image_text.specs.Body.{object_fields_text}
 use Rattle.tpm_image_text.proofs.ObjectLaws.{object_fields_small}
 use Rattle.tpm_image_text.specs.Fields.{yes_no_text}
 use Rattle.tpm_image_text.specs.NonVolatile.{kept_of}
-use Rattle.tpm_image_text.specs.declared.version.Version.TheVariants.{Two}
+use Rattle.tpm_commands.specs.declared.profile.Profile.{Profile}
+use Rattle.tpm_image_text.specs.Version.{version_of}
 use Rattle.tpm_image_text.proofs.BodyLaws.{body_small}
 use Rattle.tpm_image_text.proofs.ImageLaws.{kept_is}
 use Rattle.tpm_state_text.specs.Banks.{bank_text, banks_text}
@@ -193,15 +194,20 @@ volatile_small r is =
     simp length-append
     (omega (arith, banks_small r.fixed.banks is.banks, sessions_small r is, transients_small r is))
 
-pub device_small : (r : Record) → IsRecord r → length (device_text r) ≤ body_size + volatile_size
+pub device_small : (profile : Profile) (r : Record) → IsRecord r
+    → length (device_text profile r) ≤ body_size + volatile_size
 unfolding device_text
-device_small r is =
+device_small profile r is =
     simp length-append
-    (omega (arith, body_small Two (kept_of r) (kept_is r is), volatile_small r is))
+    (omega (
+      arith,
+      body_small (version_of profile) (kept_of r) (kept_is r is),
+      volatile_small r is,
+    ))
 
-pub whole_small : (state : WholeState) → IsWholeState state
-    → length (body_text state) + 42 ≤ state_text_size
+pub whole_small : (profile : Profile) (state : WholeState) → IsWholeState state
+    → length (body_text profile state) + 42 ≤ state_text_size
 unfolding body_text
-whole_small s is =
+whole_small profile s is =
     let layer = layer_part_small s.layer is.layer in
-    simp length-append (omega (arith, device_small s.device is.device, layer))
+    simp length-append (omega (arith, device_small profile s.device is.device, layer))

@@ -8,7 +8,8 @@ use Rattle.tpm_image_text.specs.Body.{image_body_text, kept_in}
 use Rattle.tpm_image_text.specs.Fields.{filling, number_in, passing, yes_no_in, yes_no_text}
 use Rattle.tpm_image_text.specs.NonVolatile.{NonVolatile, kept_of, nv_of}
 use Rattle.tpm_image_text.specs.declared.fault.Malformed.{Malformed}
-use Rattle.tpm_image_text.specs.declared.version.Version.TheVariants.{Two}
+use Rattle.tpm_commands.specs.declared.profile.Profile.{Profile}
+use Rattle.tpm_image_text.specs.Version.{version_of}
 use Rattle.tpm_lockout.specs.Lockout.{milliseconds}
 use Rattle.tpm_record.specs.IsRecord.{IsRecord}
 use Rattle.tpm_record.specs.Record.{Record}
@@ -77,6 +78,7 @@ resumed_in kept text = do
         clock = kept.state.clock;
         reset_count = kept.state.reset_count;
         restart_count = kept.state.restart_count;
+        profile = kept.profile;
       };
       sessions = sessions.0;
       objects = objects.0;
@@ -88,27 +90,30 @@ resumed_in kept text = do
 
 -- ---- the device
 
--- the encoding of a device: the body of its image, followed by the state that a power cycle clears
-unfoldable pub device_text : Record → List ℕ
-device_text r = image_body_text Two (kept_of r) ++ volatile_text r
+-- the encoding of a device of this profile: the body of its image, followed by the state that a power
+-- cycle clears
+unfoldable pub device_text : Profile → Record → List ℕ
+device_text profile r = image_body_text (version_of profile) (kept_of r) ++ volatile_text r
 
-unfoldable pub device_in : List ℕ → Result (Record × List ℕ) Malformed
-device_in text = do
-  kept ← kept_in Two text
+unfoldable pub device_in : Profile → List ℕ → Result (Record × List ℕ) Malformed
+device_in profile text = do
+  kept ← kept_in (version_of profile) text
   resumed_in kept.0 kept.1
 
 -- ---- the body
 
--- the encoding of a body: the encoded device, followed by the encoded layer, or no layer
-unfoldable pub body_text : WholeState → List ℕ
-body_text state = device_text state.device ++ layer_part_text state.layer
+-- the encoding of a body: the encoded device of this profile, followed by the encoded layer, or no
+-- layer
+unfoldable pub body_text : Profile → WholeState → List ℕ
+body_text profile state = device_text profile state.device ++ layer_part_text state.layer
 
-unfoldable pub body_in : List ℕ → Result (WholeState × List ℕ) Malformed
-body_in text = do
-  device ← device_in text
+unfoldable pub body_in : Profile → List ℕ → Result (WholeState × List ℕ) Malformed
+body_in profile text = do
+  device ← device_in profile text
   layer ← layer_part_in device.1
   Ok (record { device = device.0; layer = layer.0 }, layer.1)
 
--- the state that a body encodes; a body with more bytes after the state is malformed
-unfoldable pub state_of_body : List ℕ → Result WholeState Malformed
-state_of_body text = filling body_in text
+-- the state that a body encodes, if the device is of this profile; a body with more bytes after the
+-- state is malformed
+unfoldable pub state_of_body : Profile → List ℕ → Result WholeState Malformed
+state_of_body profile text = filling (body_in profile) text

@@ -7,7 +7,6 @@ pub mod Version
 pub mod Sequences
 pub mod Layer
 pub mod Body
-pub mod Earlier
 pub mod Frame
 pub mod State
 pub mod Filling

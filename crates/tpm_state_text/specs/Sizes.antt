@@ -38,10 +38,6 @@ slots_size = sequence_slots * slot_size
 abbrev pub layer_size : ℕ
 layer_size = 16 + session_limit * 8 + slots_size
 
--- the largest size of an encoded layer in version 1
-abbrev pub earlier_layer_size : ℕ
-earlier_layer_size = 16 + session_limit * 8 + object_limit * 16
-
 -- the largest size of a state text, including the 10-byte head and the 32-byte digest: 36,930
 abbrev pub state_text_size : ℕ
 state_text_size = 10 + (body_size + volatile_size + 1 + layer_size) + 32

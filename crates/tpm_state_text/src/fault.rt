@@ -7,7 +7,7 @@ pub enum StateFault {
     Short,
     /// The input does not begin with TPMS.
     Magic,
-    /// The version in the head is not 1 or 2.
+    /// The version in the head is not 1, 2 or 3.
     Version,
     /// The size of the input differs from the size in its head.
     Length,
@@ -15,8 +15,7 @@ pub enum StateFault {
     Digest,
     /// The bytes between the head and the digest do not encode a state.
     Body,
-    /// The version in the head is 1, but the head of a journal accepts only version 2. This is
-    /// checked after the digest.
+    /// The version in the head is 1, which is no longer read. This is checked after the digest.
     Earlier,
 }
 

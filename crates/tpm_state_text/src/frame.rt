@@ -5,11 +5,12 @@ ghost use Rattle.tpm_bytes.specs.Reading.{AreBytes, Gives};
 ghost use Rattle.tpm_image_text.specs.Frame.{head_in, within_frame};
 ghost use Rattle.tpm_image_text.specs.Sizes.{body_size, more_size};
 ghost use Rattle.tpm_state_text.specs.Frame.{state_format};
-ghost use Rattle.tpm_state_text.specs.declared.version.StateVersion.TheVariants.{Two};
+ghost use Rattle.tpm_state_text.specs.Version.{state_version_of};
 
 use crate::fault::StateFault;
 use crate::version::StateVersion;
 use tpm_bytes::Sink;
+use tpm_commands::Profile;
 use tpm_mac::{HashAlg, digest_parts};
 
 /// The magic bytes at the beginning of a state text: TPMS.
@@ -20,15 +21,15 @@ const HEAD_BYTES: usize = 10;
 
 const DIGEST_BYTES: usize = 32;
 
-/// Returns the head of a state text whose body has the given size, in the version that this device
-/// writes.
-pub fn head(body_bytes: usize) -> Sink<10>
+/// Returns the head of a state text whose body has the given size, in the version that a device of
+/// this profile writes.
+pub fn head(profile: Profile, body_bytes: usize) -> Sink<10>
     requires { body_bytes ≤ body_size + more_size }
-    ensures { result ≡ head_in state_format Two (10 + body_bytes + 32) }
+    ensures { result ≡ head_in state_format (state_version_of profile) (10 + body_bytes + 32) }
 {
     let mut head = Sink::new();
     head.append(&MAGIC);
-    head.append_u16(StateVersion::Two.number());
+    head.append_u16(StateVersion::of(profile).number());
     head.append_u32((HEAD_BYTES + body_bytes + DIGEST_BYTES) as u32);
     head
 }

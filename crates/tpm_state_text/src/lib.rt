@@ -8,18 +8,16 @@
 //! body of an image, which tpm_image_text writes. This crate adds the state that a power cycle
 //! clears, and the completing layer's state.
 //!
-//! [`snapshot_into`] writes the state text of a device, in version 2. [`restored`], [`restore_new`]
-//! and [`restore_into`] read version 1 or 2, into any type that stores a device's state.
-//! [`resume_new`] reads only version 2. These functions allocate memory only for the state itself.
+//! [`snapshot_into`] writes the state text of a device, in version 2, or in version 3 if the device is
+//! of the complete profile. [`restored`], [`restore_new`] and [`restore_into`] read both, into any
+//! type that stores a device's state. These functions allocate memory only for the state itself.
 //!
 //! Decoding the state text of a device returns exactly that device. Decoding succeeds only if the
-//! encoded device can exist; from version 1, it leaves out flushed objects that stayed in their
-//! slots. No proper prefix of a state text is a state text ([`laws`]).
+//! encoded device can exist. No proper prefix of a state text is a state text ([`laws`]).
 
 mod banks;
 mod bindings;
 mod body;
-pub mod earlier;
 pub mod fault;
 mod frame;
 pub mod laws;
@@ -37,6 +35,6 @@ mod volatile;
 
 pub use fault::{RestoreFault, StateFault};
 pub use layer::Layer;
-pub use restoring::{restore_into, restore_new, restored, resume_new};
+pub use restoring::{restore_into, restore_new, restored};
 pub use snapshot::{STATE_TEXT_LIMIT, StateBody, snapshot_into, write_state};
 pub use version::StateVersion;

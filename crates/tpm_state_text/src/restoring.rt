@@ -3,35 +3,16 @@
 ghost use Rattle.std.specs.Prelude.{◌≡◌, ◌||◌, replicate};
 ghost use Rattle.tpm_record.specs.Record.{manufactured};
 ghost use Rattle.tpm_state_text.specs.Body.{IsWholeState, WholeState};
-ghost use Rattle.tpm_state_text.specs.Filling.{FillsState, Restores, RestoresAgain, RestoresInto, RestoresNew};
-ghost use Rattle.tpm_state_text.specs.State.{current_state_of_text, state_in_body, state_of_text, state_text};
+ghost use Rattle.tpm_state_text.specs.Filling.{Restores, RestoresAgain, RestoresInto, RestoresNew};
+ghost use Rattle.tpm_state_text.specs.State.{state_of_text, state_text};
 
 use crate::body::read_body;
-use crate::earlier::read_earlier_body;
 use crate::fault::{RestoreFault, StateFault};
 use crate::frame::framed_body;
 use crate::layer::Layer;
-use crate::version::StateVersion;
 use std::alloc::Global;
 use tpm_image_text::FillFault;
 use tpm_record::Keep;
-
-/// Reads the body of a state text of this version into a new device. Returns the completing layer.
-#[tactic(auto, unfolding(crate::specs::State::state_in_body))]
-fn read_version<K: Keep>(
-    keep: &mut K,
-    version: StateVersion,
-    body: &[u8],
-) -> Result<Option<Layer>, FillFault>
-    requires { K.record_of keep.old ≡ manufactured (replicate 256 0) }
-    ensures { FillsState K.can_refuse (state_in_body version body.now) (K.record_of keep.new)
-        result }
-{
-    match version {
-        StateVersion::One => read_earlier_body(keep, body),
-        StateVersion::Two => read_body(keep, body),
-    }
-}
 
 /// Replaces a device just manufactured from all-zero random bytes with the device that a state text
 /// encodes, without moving it. Returns the completing layer, or the first fault found in the bytes.
@@ -44,27 +25,10 @@ pub fn restore_new<K: Keep>(keep: &mut K, text: &[u8]) -> Result<Option<Layer>, 
         Ok(framed) => framed,
         Err(fault) => return Err(RestoreFault::Text(fault)),
     };
-    match read_version(keep, version, body) {
-        Ok(layer) => Ok(layer),
-        Err(FillFault::Malformed) => Err(RestoreFault::Text(StateFault::Body)),
-        Err(FillFault::NoMemory) => Err(RestoreFault::NoMemory),
-    }
-}
-
-/// Restores a device like [`restore_new`], but accepts only version 2.
-pub fn resume_new<K: Keep>(keep: &mut K, text: &[u8]) -> Result<Option<Layer>, RestoreFault>
-    requires { K.record_of keep.old ≡ manufactured (replicate 256 0) }
-    ensures { RestoresNew K.can_refuse (current_state_of_text text.now) (K.record_of keep.new)
-        result }
-{
-    let (version, body) = match framed_body(text) {
-        Ok(framed) => framed,
-        Err(fault) => return Err(RestoreFault::Text(fault)),
-    };
-    if version == StateVersion::One {
+    let Some(profile) = version.profile() else {
         return Err(RestoreFault::Text(StateFault::Earlier));
-    }
-    match read_body(keep, body) {
+    };
+    match read_body(profile, keep, body) {
         Ok(layer) => Ok(layer),
         Err(FillFault::Malformed) => Err(RestoreFault::Text(StateFault::Body)),
         Err(FillFault::NoMemory) => Err(RestoreFault::NoMemory),

@@ -30,7 +30,7 @@ pub fn write_state<K: Keep>(keep: &K, layer: Option<&Layer>, text: &mut StateBod
     ensures small { length result + length text.new ≤ state_text_size }
 {
     write_body(keep, layer, text);
-    let head = head(text.len());
+    let head = head(keep.fixed().profile, text.len());
     let digest = digest_parts(HashAlg::Sha256, &[head.as_slice(), text.as_slice()]);
     text.append(digest.as_slice());
     head

@@ -1,17 +1,19 @@
-//! The versions of a state text.
+//! The versions of a state text, and the profile of the devices whose state texts have each version.
 
 ghost use Rattle.std.specs.Prelude.{◌≡◌};
-ghost use Rattle.tpm_state_text.specs.Version.{state_version_number, state_version_numbered};
+ghost use Rattle.tpm_state_text.specs.Version.{state_profile, state_version_number, state_version_numbered, state_version_of};
+
+use tpm_commands::Profile;
 
 /// A version of a state text.
 #[derive(Clone, Copy, PartialEq, Eq)]
 pub enum StateVersion {
-    /// Version 1 is read but no longer written. In version 1, a flushed object could stay in its
-    /// slot until its context was loaded.
+    /// Version 1 is no longer read.
     One,
-    /// In version 2, no flushed object stays in a slot. The completing layer stores the contexts of
-    /// sessions, and the sequence objects.
+    /// Version 2 is that of a device of the symmetric profile.
     Two,
+    /// Version 3 has the parts of version 2, and is that of a device of the complete profile.
+    Three,
 }
 
 impl StateVersion {
@@ -22,6 +24,7 @@ impl StateVersion {
         match self {
             StateVersion::One => 1,
             StateVersion::Two => 2,
+            StateVersion::Three => 3,
         }
     }
 
@@ -33,7 +36,30 @@ impl StateVersion {
         match number {
             1 => Some(StateVersion::One),
             2 => Some(StateVersion::Two),
+            3 => Some(StateVersion::Three),
             _ => None,
+        }
+    }
+
+    /// The profile of the devices whose state texts have this version, or None if the version is no
+    /// longer read.
+    pub fn profile(self) -> Option<Profile>
+        ensures { result ≡ state_profile self }
+    {
+        match self {
+            StateVersion::One => None,
+            StateVersion::Two => Some(Profile::Symmetric),
+            StateVersion::Three => Some(Profile::Complete),
+        }
+    }
+
+    /// The version in which the state text of a device of this profile is written.
+    pub fn of(profile: Profile) -> StateVersion
+        ensures { result ≡ state_version_of profile }
+    {
+        match profile {
+            Profile::Symmetric => StateVersion::Two,
+            Profile::Complete => StateVersion::Three,
         }
     }
 }

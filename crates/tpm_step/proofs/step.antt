@@ -2,3 +2,4 @@
 pub mod Decoding
 pub mod PowerCycles
 pub mod Placing
+pub mod Profiles

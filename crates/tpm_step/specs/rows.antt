@@ -10,4 +10,5 @@ pub mod Sizes
 pub mod Acceptance
 pub mod Draws
 pub mod Order
+pub mod OwnRefusals
 pub mod RowLaws

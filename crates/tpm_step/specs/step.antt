@@ -11,3 +11,4 @@ pub mod Step
 pub mod Run
 pub mod Safe
 pub mod Execution
+pub mod Profiles

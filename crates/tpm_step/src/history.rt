@@ -20,7 +20,8 @@ ghost use Rattle.tpm_types_common.specs.declared.handle.Handle.{Handle};
 ghost use Rattle.tpm_record.specs.Cycle.{after_cycle};
 ghost use Rattle.tpm_record.specs.Entity.{auth_value_of, is_present, names_kept};
 ghost use Rattle.tpm_record.specs.IsRecord.{IsRecord};
-ghost use Rattle.tpm_record.specs.Record.{Record, manufactured};
+ghost use Rattle.tpm_commands.specs.declared.profile.Profile.{Profile};
+ghost use Rattle.tpm_record.specs.Record.{Record, manufactured, manufactured_as};
 ghost use Rattle.tpm_step.specs.step.Events.{Given, PlainEvent};
 ghost use Rattle.tpm_step.specs.step.Execution.{Executes};
 ghost use Rattle.tpm_step.specs.step.Run.{Runs};
@@ -65,7 +66,8 @@ use crate::event::Outcome;
 /// added. A power cycle is always added.
 #[inline(always)]
 pub fn following_laws()
-    ensures manufactured { (random : List ℕ) → Follows (manufactured random) [] }
+    ensures manufactured { (profile : Profile) (random : List ℕ)
+        → Follows (manufactured_as profile random) [] }
     ensures executed { (can : Bool) (old : Record) (event : PlainEvent) (x : Stepped)
         → Executes can old event x → After Follows old event x }
     ensures cycled { (r : Record) (history : History)

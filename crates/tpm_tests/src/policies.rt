@@ -4,6 +4,7 @@
 use super::comparison::check;
 use std::process::Abort;
 use tpm_bytes::Cursor;
+use tpm_commands::Profile;
 use tpm_mac::HashAlg;
 use tpm_policy::{Demand, EntityPolicy, PcrAssertion, PolicyState, SecretAssertion, Use};
 use tpm_types_common::{
@@ -111,7 +112,8 @@ fn either_branch_leads_to_one_digest(rt: HostRuntime) {
     check(&rt, state.or(HashAlg::Sha256, false, &list), Ok(()));
     check(&rt, state.digest(), OR);
     state.restart(HashAlg::Sha256);
-    check(&rt, state.command_code(HashAlg::Sha256, GET_RANDOM), Ok(()));
+    let done = state.command_code(HashAlg::Sha256, Profile::Symmetric, GET_RANDOM);
+    check(&rt, done, Ok(()));
     check(&rt, state.digest(), COMMAND_CODE);
     check(&rt, state.or(HashAlg::Sha256, false, &list), Ok(()));
     check(&rt, state.digest(), OR);
@@ -122,7 +124,7 @@ fn either_branch_leads_to_one_digest(rt: HostRuntime) {
 fn assert_all(state: &mut PolicyState, selection: &PcrSelection) -> Result<(), ActionFault> {
     let name = Name::of_handle(Handle::ENDORSEMENT);
     state.pcr(HashAlg::Sha256, false, &pcr(selection))?;
-    state.command_code(HashAlg::Sha256, GET_RANDOM)?;
+    state.command_code(HashAlg::Sha256, Profile::Symmetric, GET_RANDOM)?;
     state.secret(HashAlg::Sha256, false, &secret(&name, CP_HASH))?;
     state.cp_hash(HashAlg::Sha256, CP_HASH)?;
     state.nv_written(HashAlg::Sha256, true)?;

@@ -4,7 +4,7 @@
 use super::comparison::check;
 use arrayvec::ArrayVec;
 use tpm_bytes::{Cursor, Sink};
-use tpm_commands::{CommandCode, HandleKind, ParameterKind, read_handles};
+use tpm_commands::{CommandCode, HandleKind, ParameterKind, Profile, read_handles};
 use tpm_mac::HashAlg;
 use tpm_types_command::{AuthEntry, Command};
 use tpm_types_common::{
@@ -72,7 +72,7 @@ fn commands_have_numbers(rt: HostRuntime) {
     for (code, number) in &NUMBERS {
         check(&rt, is_numbered(*code, *number), true);
     }
-    check(&rt, CommandCode::named(0x142), None);
+    check(&rt, CommandCode::named(0x158), None);
 }
 
 #[test]
@@ -304,6 +304,8 @@ fn policies_are_asked_for(rt: HostRuntime) {
     check(&rt, SessionType::read(&mut text), Ok(SessionType::Policy));
     let refused = SessionType::read(&mut text);
     check(&rt, refused, Err(ResponseCode::Value.anywhere()));
-    check(&rt, CommandCode::is_served(0x17b), true);
-    check(&rt, CommandCode::is_served(0x17c), false);
+    check(&rt, Profile::Symmetric.serves_number(0x17b), true);
+    check(&rt, Profile::Symmetric.serves_number(0x17c), false);
+    check(&rt, Profile::Complete.serves_number(0x17c), true);
+    check(&rt, Profile::Complete.serves_number(0x158), false);
 }

@@ -22,7 +22,8 @@ use Rattle.tpm_text.specs.Draft.{Finishes, finished_command, grown_draft, with_a
 use Rattle.tpm_text.specs.Entry.{entry_in}
 use Rattle.tpm_text.specs.Fault.{at_column}
 use Rattle.tpm_text.specs.TokenReading.{DraftsRead, DraftsSessions, ReadsTokens, first_is_entry}
-use Rattle.tpm_text.specs.Line.{assembled_bytes, end_of_line, entry_tokens_in, handles_in, name_in, parameters_in, spelled_command}
+use Rattle.tpm_commands.specs.declared.profile.Profile.{Profile}
+use Rattle.tpm_text.specs.Line.{assembled_for, end_of_line, entry_tokens_in, handles_in, name_in, parameters_in, spelled_for}
 use Rattle.tpm_text.specs.Pieces.{Token, tokens_of}
 use Rattle.tpm_text.proofs.Growing.{fits, grown-grown, none_grows, spills, too_much}
 
@@ -170,55 +171,55 @@ begun (Some ten) is h = (ten, refl, h)
 
 -- ---- the first fault of a line
 
-pub name_fault : (line : List ℕ) (fault : AsmFault) → name_in (tokens_of line) ≡ Err fault
-    → assembled_bytes line ≡ Err fault
-unfolding assembled_bytes spelled_command
-name_fault line fault n = rw n refl
+pub name_fault : (profile : Profile) (line : List ℕ) (fault : AsmFault)
+    → name_in profile (tokens_of line) ≡ Err fault → assembled_for profile line ≡ Err fault
+unfolding assembled_for spelled_for
+name_fault profile line fault n = rw n refl
 
-module _ (line : List ℕ) (code : CommandCode) (one : List Token)
-    (n : name_in (tokens_of line) ≡ Ok (code, one)) where
+module _ (profile : Profile) (line : List ℕ) (code : CommandCode) (one : List Token)
+    (n : name_in profile (tokens_of line) ≡ Ok (code, one)) where
   pub handles_fault : (fault : AsmFault) → handles_in (handle_count code) one ≡ Err fault
-      → assembled_bytes line ≡ Err fault
-  unfolding assembled_bytes spelled_command
+      → assembled_for profile line ≡ Err fault
+  unfolding assembled_for spelled_for
   handles_fault fault h = rw (n, h) refl
 
   module _ (handles : List Handle) (two : List Token)
       (h : handles_in (handle_count code) one ≡ Ok (handles, two)) where
     pub entries_fault : (fault : AsmFault) → entry_tokens_in 3 two ≡ Err fault
-        → assembled_bytes line ≡ Err fault
-    unfolding assembled_bytes spelled_command
+        → assembled_for profile line ≡ Err fault
+    unfolding assembled_for spelled_for
     entries_fault fault s = rw (n, h, s) refl
 
     module _ (entries : List Entry) (three : List Token)
         (s : entry_tokens_in 3 two ≡ Ok (entries, three)) where
       pub parameters_fault : (fault : AsmFault)
           → parameters_in (shape_of code).parameters three ≡ Err fault
-          → assembled_bytes line ≡ Err fault
-      unfolding assembled_bytes spelled_command
+          → assembled_for profile line ≡ Err fault
+      unfolding assembled_for spelled_for
       parameters_fault fault p = rw (n, h, s, p) refl
 
       module _ (parameters : List ℕ) (four : List Token)
           (p : parameters_in (shape_of code).parameters three ≡ Ok (parameters, four)) where
         pub end_fault : (fault : AsmFault) → end_of_line four ≡ Err fault
-            → assembled_bytes line ≡ Err fault
-        unfolding assembled_bytes spelled_command
+            → assembled_for profile line ≡ Err fault
+        unfolding assembled_for spelled_for
         end_fault fault e = rw (n, h, s, p, e) refl
 
         body : List ℕ
         body = handles_text handles ++ sessions_text entries ++ parameters
 
         whole : end_of_line four ≡ Ok tt
-            → assembled_bytes line
+            → assembled_for profile line
             ≡ (refused_if (nat_lt buffer_limit (10 + length body)) TooLong
             >>= λ fits. Ok (header_text (tag_for entries) (10 + length body) code ++ body))
-        unfolding assembled_bytes spelled_command command_size command_text command_body_text body
+        unfolding assembled_for spelled_for command_size command_text command_body_text body
         whole e = rw (n, h, s, p, e) refl
 
         -- Finishing a draft that contains ten reserved bytes and then the rest of the command
         -- yields the encoding of the command.
         command_is : end_of_line four ≡ Ok tt → (ten : List ℕ) → length ten ≡ 10
             → finished_command (tag_for entries) code (grown_draft (Some ten) body)
-            ≡ assembled_bytes line
+            ≡ assembled_for profile line
         command_is e ten ten_is =
             by (nat_le (length ten + length body) buffer_limit) refl ∙ sym (whole e)
           where
@@ -246,7 +247,7 @@ module _ (line : List ℕ) (code : CommandCode) (one : List Token)
             → second ≡ grown_draft first (sessions_text entries)
             → third ≡ grown_draft second parameters
             → Finishes (finished_command tag code third) result new
-            → Finishes (assembled_bytes line) result new
+            → Finishes (assembled_for profile line) result new
         unfolding body
         command_finished e tag t ten ten_is first second third new result a b c f =
             let all : third ≡ grown_draft (Some ten) body =

@@ -3,23 +3,26 @@ use Rattle.tpm_types_common.specs.Limits.{buffer_limit}
 use Rattle.std.proofs.Common.{◌≡◌, ℕ, zero, suc, ◌<◌, ◌≤◌, ◌^◌, Bool, true, false, cond, List, [], ◌∷◌, length, drop, Result, Ok, Err, refl, ap, subst, arith, length-append}
 use Rattle.std.specs.Int.{Width, w8, w32, from_be_bytes, to_be_bytes}
 use Rattle.std.specs.List.{AllByRecursion}
-use Rattle.std.specs.Prelude.{◌==◌, not}
+use Rattle.std.specs.Prelude.{◌==◌, not, ok_or}
 use Rattle.tpm_bytes.specs.Reading.{◌>>=◌, refused_if}
-use Rattle.tpm_bytes.proofs.Fields.{IsWide, bind_ok, ok_is, or_fault_ok, wide32, wide8}
+use Rattle.tpm_bytes.proofs.Fields.{IsWide, bind_ok, ok_is, or_fault_ok, passed, wide32, wide8}
 use Rattle.hex.proofs.HexLemmas.{decode_of-ok}
 use Rattle.tpm_types_common.specs.declared.handle.Handle.{Handle}
 use Rattle.tpm_types_common.specs.Handle.{endorsement_handle, lockout_handle, null_handle, owner_handle, password_handle, platform_handle}
 use Rattle.tpm_types_command.specs.AuthArea.{entries_text}
 use Rattle.tpm_types_command.specs.AuthEntry.{Entry, IsEntry, auth_entry_text}
-use Rattle.tpm_types_command.specs.Command.{IsCommand, IsHandle, Whole, command_at, command_size, command_text, sessions_text}
-use Rattle.tpm_commands.specs.CommandCode.{handle_count, shape_of}
-use Rattle.tpm_types_command.proofs.CommandLaws.{command_again, command_size-is, length-body}
+use Rattle.tpm_types_command.specs.Command.{IsCommand, IsHandle, Whole, command_size, command_text, served_command_at, sessions_text}
+use Rattle.tpm_commands.specs.CommandCode.{code_called, handle_count, serves, shape_of}
+use Rattle.tpm_commands.specs.declared.command_code.CommandCode.{CommandCode}
+use Rattle.tpm_commands.specs.declared.profile.Profile.{Profile}
+use Rattle.tpm_text.specs.declared.fault.AsmFault.TheVariants.{BadName}
+use Rattle.tpm_types_command.proofs.CommandLaws.{command_size-is, length-body, served_again}
 use Rattle.tpm_types_command.proofs.EntryLaws.{length-auth_entry_text}
 use Rattle.tpm_number.specs.declared.fault.TokenFault.{TokenFault}
 use Rattle.tpm_number.specs.declared.fault.TokenFault.TheVariants.{Bad}
 use Rattle.tpm_text.specs.Entry.{begins_entry, begins_password, begins_session, entry_in, handle_in, hex_handle_in, octet_in, password_entry, session_entry, session_pieces_of}
 use Rattle.tpm_text.specs.Fault.{at_column}
-use Rattle.tpm_text.specs.Line.{end_of_line, entry_tokens_in, handles_in, name_in, parameters_in, spelled_command}
+use Rattle.tpm_text.specs.Line.{end_of_line, entry_tokens_in, handles_in, name_in, parameters_in, spelled_for}
 use Rattle.tpm_text.specs.Hex.{bytes_in, hex_in}
 use Rattle.tpm_text.specs.Pieces.{Token, colon, pieces_of, tokens_of}
 use Rattle.tpm_text.proofs.Laid.{column_ok}
@@ -185,6 +188,10 @@ handles_spell (suc count) (token ∷ tokens) x e =
 
 -- ---- the command
 
+not_false : (b : Bool) → not b ≡ false → b ≡ true
+not_false true e = refl
+not_false false e = absurd cc
+
 sessions_size : (entries : List Entry) → length (entries_text entries)
     ≤ length (sessions_text entries)
 sessions_size [] = omega arith
@@ -195,11 +202,11 @@ sessions_size (entry ∷ entries) =
           (entries_text (entry ∷ entries)),
     )
 
-spelled_is_command : (line : List ℕ) (c : Whole) → spelled_command line ≡ Ok c
-    → command_size c ≤ buffer_limit → IsCommand c
-unfolding spelled_command
-spelled_is_command line c e small =
-    let name = bind_ok (name_in (tokens_of line)) _ c e in
+spelled_is_command : (profile : Profile) (line : List ℕ) (c : Whole)
+    → spelled_for profile line ≡ Ok c → command_size c ≤ buffer_limit → IsCommand c
+unfolding spelled_for
+spelled_is_command profile line c e small =
+    let name = bind_ok (name_in profile (tokens_of line)) _ c e in
     let handles = bind_ok (handles_in (handle_count name.0.0) name.0.1) _ c name.2 in
     let entries = bind_ok (entry_tokens_in 3 handles.0.1) _ c handles.2 in
     let parameters = bind_ok (parameters_in (shape_of name.0.0).parameters entries.0.1) _ c
@@ -227,7 +234,40 @@ spelled_is_command line c e small =
       size = small;
     }
 
--- If a line encodes a command, parsing the encoding yields that command.
-pub spelled_again : (line : List ℕ) (c : Whole) → spelled_command line ≡ Ok c
-    → command_size c ≤ buffer_limit → command_at (command_text c) ≡ Ok (c, [])
-spelled_again line c e small = command_again c (spelled_is_command line c e small)
+-- a line names a command that a device of the profile serves
+name_served : (profile : Profile) (tokens : List Token) (x : CommandCode × List Token)
+    → name_in profile tokens ≡ Ok x → serves profile x.0 ≡ true
+name_served profile [] x e = absurd cc
+name_served profile (token ∷ tokens) x e =
+    let named = bind_ok (ok_or (code_called token.text) BadName) _ x e in
+    let served = bind_ok (refused_if (not (serves profile named.0)) BadName) _ x named.2 in
+    subst (λ (y : CommandCode × List Token). serves profile y.0 ≡ true)
+    (ok_is (named.0, tokens) x served.2)
+    (not_false (serves profile named.0)
+    (passed (not (serves profile named.0)) BadName served.0 served.1))
+
+spelled_served : (profile : Profile) (line : List ℕ) (c : Whole) → spelled_for profile line ≡ Ok c
+    → serves profile c.code ≡ true
+unfolding spelled_for
+spelled_served profile line c e =
+    let name = bind_ok (name_in profile (tokens_of line)) _ c e in
+    let handles = bind_ok (handles_in (handle_count name.0.0) name.0.1) _ c name.2 in
+    let entries = bind_ok (entry_tokens_in 3 handles.0.1) _ c handles.2 in
+    let parameters = bind_ok (parameters_in (shape_of name.0.0).parameters entries.0.1) _ c
+    entries.2 in
+    let whole = bind_ok (end_of_line parameters.0.1) _ c parameters.2 in
+    subst (λ (c : Whole). serves profile c.code ≡ true)
+    (ok_is (record {
+      code = name.0.0;
+      handles = handles.0.0;
+      entries = entries.0.0;
+      parameters = parameters.0.0;
+    }) c whole.2) (name_served profile (tokens_of line) name.0 name.1)
+
+-- If a line encodes a command of a profile, parsing the encoding yields that command.
+pub spelled_again : (profile : Profile) (line : List ℕ) (c : Whole)
+    → spelled_for profile line ≡ Ok c → command_size c ≤ buffer_limit
+    → served_command_at profile (command_text c) ≡ Ok (c, [])
+spelled_again profile line c e small =
+    served_again profile c (spelled_is_command profile line c e small)
+    (spelled_served profile line c e)

@@ -7,7 +7,6 @@ use Rattle.tpm_types_common.specs.declared.handle.Handle.{Handle}
 use Rattle.tpm_types_common.specs.declared.refused.Refused.{Refused}
 use Rattle.tpm_types_command.specs.AuthEntry.{Entry}
 use Rattle.tpm_commands.specs.CommandCode.{code_number, shape_of}
-use Rattle.tpm_types_command.specs.Header.{header_at}
 use Rattle.tpm_types_command.specs.declared.header.Header.{Header}
 use Rattle.tpm_types_command.specs.declared.header.HeaderFault.{HeaderFault}
 use Rattle.tpm_commands.specs.declared.command_code.CommandCode.{CommandCode}
@@ -16,7 +15,7 @@ use Rattle.tpm_record.specs.Tick.{after_tick}
 use Rattle.tpm_step.specs.step.Answer.{answer_to, framed_message, refusal_tag, success_text}
 use Rattle.tpm_step.specs.step.Events.{PlainEvent, Given, Cycled, Placed}
 use Rattle.tpm_step.specs.step.Execution.{Executes}
-use Rattle.tpm_step.specs.step.General.{body_of, general, in_command, in_header}
+use Rattle.tpm_step.specs.step.General.{body_of, general, in_command, in_header, served_header}
 use Rattle.tpm_step.specs.step.Step.{Accepted, Stepped, acceptance, acceptance_in, answer_where, refusal_step, refusal_without_memory, step_where, success_step}
 use Rattle.tpm_step.specs.declared.refused_command.RefusedCommand.{RefusedCommand}
 use Rattle.tpm_text.specs.Trace.{IsRow, IsTraceable}
@@ -43,9 +42,9 @@ named_on (Err e) then n m = n
 named_general : (r : Record) (buffer : List ℕ) → Names (general r buffer)
 unfolding general
 named_general r buffer =
-    named_on (in_header (header_at buffer))
+    named_on (in_header (served_header r buffer))
     (λ header. in_command header.0.code (body_of r header.0 header.1))
-    (named_in_header (header_at buffer))
+    (named_in_header (served_header r buffer))
     (λ header. named_in_command header.0.code (body_of r header.0 header.1))
 
 named_accepted : (r : Record) (buffer : List ℕ) (locality : ℕ) (random : List ℕ)

@@ -1,7 +1,7 @@
 -- Lines: commands in words, with tokens separated by single spaces. The tokens are in the order of
 -- TPM 2.0 Library, Part 3: the name, the handles, the authorization entries, the parameters.
 use Rattle.tpm_types_common.specs.Limits.{buffer_limit}
-use Rattle.std.specs.Prelude.{◌≡◌, ℕ, zero, suc, nat_lt, cond, List, [], ◌∷◌, ◌++◌}
+use Rattle.std.specs.Prelude.{◌≡◌, ℕ, zero, suc, nat_lt, not, cond, List, [], ◌∷◌, ◌++◌}
 use Rattle.std.specs.Prelude.{Result, Ok, Err, ok_or}
 use Rattle.tpm_bytes.specs.Reading.{◌>>=◌, refused_if}
 use Rattle.tpm_types_common.specs.declared.handle.Handle.{Handle}
@@ -9,7 +9,9 @@ use Rattle.tpm_commands.specs.declared.command_code.CommandCode.{CommandCode}
 use Rattle.tpm_commands.specs.declared.shape.ParameterKind.{ParameterKind}
 use Rattle.tpm_types_command.specs.AuthEntry.{Entry}
 use Rattle.tpm_types_command.specs.Command.{Whole, command_size, command_text}
-use Rattle.tpm_commands.specs.CommandCode.{code_called, handle_count, shape_of}
+use Rattle.tpm_commands.specs.CommandCode.{code_called, handle_count, serves, shape_of}
+use Rattle.tpm_commands.specs.declared.profile.Profile.{Profile}
+use Rattle.tpm_commands.specs.declared.profile.Profile.TheVariants.{Symmetric}
 use Rattle.tpm_text.specs.declared.fault.AsmFault.{AsmFault}
 use Rattle.tpm_text.specs.declared.fault.AsmFault.TheVariants as fault
 use Rattle.tpm_number.specs.declared.fault.TokenFault.{TokenFault}
@@ -26,12 +28,13 @@ token_in read (token ∷ tokens) = do
   value ← at_column token.column (read token.text)
   Ok (value, tokens)
 
--- the command that the first token names; the fault BadName if there is no such command. Each line
--- has a first token, which may be empty
-abbrev pub name_in : List Token → Result (CommandCode × List Token) AsmFault
-name_in [] = Err fault.BadName
-name_in (token ∷ tokens) = do
+-- the command that the first token names; the fault BadName if a device of this profile serves no such
+-- command. Each line has a first token, which may be empty
+abbrev pub name_in : Profile → List Token → Result (CommandCode × List Token) AsmFault
+name_in profile [] = Err fault.BadName
+name_in profile (token ∷ tokens) = do
   code ← ok_or (code_called token.text) fault.BadName
+  served ← refused_if (not (serves profile code)) fault.BadName
   Ok (code, tokens)
 
 -- `count` handles, each from one token, and the remaining tokens
@@ -67,10 +70,10 @@ abbrev pub end_of_line : List Token → Result (Unit {0}) AsmFault
 end_of_line [] = Ok tt
 end_of_line (token ∷ tokens) = Err (fault.BadField token.column)
 
--- the command that a line encodes, or the line's first fault from the left
-unfoldable pub spelled_command : List ℕ → Result Whole AsmFault
-spelled_command line = do
-  name ← name_in (tokens_of line)
+-- the command of a profile that a line encodes, or the line's first fault from the left
+unfoldable pub spelled_for : Profile → List ℕ → Result Whole AsmFault
+spelled_for profile line = do
+  name ← name_in profile (tokens_of line)
   handles ← handles_in (handle_count name.0) name.1
   entries ← entry_tokens_in 3 handles.1
   parameters ← parameters_in (shape_of name.0).parameters entries.1
@@ -82,13 +85,17 @@ spelled_command line = do
     parameters = parameters.0;
   })
 
--- the encoding of the command that a line encodes; the fault TooLong is returned only if nothing
--- else is wrong
-unfoldable pub assembled_bytes : List ℕ → Result (List ℕ) AsmFault
-assembled_bytes line = do
-  command ← spelled_command line
+-- the encoding of the command of a profile that a line encodes; the fault TooLong is returned only if
+-- nothing else is wrong
+unfoldable pub assembled_for : Profile → List ℕ → Result (List ℕ) AsmFault
+assembled_for profile line = do
+  command ← spelled_for profile line
   fits ← refused_if (nat_lt buffer_limit (command_size command)) fault.TooLong
   Ok (command_text command)
+
+-- the encoding of the command of the symmetric profile that a line encodes
+abbrev pub assembled_bytes : List ℕ → Result (List ℕ) AsmFault
+assembled_bytes line = assembled_for Symmetric line
 
 -- A call returned the encoding of the command that a line encodes, or the fault of the line.
 -- Instead of the encoding, it may have returned NoMemory.

@@ -21,6 +21,7 @@ use Rattle.tpm_text.specs.declared.element.Element.TheVariants as element
 use Rattle.tpm_number.specs.declared.fault.TokenFault.{TokenFault}
 use Rattle.tpm_number.specs.declared.fault.TokenFault.TheVariants.{Bad}
 use Rattle.tpm_number.specs.Number.{is_word, number_in}
+use Rattle.tpm_text.specs.Entry.{handle_in}
 use Rattle.tpm_text.specs.Hex.{bytes_in, hex_in}
 use Rattle.tpm_text.specs.Pieces.{colon, comma, each_in, pieces_of, plus}
 
@@ -56,6 +57,12 @@ unfoldable pub symmetric_word_text : List ℕ → Result (List ℕ) TokenFault
 symmetric_word_text word = do
   definition ← symmetric_in word
   Ok (symmetric_text definition)
+
+-- the encoding of the handle in a token
+unfoldable pub handle_text : List ℕ → Result (List ℕ) TokenFault
+handle_text token = do
+  handle ← handle_in token
+  Ok (to_be_bytes w32 handle.number)
 
 -- the encoding of a sized buffer (TPM2B), from a token in hex
 unfoldable pub buffer_text : List ℕ → Result (List ℕ) TokenFault
@@ -95,6 +102,7 @@ abbrev pub element_text : Element → List ℕ → Result (List ℕ) TokenFault
 element_text element.Bank piece = bank_word_text piece
 element_text element.Digest piece = digest_word_text piece
 element_text element.Buffer piece = buffer_text piece
+element_text element.Algorithm piece = number_text w16 0xffff piece
 
 -- the encodings of the elements of a list, one after another
 unfoldable pub elements_text : Element → List (List ℕ) → Result (List ℕ) TokenFault
@@ -134,4 +142,7 @@ parameter_text kind.Public token = buffer_text token
 parameter_text kind.NvPublic token = buffer_text token
 parameter_text kind.Operation token = number_text w16 0xffff token
 parameter_text kind.PersistentHandle token = number_text w32 0xffff_ffff token
+parameter_text kind.Hierarchy token = handle_text token
+parameter_text kind.AlgorithmList token = list_or_none_text element.Algorithm token
+parameter_text kind.PublicParameters token = bytes_in token
 parameter_text kind.YesNo token = number_text w8 0xff token

@@ -1,5 +1,5 @@
-//! The elements of lists in words: selected PCRs, digests with their hash algorithm, or digests
-//! without an algorithm.
+//! The elements of lists in words: selected PCRs, digests with their hash algorithm, digests without
+//! an algorithm, or algorithms.
 
 /// The kinds of elements in a list.
 #[derive(Clone, Copy, PartialEq, Eq)]
@@ -10,4 +10,6 @@ pub enum Element {
     Digest,
     /// A digest as a sized buffer: TPM2B_DIGEST.
     Buffer,
+    /// The number of an algorithm: TPM_ALG_ID.
+    Algorithm,
 }

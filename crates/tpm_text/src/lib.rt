@@ -29,6 +29,6 @@ mod word;
 
 pub use draft::Draft;
 pub use fault::AsmFault;
-pub use line::{assemble, assemble_in, read_back_laws};
+pub use line::{assemble, assemble_for, assemble_in, read_back_laws};
 pub use token::position_of;
 pub use trace::{trace_line, trace_text, traceable_laws};

@@ -5,11 +5,12 @@ ghost use Rattle.tpm_types_common.specs.Limits.{buffer_limit};
 ghost use Rattle.std.specs.Prelude.{◌≡◌, ◌≤◌, ℕ, List, [], length, IfOk, Ok};
 ghost use Rattle.std.specs.List.{flat_map};
 ghost use Rattle.tpm_types_command.specs.AuthArea.{entries_text};
-ghost use Rattle.tpm_types_command.specs.Command.{Whole, command_at, command_size, command_text, handles_text};
+ghost use Rattle.tpm_types_command.specs.Command.{Whole, command_size, command_text, handles_text, served_command_at};
+ghost use Rattle.tpm_commands.specs.declared.profile.Profile.{Profile};
 ghost use Rattle.tpm_text.specs.Draft.{Finishes, drafted_bytes};
 ghost use Rattle.tpm_bytes.specs.Reading.{Gives};
 ghost use Rattle.tpm_text.specs.TokenReading.{DraftsRead, DraftsSessions, ReadsTokens};
-ghost use Rattle.tpm_text.specs.Line.{Assembles, assembled_bytes, end_of_line, entry_tokens_in, handles_in, name_in, parameters_in, spelled_command};
+ghost use Rattle.tpm_text.specs.Line.{Assembles, assembled_bytes, assembled_for, end_of_line, entry_tokens_in, handles_in, name_in, parameters_in, spelled_for};
 ghost use Rattle.tpm_text.specs.Tokens.{tokens_left};
 
 use crate::draft::Draft;
@@ -18,7 +19,7 @@ use crate::fault::AsmFault;
 use crate::parameter::put_parameter;
 use crate::token::Tokens;
 use std::alloc::Global;
-use tpm_commands::{CommandCode, ParameterKind};
+use tpm_commands::{CommandCode, ParameterKind, Profile};
 use tpm_types_command::Tag;
 
 /// Writes `count` handles, each from one token.
@@ -82,15 +83,21 @@ fn put_authorization(tokens: &mut Tokens, draft: &mut Draft) -> Result<Tag, AsmF
     Ok(Tag::Sessions)
 }
 
-/// Parses the first token, which names the command.
-fn read_name(tokens: &mut Tokens) -> Result<CommandCode, AsmFault>
-    ensures { ReadsTokens (λ code. code) (name_in (tokens_left tokens.old)) result
+/// Parses the first token, which names a command that a device of this profile serves.
+fn read_name(profile: Profile, tokens: &mut Tokens) -> Result<CommandCode, AsmFault>
+    ensures { ReadsTokens (λ code. code) (name_in profile (tokens_left tokens.old)) result
         (tokens_left tokens.new) }
 {
     let Some(token) = tokens.next() else {
         return Err(AsmFault::BadName);
     };
-    CommandCode::called(token.text).ok_or(AsmFault::BadName)
+    let Some(code) = CommandCode::called(token.text) else {
+        return Err(AsmFault::BadName);
+    };
+    if !profile.serves(code) {
+        return Err(AsmFault::BadName);
+    }
+    Ok(code)
 }
 
 /// Checks that no token remains.
@@ -105,22 +112,26 @@ fn check_end(tokens: &mut Tokens) -> Result<(), AsmFault>
     }
 }
 
-/// Returns the buffer of the command that a line encodes, or the first fault of the line from the
-/// left.
-pub fn assemble_in<'a>(line: &[u8], draft: &'a mut Draft) -> Result<&'a [u8], AsmFault>
-    ensures value { Gives (λ bytes. bytes.now) (assembled_bytes line.now) result }
+/// Returns the buffer of the command of a profile that a line encodes, or the first fault of the line
+/// from the left.
+pub fn assemble_in<'a>(
+    profile: Profile,
+    line: &[u8],
+    draft: &'a mut Draft,
+) -> Result<&'a [u8], AsmFault>
+    ensures value { Gives (λ bytes. bytes.now) (assembled_for profile line.now) result }
     ensures fits { IfOk result (λ bytes. length bytes.now ≤ buffer_limit) }
 {
-    write_command(line, draft)?;
+    write_command(profile, line, draft)?;
     Ok(draft.as_slice())
 }
 
-/// Writes the command that a line encodes.
-fn write_command(line: &[u8], draft: &mut Draft) -> Result<(), AsmFault>
-    ensures { Finishes (assembled_bytes line.now) result (drafted_bytes draft.new) }
+/// Writes the command of a profile that a line encodes.
+fn write_command(profile: Profile, line: &[u8], draft: &mut Draft) -> Result<(), AsmFault>
+    ensures { Finishes (assembled_for profile line.now) result (drafted_bytes draft.new) }
 {
     let mut tokens = Tokens::of(line);
-    let code = read_name(&mut tokens)?;
+    let code = read_name(profile, &mut tokens)?;
     let shape = code.shape();
     draft.begin();
     put_handles(shape.handles.len(), &mut tokens, draft)?;
@@ -130,13 +141,21 @@ fn write_command(line: &[u8], draft: &mut Draft) -> Result<(), AsmFault>
     draft.finish(tag, code)
 }
 
-/// Returns the buffer of the command that a line encodes, or the first fault of the line from the
-/// left. NoMemory occurs only if the line encodes a command that fits in a buffer.
+/// Returns the buffer of the command of the symmetric profile that a line encodes. Like
+/// [`assemble_for`] with this profile.
 pub fn assemble(alloc: Global, line: &str) -> Result<Vec<u8>, AsmFault>
     ensures { Assembles (λ buffer. buffer.items) (assembled_bytes line.now) result }
 {
+    assemble_for(alloc, Profile::Symmetric, line)
+}
+
+/// Returns the buffer of the command of a profile that a line encodes, or the first fault of the line
+/// from the left. NoMemory occurs only if the line encodes a command that fits in a buffer.
+pub fn assemble_for(alloc: Global, profile: Profile, line: &str) -> Result<Vec<u8>, AsmFault>
+    ensures { Assembles (λ buffer. buffer.items) (assembled_for profile line.now) result }
+{
     let mut draft = Draft::new();
-    let bytes = assemble_in(line.as_bytes(), &mut draft)?;
+    let bytes = assemble_in(profile, line.as_bytes(), &mut draft)?;
     let mut buffer = Vec::new(alloc);
     buffer.extend_from_slice(bytes)?;
     Ok(buffer)
@@ -144,7 +163,7 @@ pub fn assemble(alloc: Global, line: &str) -> Result<Vec<u8>, AsmFault>
 
 /// Parsing the buffer of a line yields the command that the line encodes.
 pub fn read_back_laws()
-    ensures { (line : List ℕ) (c : Whole)
-        → spelled_command line ≡ Ok c → command_size c ≤ buffer_limit
-        → command_at (command_text c) ≡ Ok (c, []) }
+    ensures { (profile : Profile) (line : List ℕ) (c : Whole)
+        → spelled_for profile line ≡ Ok c → command_size c ≤ buffer_limit
+        → served_command_at profile (command_text c) ≡ Ok (c, []) }
 {}

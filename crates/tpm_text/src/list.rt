@@ -1,4 +1,5 @@
-//! Lists in words, whose elements are joined by `+`: selections of PCRs and lists of digests.
+//! Lists in words, whose elements are joined by `+`: selections of PCRs, and lists of digests and of
+//! algorithms.
 
 ghost use Rattle.std.specs.Prelude.{◌≡◌, ◌==◌, length};
 ghost use Rattle.std.specs.Int.{w32, to_be_bytes};
@@ -90,6 +91,10 @@ fn put_element(element: Element, piece: &[u8], draft: &mut Draft) -> Result<(), 
         Element::Bank => put_bank(piece, draft),
         Element::Digest => put_digest(piece, draft),
         Element::Buffer => draft.put_buffer(piece),
+        Element::Algorithm => {
+            draft.put(&(number_in(0xffff, piece)? as u16).to_be_bytes());
+            Ok(())
+        }
     }
 }
 

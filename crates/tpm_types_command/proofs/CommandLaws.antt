@@ -1,6 +1,6 @@
 -- A read returns a command exactly when the whole input is its encoding.
-use Rattle.std.proofs.Common.{◌≡◌, ℕ, ◌+◌, ◌*◌, ◌<◌, ◌≤◌, ◌^◌, List, [], ◌∷◌, ◌++◌, length, Result, Ok, Err, refl, sym, ap, subst, ◌∙◌, append_assoc, arith, length-append}
-use Rattle.std.specs.Prelude.{IfOk}
+use Rattle.std.proofs.Common.{◌≡◌, ℕ, ◌+◌, ◌*◌, ◌<◌, ◌≤◌, ◌^◌, Bool, true, false, List, [], ◌∷◌, ◌++◌, length, Result, Ok, Err, refl, sym, ap, subst, ◌∙◌, append_assoc, arith, length-append}
+use Rattle.std.specs.Prelude.{IfOk, if◌then◌else◌}
 use Rattle.std.specs.List.{flat_map, AllByRecursion}
 use Rattle.tpm_bytes.specs.Reading.{◌>>=◌, Reads}
 use Rattle.tpm_bytes.proofs.Fields.{AreBytes, Takes, Takes-then, bind_ok, ok_is}
@@ -12,9 +12,12 @@ use Rattle.tpm_types_command.specs.declared.tag.Tag.TheVariants.{NoSessions, Ses
 use Rattle.tpm_types_command.specs.declared.command.Command.{Command}
 use Rattle.tpm_types_command.specs.AuthArea.{area_text, entries_text}
 use Rattle.tpm_types_command.specs.AuthEntry.{Entry, IsEntry}
-use Rattle.tpm_types_command.specs.Command.{IsCommand, Whole, command_body_text, command_at, command_size, command_text, handle_text, handles_at, handles_text, header_or_rc, sessions_at, sessions_text, tag_for, whole_command}
-use Rattle.tpm_types_command.specs.Header.{header_at, header_text}
-use Rattle.tpm_commands.specs.CommandCode.{handle_count}
+use Rattle.tpm_types_command.specs.Command.{IsCommand, Whole, command_body_text, command_at, command_size, command_text, handle_text, handles_at, handles_text, header_or_rc, command_after, served_command_at, sessions_at, sessions_text, tag_for, whole_command}
+use Rattle.tpm_types_command.specs.Header.{header_at, header_text, if_served}
+use Rattle.tpm_types_command.specs.declared.header.Header.{Header}
+use Rattle.tpm_types_command.specs.declared.header.HeaderFault.TheVariants as fault
+use Rattle.tpm_commands.specs.declared.profile.Profile.{Profile}
+use Rattle.tpm_commands.specs.CommandCode.{handle_count, serves}
 use Rattle.tpm_types_command.proofs.EntryLaws.{area_again, area_takes}
 use Rattle.tpm_types_command.proofs.HandleLemmas.{handles_again, handles_take, handles_text-is, length-handles}
 use Rattle.tpm_types_command.proofs.HeaderLaws.{header_again, header_takes}
@@ -197,16 +200,56 @@ command_again c is =
     let sessions = sessions_again c.entries c.parameters is.entry_count is.entries (omega arith) in
     ap command_at (command_text-is c) ∙ rw (header, handles, sessions) refl
 
+-- ---- the commands of a profile
+
+-- a command that a device of some profile serves is read as one that is known
+served_read : (profile : Profile) (text : List ℕ) (x : Whole × List ℕ)
+    → served_command_at profile text ≡ Ok x → command_at text ≡ Ok x
+unfolding served_command_at command_at
+served_read profile text x e = by (header_at text) e
+  where
+    chosen : (h : Header × List ℕ) (b : Bool)
+        → (header_or_rc (if b then Ok h else Err fault.Code) >>= command_after) ≡ Ok x
+        → command_after h ≡ Ok x
+    chosen h true e = e
+    chosen h false e = absurd cc
+
+    by : (read : Result (Header × List ℕ) HeaderFault)
+        → (header_or_rc (if_served profile read) >>= command_after) ≡ Ok x
+        → (header_or_rc read >>= command_after) ≡ Ok x
+    by (Ok h) e = chosen h (serves profile h.0.code) e
+    by (Err f) e = absurd cc
+
+-- the encoding of a command that a device of this profile serves is read as that command
+pub served_again : (profile : Profile) (c : Whole) → IsCommand c → serves profile c.code ≡ true
+    → served_command_at profile (command_text c) ≡ Ok (c, [])
+unfolding served_command_at command_at
+served_again profile c is serves_it =
+    let header = header_again (tag_for c.entries) (command_size c) c.code (command_body_text c)
+    (command_size-is c) is.size in
+    let read : header_at (command_text c)
+    ≡ Ok (record { tag = tag_for c.entries; code = c.code }, command_body_text c) =
+    ap header_at (command_text-is c) ∙ header in
+    ap (λ (h : Result (Header × List ℕ) HeaderFault). header_or_rc (if_served profile h)
+    >>= command_after) read
+    ∙ ap (λ (b : Bool). header_or_rc
+    (let h : Result (Header × List ℕ) HeaderFault =
+    if b then Ok (record { tag = tag_for c.entries; code = c.code }, command_body_text c)
+    else Err fault.Code in h) >>= command_after) serves_it
+    ∙ sym (ap (λ (h : Result (Header × List ℕ) HeaderFault). header_or_rc h >>= command_after) read)
+    ∙ command_again c is
+
 -- ---- the contracts of reading a command
 
-pub command_found : (old : List ℕ) (result : Result Command Rc) (new : List ℕ) → AreBytes old
-    → Reads whole_command (command_at old) old result new
+pub command_found : (profile : Profile) (old : List ℕ) (result : Result Command Rc) (new : List ℕ)
+    → AreBytes old → Reads whole_command (served_command_at profile old) old result new
     → IfOk result (λ command. IsCommand (whole_command command)
     × (old ≡ command_text (whole_command command))
     × (new ≡ []))
-command_found old (Ok command) new fits reads =
-    command_takes old (whole_command command, new) fits reads
-command_found old (Err fault) new fits reads = tt
+command_found profile old (Ok command) new fits reads =
+    command_takes old (whole_command command, new) fits
+    (served_read profile old (whole_command command, new) reads)
+command_found profile old (Err fault) new fits reads = tt
 
 -- ---- writing a command
 

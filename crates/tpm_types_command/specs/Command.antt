@@ -19,7 +19,9 @@ use Rattle.tpm_types_command.specs.declared.command.Command.{Command}
 use Rattle.tpm_types_command.specs.declared.command_ref.CommandRef.{CommandRef}
 use Rattle.tpm_types_command.specs.AuthArea.{area_at, area_text}
 use Rattle.tpm_types_command.specs.AuthEntry.{Entry, HasSizes, IsEntry, entry_of}
-use Rattle.tpm_types_command.specs.Header.{header_at, header_fault_rc, header_text}
+use Rattle.tpm_types_command.specs.Header.{header_at, header_fault_rc, header_text, if_served}
+use Rattle.tpm_types_command.specs.declared.header.Header.{Header}
+use Rattle.tpm_commands.specs.declared.profile.Profile.{Profile}
 use Rattle.tpm_types_common.specs.Rc.{at, plain}
 use Rattle.tpm_commands.specs.CommandCode.{handle_count}
 
@@ -114,11 +116,10 @@ abbrev pub header_or_rc : {A : Type 0} → Result A HeaderFault → Result A Rc
 header_or_rc (Ok x) = Ok x
 header_or_rc (Err fault) = Err (header_fault_rc fault)
 
--- the command that all these bytes encode. All bytes after its header, handles and authorization
--- area are its parameters. Therefore no bytes are left
-unfoldable pub command_at : List ℕ → Result (Whole × List ℕ) Rc
-command_at text = do
-  header ← header_or_rc (header_at text)
+-- the command with this header that the bytes after the header encode. All bytes after its handles and
+-- authorization area are its parameters. Therefore no bytes are left
+abbrev pub command_after : Header × List ℕ → Result (Whole × List ℕ) Rc
+command_after header = do
   handles ← handles_at 1 (handle_count header.0.code) header.1
   entries ← sessions_at header.0.tag handles.1
   Ok (
@@ -130,6 +131,18 @@ command_at text = do
     },
     [],
   )
+
+-- the command that all these bytes encode
+unfoldable pub command_at : List ℕ → Result (Whole × List ℕ) Rc
+command_at text = do
+  header ← header_or_rc (header_at text)
+  command_after header
+
+-- the command that all these bytes encode, if a device of this profile serves it
+unfoldable pub served_command_at : Profile → List ℕ → Result (Whole × List ℕ) Rc
+served_command_at profile text = do
+  header ← header_or_rc (if_served profile (header_at text))
+  command_after header
 
 -- A write appends the whole encoding of a command if the command can be encoded and the encoding
 -- fits. Otherwise, the write appends nothing.

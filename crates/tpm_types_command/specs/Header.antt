@@ -1,7 +1,7 @@
 -- The header of a command: tag, commandSize and commandCode. TPM 2.0 Library, Part 1, section 18.2.
 use Rattle.tpm_types_common.specs.Limits.{buffer_limit}
 use Rattle.std.specs.Prelude.{ℕ, ◌==◌, ◌||◌, not, nat_lt}
-use Rattle.std.specs.Prelude.{List, ◌++◌, length, drop, take, Result, Ok, ok_or}
+use Rattle.std.specs.Prelude.{List, ◌++◌, length, drop, take, Result, Ok, Err, ok_or, if◌then◌else◌}
 use Rattle.std.specs.Int.{w16, w32, from_be_bytes, to_be_bytes}
 use Rattle.tpm_bytes.specs.Reading.{◌>>=◌, refused_if}
 use Rattle.tpm_types_command.specs.declared.header.Header.{Header}
@@ -13,7 +13,8 @@ use Rattle.tpm_types_common.specs.declared.rc.ResponseCode.TheVariants as code
 use Rattle.tpm_types_command.specs.declared.tag.Tag.{Tag}
 use Rattle.tpm_types_common.specs.Rc.{plain}
 use Rattle.tpm_types_command.specs.Tag.{tag_named, tag_number}
-use Rattle.tpm_commands.specs.CommandCode.{code_named, code_number}
+use Rattle.tpm_commands.specs.CommandCode.{code_named, code_number, serves}
+use Rattle.tpm_commands.specs.declared.profile.Profile.{Profile}
 
 abbrev pub header_fault_rc : HeaderFault → Rc
 header_fault_rc fault.Length = plain code.CommandSize
@@ -47,3 +48,10 @@ header_at buffer = do
   size_is_length ← refused_if (not (size_field buffer == length buffer)) fault.Size
   code ← ok_or (code_named (code_field buffer)) fault.Code
   Ok (record { tag = tag; code = code }, drop 10 buffer)
+
+-- the header, if a device of this profile serves the command. The fault of another command is that of a
+-- code that is not supported
+abbrev pub if_served : Profile → Result (Header × List ℕ) HeaderFault
+    → Result (Header × List ℕ) HeaderFault
+if_served profile (Ok h) = if serves profile h.0.code then Ok h else Err fault.Code
+if_served profile (Err f) = Err f

@@ -156,7 +156,7 @@ journal_fault_text journal.IsNoJournal = codes "journal is no journal of a devic
 journal_fault_text journal.HoldsNoImage = codes "journal holds an image that this program does not open"
 journal_fault_text journal.HoldsNoState = codes "journal holds a state that this program does not open"
 journal_fault_text journal.HoldsEarlierState =
-    codes "journal holds a state of an earlier version: take a snapshot with that version, and restore it with this one"
+    codes "journal holds a state text of version 1, which is no longer read: begin with a new device"
 journal_fault_text (journal.IsDamaged line) = codes "journal line " ++ decimal line ++ codes " is damaged"
 journal_fault_text (journal.WasAnsweredOtherwise line) =
     codes "journal line " ++ decimal line ++ codes " was answered otherwise"

@@ -56,8 +56,7 @@ pub enum JournalFault {
     HoldsNoImage,
     /// The head's state text is not a state text of this version of the program.
     HoldsNoState,
-    /// The head's state text has an earlier version. The commands after it were answered by the
-    /// completing layer of that version.
+    /// The head's state text has version 1, which is no longer read.
     HoldsEarlierState,
     /// The entry that begins at this line is damaged.
     IsDamaged(u64),
@@ -210,7 +209,7 @@ impl fmt::Display for JournalFault {
             }
             JournalFault::HoldsEarlierState => write!(
                 f,
-                "journal holds a state of an earlier version: take a snapshot with that version, and restore it with this one"
+                "journal holds a state text of version 1, which is no longer read: begin with a new device"
             ),
             JournalFault::IsDamaged(line) => write!(f, "journal line {line} is damaged"),
             JournalFault::WasAnsweredOtherwise(line) => {

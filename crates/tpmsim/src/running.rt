@@ -4,25 +4,36 @@ use crate::fault::Fault;
 use std::fs;
 use std::io::Read;
 use tpm_bytes::Tap;
+use tpm_commands::Profile;
 use tpm_machine::Machine;
 use tpm_machine_saver::Saver;
 use tpm_slots::SlotKeep;
 use tpmsim_image::{Entropy, ImageFile, ImageSaver, Subject};
-use tpmsim_script::{new_machine, run_device, run_script};
+use tpmsim_script::{new_machine, run_device, run_script_for};
 
-/// Runs a script, from a file or from standard input, on a new device that is not kept.
-pub fn run_alone(rt: &HostRuntime, script: &str, trace: bool) -> Result<(), Fault> {
+/// Runs a script, from a file or from standard input, on a new device of this profile that is not kept.
+pub fn run_alone(
+    rt: &HostRuntime,
+    profile: Profile,
+    script: &str,
+    trace: bool,
+) -> Result<(), Fault> {
     if script == "-" {
-        return run_new(rt, &mut Tap::new(rt.stdin()), trace);
+        return run_new(rt, profile, &mut Tap::new(rt.stdin()), trace);
     }
     let file = Fault::file(Subject::Script).unless(fs::open(rt, script))?;
-    run_new(rt, &mut Tap::new(file), trace)
+    run_new(rt, profile, &mut Tap::new(file), trace)
 }
 
-/// Runs the script from a reader on a new device that is not kept.
-fn run_new<R: Read>(rt: &HostRuntime, reader: &mut Tap<R>, trace: bool) -> Result<(), Fault> {
+/// Runs the script from a reader on a new device of this profile that is not kept.
+fn run_new<R: Read>(
+    rt: &HostRuntime,
+    profile: Profile,
+    reader: &mut Tap<R>,
+    trace: bool,
+) -> Result<(), Fault> {
     let output = &mut Tap::new(rt.stdout());
-    Ok(run_script::<SlotKeep, _, _>(rt.alloc(), reader, output, trace)?)
+    Ok(run_script_for::<SlotKeep, _, _>(rt.alloc(), profile, reader, output, trace)?)
 }
 
 /// Runs the script on the device whose image is in a file, or on a new device if there is no such
@@ -95,7 +106,7 @@ fn manufacture(rt: &HostRuntime, entropy: Option<&str>) -> Result<Machine<SlotKe
             let mut entropy = Entropy::open(rt, path)?;
             Ok(entropy.manufacture(rt)?)
         }
-        None => Ok(new_machine(rt.alloc())?),
+        None => Ok(new_machine(rt.alloc(), Profile::Symmetric)?),
     }
 }
 

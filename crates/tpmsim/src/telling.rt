@@ -2,15 +2,15 @@
 
 use crate::fault::Fault;
 use hex::FromHexError;
-use tpm_commands::CommandCode;
+use tpm_commands::{CommandCode, Profile};
 use tpm_help::{example_of, form_of, hex_number, meaning_of};
 use tpm_line::line_of;
-use tpm_text::assemble;
+use tpm_text::assemble_for;
 use tpmsim_image::Subject;
 
-/// Prints, in hex, the command that a line in words encodes.
-pub fn print_assembled(rt: &HostRuntime, line: &str) -> Result<(), Fault> {
-    let buffer = assemble(rt.alloc(), line)?;
+/// Prints, in hex, the command of a profile that a line in words encodes.
+pub fn print_assembled(rt: &HostRuntime, profile: Profile, line: &str) -> Result<(), Fault> {
+    let buffer = assemble_for(rt.alloc(), profile, line)?;
     let text = hex::encode(rt.alloc(), buffer)?;
     Fault::file(Subject::Output).unless(println!(rt; "{text}"))
 }
@@ -32,7 +32,7 @@ fn buffer_of(rt: &HostRuntime, digits: &str) -> Result<Vec<u8>, Fault> {
 }
 
 /// Prints the form of a command in words, and an example; without a name, prints these for every
-/// command. A name that is not the name of a command is a usage fault.
+/// command of the symmetric profile. A name that is not the name of a command is a usage fault.
 pub fn print_forms(rt: &HostRuntime, name: Option<&str>) -> Result<(), Fault> {
     match name {
         Some(name) => {
@@ -45,7 +45,9 @@ pub fn print_forms(rt: &HostRuntime, name: Option<&str>) -> Result<(), Fault> {
 
 fn print_all_forms(rt: &HostRuntime) -> Result<(), Fault> {
     for code in CommandCode::ALL {
-        print_form(rt, *code)?;
+        if Profile::Symmetric.serves(*code) {
+            print_form(rt, *code)?;
+        }
     }
     Ok(())
 }

@@ -5,9 +5,10 @@ use Rattle.clap.specs.Words.{IsAmong, Row, Text, fault_of, first_of, is_simple, 
 use Rattle.clap.specs.declared.error.kind.ErrorKind.{ErrorKind}
 use Rattle.clap.specs.declared.error.kind.ErrorKind.TheVariants.{ArgumentConflict, DisplayHelp, DisplayHelpOnMissingArgumentOrSubcommand, DisplayVersion, Format, InvalidSubcommand, InvalidValue, Io, MissingRequiredArgument, MissingSubcommand, NoEquals, OutOfMemory, TooFewValues, TooManyValues, UnknownArgument, ValueValidation, WrongNumberOfValues}
 use Rattle.clap.proofs.OnLiterals.{clap_on_literals}
+use Rattle.tpm_commands.specs.declared.profile.Profile.{Profile}
 use Rattle.tpm_bytes.specs.Reading.{Gives}
 use Rattle.tpmsim_arguments.specs.Answers.{Answers, AreTaken, IsTold}
-use Rattle.tpmsim_arguments.specs.Invocation.{Invocation, Served, Stored, invocation_of, asked_by, asked_in, is_set, past_in, script_in, service_in, storage_in, run, check, assemble, spell, forms, name_code, serve, cycle_power, snapshot, restore, retell, tell, replay}
+use Rattle.tpmsim_arguments.specs.Invocation.{Invocation, Served, Stored, invocation_of, asked_by, asked_in, is_set, past_in, profile_by, profile_in, script_in, service_in, storage_in, run, check, assemble, spell, forms, name_code, serve, cycle_power, snapshot, restore, retell, tell, replay}
 use Rattle.tpmsim_arguments.specs.CommandLine.{program}
 use Rattle.tpmsim_arguments.specs.Fault.{fault_of_words}
 use Rattle.tpmsim_arguments.specs.declared.arguments.Arguments.{Arguments}
@@ -33,12 +34,18 @@ not_found None e = refl
 not_found (Some y) e = absurd cc
 
 -- the request to run a script is never a request for clap's help or version
-no_run : (kind : ErrorKind) (trace : Bool) (script : Option Text) (storage : Option (Option Stored))
-    → option_and_then (λ s. option_and_then (λ kept. Some (run s trace kept)) storage) script
-    ≡ Some (tell kind) → ⊥
-no_run kind trace None storage e = cc
-no_run kind trace (Some s) None e = cc
-no_run kind trace (Some s) (Some kept) e = cc
+no_run : (kind : ErrorKind) (trace : Bool) (profile : Profile) (script : Option Text)
+    (storage : Option (Option Stored))
+    → option_and_then (λ s. option_and_then (λ kept. option_and_then (λ p.
+    Some (run s trace p kept)) (profile_by kept profile)) storage) script ≡ Some (tell kind) → ⊥
+no_run kind trace profile None storage e = cc
+no_run kind trace profile (Some s) None e = cc
+no_run kind trace profile (Some s) (Some kept) e = by (profile_by kept profile) e
+  where
+    by : (p : Option Profile)
+        → option_and_then (λ p. Some (run s trace p kept)) p ≡ Some (tell kind) → ⊥
+    by None e = cc
+    by (Some p) e = cc
 
 -- if neither of two requests is `wish`, the chosen request is not `wish`
 otherwise : {A : Type 0} (wish : A) (here : Bool) (this other : Option A) → (this ≡ Some wish → ⊥)
@@ -52,9 +59,10 @@ no_check : (kind : ErrorKind) (script : Option Text) → option_map check script
 no_check kind None e = cc
 no_check kind (Some text) e = cc
 
-no_line : (kind : ErrorKind) (line : Option Text) → option_map assemble line ≡ Some (tell kind) → ⊥
-no_line kind None e = cc
-no_line kind (Some text) e = cc
+no_line : (kind : ErrorKind) (profile : Profile) (line : Option Text)
+    → option_map (assemble profile) line ≡ Some (tell kind) → ⊥
+no_line kind profile None e = cc
+no_line kind profile (Some text) e = cc
 
 no_digits : (kind : ErrorKind) (digits : Option Text) → option_map spell digits ≡ Some (tell kind)
     → ⊥
@@ -112,9 +120,9 @@ none_tells : (kind : ErrorKind) (command : Option (Text × List Row))
 none_tells kind None e = cc
 none_tells kind (Some command) e =
     let rows = command.1 in
-    otherwise (tell kind) (bytes_eq command.0 (codes "run")) _ _ (no_run kind (is_set (codes "trace") rows) (script_in rows) (storage_in rows))
+    otherwise (tell kind) (bytes_eq command.0 (codes "run")) _ _ (no_run kind (is_set (codes "trace") rows) (profile_in rows) (script_in rows) (storage_in rows))
     (otherwise (tell kind) (bytes_eq command.0 (codes "check")) _ _ (no_check kind (first_of (codes "script") rows))
-    (otherwise (tell kind) (bytes_eq command.0 (codes "asm")) _ _ (no_line kind (first_of (codes "line") rows))
+    (otherwise (tell kind) (bytes_eq command.0 (codes "asm")) _ _ (no_line kind (profile_in rows) (first_of (codes "line") rows))
     (otherwise (tell kind) (bytes_eq command.0 (codes "line")) _ _ (no_digits kind (first_of (codes "hex") rows))
     (otherwise (tell kind) (bytes_eq command.0 (codes "lines")) _ _ (no_forms kind (first_of (codes "name") rows))
     (otherwise (tell kind) (bytes_eq command.0 (codes "code")) _ _ (no_code kind (first_of (codes "number") rows))
@@ -129,9 +137,9 @@ none_tells kind (Some command) e =
 -- requires
 pub taken : (words : List Text) (r : Result Arguments ArgumentFault) → AreTaken words
     → Gives invocation_of (ok_or (asked_by words) Usage) r → Answers words r
-taken words (Ok (arguments.Run script trace storage)) right e = (right, found_is _ _ e)
+taken words (Ok (arguments.Run script trace profile storage)) right e = (right, found_is _ _ e)
 taken words (Ok (arguments.Check script)) right e = (right, found_is _ _ e)
-taken words (Ok (arguments.Assemble line)) right e = (right, found_is _ _ e)
+taken words (Ok (arguments.Assemble profile line)) right e = (right, found_is _ _ e)
 taken words (Ok (arguments.Spell digits)) right e = (right, found_is _ _ e)
 taken words (Ok (arguments.Forms name)) right e = (right, found_is _ _ e)
 taken words (Ok (arguments.Code digits)) right e = (right, found_is _ _ e)

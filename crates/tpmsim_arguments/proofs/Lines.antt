@@ -6,10 +6,11 @@ use Rattle.std.specs.Str.{bytes_eq}
 use Rattle.clap.specs.Lexer.{long_of, short_of, strip_byte}
 use Rattle.clap.specs.Words.{Text}
 use Rattle.clap.proofs.OnLiterals.{clap_on_literals}
+use Rattle.tpm_commands.specs.declared.profile.Profile.TheVariants.{Symmetric, Complete}
 use Rattle.tpm_number.specs.Number.{decimal_of, locality_of}
 use Rattle.tpmsim_arguments.specs.Answers.{AreTaken}
 use Rattle.tpmsim_arguments.specs.Invocation.{Invocation, Kept, asked_by, assemble, check, completes_by, connections_by, cycle_power, entropy_by, forms, in_image, in_state, locality_by, log_by, name_code, needed_by, past_by, replay, restore, retell, run, serve, snapshot, spell}
-use Rattle.tpmsim_arguments.specs.Lines.{AskFor, AskForDevice, AskForFolder, AskForNothing, AskForSavedDevice, AskForService, IsScript, asm_line, begins_with_hyphen, check_line, code_line, complete_line, cut_line, form_line, forms_line, incomplete_line, joined_line, keeping_line, line_line, line_without_connections, line_without_entropy, line_without_locality, logging_line, played_line, power_line, replay_line, restore_line, saving_line, script_line, short_line, snapshot_line, state_line}
+use Rattle.tpmsim_arguments.specs.Lines.{AskFor, AskForDevice, AskForFolder, AskForNothing, AskForSavedDevice, AskForService, IsScript, asm_line, begins_with_hyphen, check_line, code_line, complete_asm_line, complete_line, cut_line, form_line, forms_line, incomplete_line, joined_line, keeping_line, line_line, line_without_connections, line_without_entropy, line_without_locality, logging_line, played_line, power_line, replay_line, restore_line, saving_line, script_line, short_line, snapshot_line, state_line}
 
 -- a word that does not begin with a hyphen is not the name of an argument
 no_hyphen : (word : Text) → begins_with_hyphen word ≡ false → strip_byte 45 word ≡ None
@@ -27,9 +28,15 @@ pub no_short : (word : Text) → begins_with_hyphen word ≡ false → short_of 
 no_short word e = rw (no_hyphen word e) refl
 
 pub line_is_assembled : (name line : Text) → begins_with_hyphen line ≡ false
-    → AskFor (asm_line name line) (assemble line)
+    → AskFor (asm_line name line) (assemble Symmetric line)
 unfolding clap_on_literals
 line_is_assembled name line e = rw (no_end line e, no_long line e, no_short line e) (refl, refl)
+
+pub line_is_assembled_for_both : (name line : Text) → begins_with_hyphen line ≡ false
+    → AskFor (complete_asm_line name line) (assemble Complete line)
+unfolding clap_on_literals
+line_is_assembled_for_both name line e =
+    rw (no_end line e, no_long line e, no_short line e) (refl, refl)
 
 pub digits_are_spelled : (name digits : Text) → begins_with_hyphen digits ≡ false
     → AskFor (line_line name digits) (spell digits)
@@ -123,7 +130,7 @@ unfolding clap_on_literals
 journal_is_replayed name journal e =
     rw (no_end journal e, no_long journal e, no_short journal e) (refl, refl)
 
-pub state_is_played : (name state : Text) → AskFor (played_line name state) (run (codes "-") false (Some (record { place = in_state state 0; entropy = None })))
+pub state_is_played : (name state : Text) → AskFor (played_line name state) (run (codes "-") false Symmetric (Some (record { place = in_state state 0; entropy = None })))
 unfolding clap_on_literals
 state_is_played name state = (refl, refl)
 

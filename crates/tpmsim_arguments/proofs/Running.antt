@@ -1,14 +1,16 @@
 -- A `run` command line with a script after its options is a request to run that script.
-use Rattle.std.proofs.Common.{◌≡◌, ◌∙◌, ◌++◌, ap, refl, sym, subst, true, false, codes, fold, List, [], ◌∷◌, Some, None, inl, inr, is_some, find, unwrap_or}
+use Rattle.std.proofs.Common.{◌≡◌, ◌∙◌, ◌++◌, ap, refl, sym, subst, true, false, codes, fold, List, [], ◌∷◌, Some, None, inl, inr, is_some, find, unwrap_or, Option}
 use Rattle.clap.specs.Words.{Rule, Shape, Text}
 use Rattle.clap.specs.Kinds.{or_else}
 use Rattle.clap.specs.Walk.{Held, Walk, answers_to, arg_by_index, finished, nothing_held, settled, to_positional, value, walk, walk_from, walked}
 use Rattle.clap.specs.Simple.{built, entered, help_shape, label_of}
 use Rattle.clap.specs.Faults.{check_fault, defaults_fault, entered_fault, level_fault, settle_fault, step_fault, turn_fault, walk_fault}
 use Rattle.clap.proofs.OnLiterals.{clap_on_literals}
+use Rattle.tpm_commands.specs.declared.profile.Profile.TheVariants.{Symmetric, Complete}
+use Rattle.tpmsim_arguments.specs.Answers.{AreTaken}
 use Rattle.tpmsim_arguments.specs.CommandLine.{program}
-use Rattle.tpmsim_arguments.specs.Invocation.{Invocation, asked_in, asked_of, in_image, run}
-use Rattle.tpmsim_arguments.specs.Lines.{AskFor, IsScript, begins_with_hyphen, kept_line, run_line, trace_line}
+use Rattle.tpmsim_arguments.specs.Invocation.{Invocation, asked_by, asked_in, asked_of, in_image, run}
+use Rattle.tpmsim_arguments.specs.Lines.{AskFor, AskForNothing, IsScript, begins_with_hyphen, complete_image_line, complete_run_line, kept_line, run_line, trace_line}
 use Rattle.tpmsim_arguments.proofs.Lines.{no_end, no_long, no_short}
 use Rattle.tpmsim_arguments.proofs.Settings.{begun, level, none, step, stopped_at, stopped_fault, stopped_walk, top, top_end, top_names}
 
@@ -45,15 +47,16 @@ run_fault : (rest : List Text) → walk_fault top top_names (walk_from nothing_h
 run_fault rest = step top top_names (walk_from nothing_held) (stopped_at (codes "run") []) (codes "run") rest run_turn run_met
     ∙ stopped_fault top top_names (codes "run") [] rest
 
--- what a `run` command line requests, if the walk over its words ends in this state
-is_asked : (name : Text) (rest : List Text) (end : Walk) (asked : Invocation)
+-- what a `run` command line requests, if the walk over its words ends in this state; None if it is
+-- refused
+is_read : (name : Text) (rest : List Text) (end : Walk) (asked : Option Invocation)
     → (walk run_shape.rules [] nothing_held rest ≡ end) × (walk_fault run_shape [] begun rest ≡ [])
     → or_else (settle_fault run_shape.rules run_shape.args_override_self end.held)
     (or_else (defaults_fault (settled run_shape.rules end.held).rows run_shape.rules)
     (check_fault run_shape (finished run_shape.rules end.held) false)) ≡ []
-    → asked_of (codes "run") (finished run_shape.rules end.held) ≡ Some asked
-    → AskFor (name ∷ codes "run" ∷ rest) asked
-is_asked name rest end asked w r a =
+    → asked_of (codes "run") (finished run_shape.rules end.held) ≡ asked
+    → AreTaken (name ∷ codes "run" ∷ rest) × (asked_by (name ∷ codes "run" ∷ rest) ≡ asked)
+is_read name rest end asked w r a =
     let below : entered_fault (built program) (Some (codes "run", rest)) ≡ [] = level run_shape [] rest false [] end w.1 w.0 refl r in
     let args : List Text = codes "run" ∷ rest in (
       subst (λ (w : Walk). level_fault top top_names nothing_held args
@@ -65,6 +68,15 @@ is_asked name rest end asked w r a =
       ap (λ (w : Walk). asked_in (entered (built program) w.stopped)) (run_walk rest)
           ∙ ap (λ (w : Walk). asked_of (codes "run") (finished run_shape.rules w.held)) w.0 ∙ a,
     )
+
+is_asked : (name : Text) (rest : List Text) (end : Walk) (asked : Invocation)
+    → (walk run_shape.rules [] nothing_held rest ≡ end) × (walk_fault run_shape [] begun rest ≡ [])
+    → or_else (settle_fault run_shape.rules run_shape.args_override_self end.held)
+    (or_else (defaults_fault (settled run_shape.rules end.held).rows run_shape.rules)
+    (check_fault run_shape (finished run_shape.rules end.held) false)) ≡ []
+    → asked_of (codes "run") (finished run_shape.rules end.held) ≡ Some asked
+    → AskFor (name ∷ codes "run" ∷ rest) asked
+is_asked name rest end asked w r a = is_read name rest end (Some asked) w r a
 
 -- ---- a script after options
 
@@ -94,21 +106,21 @@ with_script_ends h script e s =
 -- ---- a script alone
 
 word_is_run : (name script : Text) → begins_with_hyphen script ≡ false
-    → AskFor (run_line name script) (run script false None)
+    → AskFor (run_line name script) (run script false Symmetric None)
 unfolding clap_on_literals
 word_is_run name script e = is_asked name (script ∷ []) (with_script nothing_held script)
-    (run script false None)
+    (run script false Symmetric None)
     (with_script_ends nothing_held script e refl) refl refl
 
-hyphen_is_run : (name : Text) → AskFor (run_line name (codes "-")) (run (codes "-") false None)
+hyphen_is_run : (name : Text) → AskFor (run_line name (codes "-")) (run (codes "-") false Symmetric None)
 unfolding clap_on_literals
 hyphen_is_run name = (refl, refl)
 
 pub script_is_run : (name script : Text) → IsScript script
-    → AskFor (run_line name script) (run script false None)
+    → AskFor (run_line name script) (run script false Symmetric None)
 script_is_run name script (inl e) = word_is_run name script e
 script_is_run name script (inr e) =
-    subst (λ word. AskFor (run_line name word) (run word false None)) (sym e) (hyphen_is_run name)
+    subst (λ word. AskFor (run_line name word) (run word false Symmetric None)) (sym e) (hyphen_is_run name)
 
 -- ---- a script after --trace
 
@@ -124,22 +136,70 @@ unfolding clap_on_literals
 trace_turn = refl
 
 word_is_traced : (name script : Text) → begins_with_hyphen script ≡ false
-    → AskFor (trace_line name script) (run script true None)
+    → AskFor (trace_line name script) (run script true Symmetric None)
 unfolding clap_on_literals
-word_is_traced name script e = is_asked name (codes "--trace" ∷ script ∷ []) (with_script traced script) (run script true None)
+word_is_traced name script e = is_asked name (codes "--trace" ∷ script ∷ []) (with_script traced script) (run script true Symmetric None)
     (ahead begun (walk_from traced) (with_script traced script) (codes "--trace") (script ∷ []) trace_met trace_turn
     (with_script_ends traced script e refl)) refl refl
 
-hyphen_is_traced : (name : Text) → AskFor (trace_line name (codes "-")) (run (codes "-") true None)
+hyphen_is_traced : (name : Text) → AskFor (trace_line name (codes "-")) (run (codes "-") true Symmetric None)
 unfolding clap_on_literals
 hyphen_is_traced name = (refl, refl)
 
 pub script_is_traced : (name script : Text) → IsScript script
-    → AskFor (trace_line name script) (run script true None)
+    → AskFor (trace_line name script) (run script true Symmetric None)
 script_is_traced name script (inl e) = word_is_traced name script e
 script_is_traced name script (inr e) =
-    subst (λ word. AskFor (trace_line name word) (run word true None)) (sym e)
+    subst (λ word. AskFor (trace_line name word) (run word true Symmetric None)) (sym e)
     (hyphen_is_traced name)
+
+-- ---- a script after --complete
+
+abbrev completed : Held
+completed = (R begun (codes "--complete")).held
+
+complete_met : R begun (codes "--complete") ≡ walk_from completed
+unfolding clap_on_literals
+complete_met = refl
+
+complete_turn : turn_fault run_shape [] begun (codes "--complete") ≡ []
+unfolding clap_on_literals
+complete_turn = refl
+
+pub script_is_complete : (name script : Text) → begins_with_hyphen script ≡ false
+    → AskFor (complete_run_line name script) (run script false Complete None)
+unfolding clap_on_literals
+script_is_complete name script e = is_asked name (codes "--complete" ∷ script ∷ []) (with_script completed script) (run script false Complete None)
+    (ahead begun (walk_from completed) (with_script completed script) (codes "--complete") (script ∷ []) complete_met complete_turn
+    (with_script_ends completed script e refl)) refl refl
+
+-- ---- a device that is kept cannot be of the complete profile
+
+abbrev complete_imaged : Text → Held
+complete_imaged image = (R (walk_from completed) (codes "--image=" ++ image)).held
+
+complete_image_met : (image : Text)
+    → R (walk_from completed) (codes "--image=" ++ image) ≡ walk_from (complete_imaged image)
+unfolding clap_on_literals
+complete_image_met image = refl
+
+complete_image_turn : (image : Text)
+    → turn_fault run_shape [] (walk_from completed) (codes "--image=" ++ image) ≡ []
+unfolding clap_on_literals
+complete_image_turn image = refl
+
+pub image_is_not_complete : (name image script : Text) → begins_with_hyphen script ≡ false
+    → AskForNothing (complete_image_line name image script)
+unfolding clap_on_literals
+image_is_not_complete name image script e =
+    let end : Walk = with_script (complete_imaged image) script in
+    let t2 : List Text = script ∷ [] in
+    let t1 : List Text = (codes "--image=" ++ image) ∷ t2 in
+    is_read name (codes "--complete" ∷ t1) end None
+    (ahead begun (walk_from completed) end (codes "--complete") t1 complete_met complete_turn
+    (ahead (walk_from completed) (walk_from (complete_imaged image)) end
+    (codes "--image=" ++ image) t2 (complete_image_met image) (complete_image_turn image)
+    (with_script_ends (complete_imaged image) script e refl))) refl refl
 
 -- ---- a script on a device with an image
 
@@ -168,7 +228,7 @@ entropy_turn image entropy = refl
 -- a request to run a script with traces, on the device in an image
 abbrev run_kept : (image entropy script : Text) → Invocation
 run_kept image entropy script =
-    run script true (Some (record { place = in_image image; entropy = Some entropy }))
+    run script true Symmetric (Some (record { place = in_image image; entropy = Some entropy }))
 
 word_is_kept : (name image entropy script : Text) → begins_with_hyphen script ≡ false
     → AskFor (kept_line name image entropy script) (run_kept image entropy script)
@@ -190,7 +250,7 @@ hyphen_is_kept name image entropy = (refl, refl)
 
 pub device_is_kept : (name image entropy script : Text) → IsScript script
     → AskFor (kept_line name image entropy script)
-    (run script true (Some (record { place = in_image image; entropy = Some entropy })))
+    (run script true Symmetric (Some (record { place = in_image image; entropy = Some entropy })))
 device_is_kept name image entropy script (inl e) = word_is_kept name image entropy script e
 device_is_kept name image entropy script (inr e) =
     subst (λ word. AskFor (kept_line name image entropy word) (run_kept image entropy word)) (sym e)

@@ -32,20 +32,21 @@ with_arguments name rules = record (new_shape name) { rules = rules }
 abbrev pub optional_operand : Text → Rule
 optional_operand name = record (operand name) { required = false }
 
--- the command `run [--trace] [--image FILE] [--state DIR] [--keep NUMBER] [--entropy FILE]
--- [SCRIPT]`
+-- the command `run [--trace] [--complete] [--image FILE] [--state DIR] [--keep NUMBER]
+-- [--entropy FILE] [SCRIPT]`
 abbrev pub run_command : Shape
-run_command = with_arguments (codes "run") (flag (codes "trace") ∷ choice (codes "image")
-    ∷ choice (codes "state") ∷ choice (codes "keep") ∷ choice (codes "entropy")
-    ∷ optional_operand (codes "script") ∷ [])
+run_command = with_arguments (codes "run") (flag (codes "trace") ∷ flag (codes "complete")
+    ∷ choice (codes "image") ∷ choice (codes "state") ∷ choice (codes "keep")
+    ∷ choice (codes "entropy") ∷ optional_operand (codes "script") ∷ [])
 
 -- the command `check SCRIPT`
 abbrev pub check_command : Shape
 check_command = with_arguments (codes "check") (operand (codes "script") ∷ [])
 
--- the command `asm LINE`
+-- the command `asm [--complete] LINE`
 abbrev pub asm_command : Shape
-asm_command = with_arguments (codes "asm") (operand (codes "line") ∷ [])
+asm_command = with_arguments (codes "asm")
+    (flag (codes "complete") ∷ operand (codes "line") ∷ [])
 
 -- the command `line HEX`
 abbrev pub line_command : Shape

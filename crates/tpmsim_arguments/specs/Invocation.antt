@@ -5,6 +5,8 @@ use Rattle.std.specs.Option.{option_map_or}
 use Rattle.std.specs.Str.{bytes_eq}
 use Rattle.clap.specs.Words.{Row, Text, first_of, kind_of, subcommand_of}
 use Rattle.clap.specs.declared.error.kind.ErrorKind.{ErrorKind}
+use Rattle.tpm_commands.specs.declared.profile.Profile.{Profile}
+use Rattle.tpm_commands.specs.declared.profile.Profile.TheVariants.{Symmetric, Complete}
 use Rattle.tpm_types_common.specs.Locality.{locality_number}
 use Rattle.tpm_number.specs.Number.{decimal_of, locality_of}
 use Rattle.tpmsim_arguments.specs.CommandLine.{program}
@@ -39,8 +41,9 @@ pub record Stored : Type 0 where
   pub place : Kept
   pub entropy : Option Text
 
--- what a command line requests: run a script, with or without its trace, on a device that is or is
--- not kept; check the lines of a script; print the buffer that a line encodes; print the line that
+-- what a command line requests: run a script, with or without its trace, on a device of this profile
+-- that is or is not kept; check the lines of a script; print the buffer of the command of this profile
+-- that a line encodes; print the line that
 -- encodes a buffer; print the form in words of one command or of all; print the meaning of a
 -- response code; serve a device; power-cycle the device in a folder, with or without dropping the
 -- journal after damage; print the device's state text; replace the device with the device in a
@@ -48,9 +51,9 @@ pub record Stored : Type 0 where
 -- recorded; print clap's help or the version. `past` is the number of finished journals that stay
 -- in the folder
 pub data Invocation : Type 0 where
-  run : Text → Bool → Option Stored → Invocation
+  run : Text → (traced : Bool) → Profile → Option Stored → Invocation
   check : Text → Invocation
-  assemble : Text → Invocation
+  assemble : Profile → Text → Invocation
   spell : Text → Invocation
   forms : Option Text → Invocation
   name_code : Text → Invocation
@@ -175,11 +178,26 @@ script_by None None = None
 abbrev pub script_in : List Row → Option Text
 script_in rows = script_by (first_of (codes "script") rows) (first_of (codes "state") rows)
 
+-- the profile: complete if the flag for it was given
+abbrev pub profile_of : (is_complete : Bool) → Profile
+profile_of is_complete = if is_complete then Complete else Symmetric
+
+abbrev pub profile_in : List Row → Profile
+profile_in rows = profile_of (is_set (codes "complete") rows)
+
+-- the profile of the device on which a script is played: only a device that is not kept can be of the
+-- complete profile
+abbrev pub profile_by : Option Stored → Profile → Option Profile
+profile_by None profile = Some profile
+profile_by (Some storage) Symmetric = Some Symmetric
+profile_by (Some storage) Complete = None
+
 abbrev pub run_in : List Row → Option Invocation
 run_in rows = do
   script ← script_in rows
   storage ← storage_in rows
-  Some (run script (is_set (codes "trace") rows) storage)
+  profile ← profile_by storage (profile_in rows)
+  Some (run script (is_set (codes "trace") rows) profile storage)
 
 abbrev pub power_in : List Row → Option Invocation
 power_in rows = do
@@ -198,7 +216,7 @@ restore_in rows = do
 abbrev pub asked_of : Text → List Row → Option Invocation
 asked_of name rows = if bytes_eq name (codes "run") then run_in rows
     else (if bytes_eq name (codes "check") then option_map check (first_of (codes "script") rows)
-    else (if bytes_eq name (codes "asm") then option_map assemble (first_of (codes "line") rows)
+    else (if bytes_eq name (codes "asm") then option_map (assemble (profile_in rows)) (first_of (codes "line") rows)
     else (if bytes_eq name (codes "line") then option_map spell (first_of (codes "hex") rows)
     else (if bytes_eq name (codes "lines") then Some (forms (first_of (codes "name") rows))
     else (if bytes_eq name (codes "code") then option_map name_code (first_of (codes "number") rows)
@@ -242,10 +260,10 @@ stored_of storage = record {
 }
 
 abbrev pub invocation_of : Arguments → Invocation
-invocation_of (arguments.Run script trace storage) =
-    run script.now trace (option_map stored_of storage)
+invocation_of (arguments.Run script trace profile storage) =
+    run script.now trace profile (option_map stored_of storage)
 invocation_of (arguments.Check script) = check script.now
-invocation_of (arguments.Assemble line) = assemble line.now
+invocation_of (arguments.Assemble profile line) = assemble profile line.now
 invocation_of (arguments.Spell digits) = spell digits.now
 invocation_of (arguments.Forms name) = forms (option_map (λ name. name.now) name)
 invocation_of (arguments.Code digits) = name_code digits.now

@@ -28,6 +28,19 @@ IsScript script = (begins_with_hyphen script ≡ false) ⊎ (script ≡ codes "-
 abbrev pub asm_line : (name line : Text) → List Text
 asm_line name line = name ∷ codes "asm" ∷ line ∷ []
 
+-- the command line `NAME asm --complete LINE`
+abbrev pub complete_asm_line : (name line : Text) → List Text
+complete_asm_line name line = name ∷ codes "asm" ∷ codes "--complete" ∷ line ∷ []
+
+-- the command line `NAME run --complete SCRIPT`
+abbrev pub complete_run_line : (name script : Text) → List Text
+complete_run_line name script = name ∷ codes "run" ∷ codes "--complete" ∷ script ∷ []
+
+-- the command line `NAME run --complete --image=IMAGE SCRIPT`
+abbrev pub complete_image_line : (name image script : Text) → List Text
+complete_image_line name image script = name ∷ codes "run" ∷ codes "--complete"
+    ∷ (codes "--image=" ++ image) ∷ script ∷ []
+
 -- the command line `NAME run SCRIPT`
 abbrev pub run_line : (name script : Text) → List Text
 run_line name script = name ∷ codes "run" ∷ script ∷ []

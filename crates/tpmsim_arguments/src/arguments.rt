@@ -9,6 +9,7 @@ ghost use Rattle.tpmsim_arguments.specs.Invocation.{asked_in, asked_of, complete
 ghost use Rattle.tpmsim_arguments.specs.Invocation.{connections_by, entropy_by, invocation_of};
 ghost use Rattle.tpmsim_arguments.specs.Invocation.{is_set, kept_of, locality_by, log_by};
 ghost use Rattle.tpmsim_arguments.specs.Invocation.{needed_by, past_by, past_in, past_of, place_by};
+ghost use Rattle.tpmsim_arguments.specs.Invocation.{profile_in};
 ghost use Rattle.tpmsim_arguments.specs.Invocation.{place_in, power_in, restore_in, run_in};
 ghost use Rattle.tpmsim_arguments.specs.Invocation.{script_in, served_of, service_in, storage_in};
 ghost use Rattle.tpmsim_arguments.specs.Invocation.{stored_of};
@@ -22,6 +23,7 @@ use crate::storage::Storage;
 use clap::ArgMatches;
 use std::alloc::Global;
 use std::convert::AsStr;
+use tpm_commands::Profile;
 use tpm_number::{decimal, locality};
 use tpm_types_common::Locality;
 
@@ -30,10 +32,11 @@ use tpm_types_common::Locality;
 pub enum Arguments<'a> {
     /// Run the script in this file, or on standard input if the word is `-`. `trace` says whether
     /// to print the trace of each event, and `storage` contains the files of the device, if it is
-    /// kept.
+    /// kept. The device is of this profile.
     Run {
         script: &'a str,
         trace: bool,
+        profile: Profile,
         storage: Option<Storage<'a>>,
     },
     /// Print the faults in the lines of the script in this file, or on standard input if the word
@@ -41,8 +44,9 @@ pub enum Arguments<'a> {
     Check {
         script: &'a str,
     },
-    /// Print the buffer of the command that this line encodes.
+    /// Print the buffer of the command of this profile that this line encodes.
     Assemble {
+        profile: Profile,
         line: &'a str,
     },
     /// Print the line that encodes the buffer with these hex digits.
@@ -126,6 +130,7 @@ impl<'a> Arguments<'a> {
             }),
             "asm" => Some(Arguments::Assemble {
                 line: value(options, "line")?,
+                profile: profile_of(options),
             }),
             "line" => Some(Arguments::Spell {
                 digits: value(options, "hex")?,
@@ -184,11 +189,29 @@ fn is_set(options: &ArgMatches<'_>, flag: &str) -> bool
 fn run_of<'a>(options: &ArgMatches<'a>) -> Option<Arguments<'a>>
     ensures { option_map invocation_of result ≡ run_in (rows_of (found_of options.now)) }
 {
+    let script = script_of(options)?;
+    let storage = storage_of(options)?;
+    let profile = profile_of(options);
+    if storage.is_some() && profile == Profile::Complete {
+        return None;
+    }
     Some(Arguments::Run {
-        script: script_of(options)?,
+        script,
         trace: is_set(options, "trace"),
-        storage: storage_of(options)?,
+        profile,
+        storage,
     })
+}
+
+/// Returns the profile that the matches request: complete if the flag for it was given.
+fn profile_of(options: &ArgMatches<'_>) -> Profile
+    ensures { result ≡ profile_in (rows_of (found_of options.now)) }
+{
+    if is_set(options, "complete") {
+        Profile::Complete
+    } else {
+        Profile::Symmetric
+    }
 }
 
 /// Returns the script that the matches of `run` name. If they name no script and the device's state

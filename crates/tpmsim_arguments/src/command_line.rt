@@ -65,6 +65,9 @@ fn run_without_options<'a>(alloc: Global) -> Command<'a>
 
 const TRACE: &str = "Prints before each response which row of the table the command took";
 
+const COMPLETE_DEVICE: &str =
+    "Uses a device that also serves the commands of the complete profile; not for a kept device";
+
 const RUN_IMAGE: &str =
     "What the device keeps without power; a new device if there is no such file";
 
@@ -78,6 +81,7 @@ fn run_command<'a>(alloc: Global) -> Result<Command<'a>, AllocError>
 {
     run_without_options(alloc)
         .arg(flag(alloc, "trace", TRACE))?
+        .arg(flag(alloc, "complete", COMPLETE_DEVICE))?
         .arg(choice(alloc, "image", "FILE", RUN_IMAGE))?
         .arg(choice(alloc, "state", "DIR", STATE))?
         .arg(choice(alloc, "keep", "NUMBER", KEEP))?
@@ -167,22 +171,25 @@ fn check_command<'a>(alloc: Global) -> Result<Command<'a>, AllocError>
     )
 }
 
+/// The command `asm` without its arguments.
+fn asm_without_arguments<'a>(alloc: Global) -> Command<'a>
+    ensures { app_of result ≡ new_app (codes "asm") }
+{
+    Command::new(alloc, "asm")
+        .about("Prints the buffer of a command in hex")
+        .after_help("Example: tpmsim asm 'PCR_Read sha256:0,4'")
+}
+
+const COMPLETE_COMMANDS: &str = "Also knows the commands of the complete profile";
+
+const WORDS: &str = "The command in words, as it comes after `do ` in a script";
+
 fn asm_command<'a>(alloc: Global) -> Result<Command<'a>, AllocError>
     ensures { IfOk result (λ command. shape_of command ≡ asm_command) }
 {
-    let argument = operand(
-        alloc,
-        "line",
-        "LINE",
-        "The command in words, as it comes after `do ` in a script",
-    );
-    one_argument_command(
-        alloc,
-        "asm",
-        "Prints the buffer of a command in hex",
-        "Example: tpmsim asm 'PCR_Read sha256:0,4'",
-        argument,
-    )
+    asm_without_arguments(alloc)
+        .arg(flag(alloc, "complete", COMPLETE_COMMANDS))?
+        .arg(operand(alloc, "line", "LINE", WORDS))
 }
 
 fn line_command<'a>(alloc: Global) -> Result<Command<'a>, AllocError>

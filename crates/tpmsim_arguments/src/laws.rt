@@ -1,6 +1,7 @@
 //! Laws about what common command lines request.
 
 ghost use Rattle.std.specs.Prelude.{◌≡◌, ◌≤◌, ◌∷◌, List, [], None, Some, ℕ, codes, false, true};
+ghost use Rattle.tpm_commands.specs.declared.profile.Profile.TheVariants.{Symmetric, Complete};
 ghost use Rattle.tpm_number.specs.Number.{decimal_of};
 ghost use Rattle.tpmsim_arguments.specs.Invocation.{assemble, check, cycle_power, forms, in_image};
 ghost use Rattle.tpmsim_arguments.specs.Invocation.{in_state, name_code, replay, restore, retell};
@@ -8,7 +9,8 @@ ghost use Rattle.tpmsim_arguments.specs.Invocation.{run, snapshot, spell};
 ghost use Rattle.tpmsim_arguments.specs.Lines.{AskFor, AskForDevice, AskForFolder, AskForNothing};
 ghost use Rattle.tpmsim_arguments.specs.Lines.{AskForSavedDevice, AskForService, IsScript};
 ghost use Rattle.tpmsim_arguments.specs.Lines.{NoneBeginsWithHyphen, asm_line, begins_with_hyphen};
-ghost use Rattle.tpmsim_arguments.specs.Lines.{check_line, code_line, complete_line, cut_line};
+ghost use Rattle.tpmsim_arguments.specs.Lines.{check_line, code_line, complete_asm_line};
+ghost use Rattle.tpmsim_arguments.specs.Lines.{complete_image_line, complete_line, complete_run_line, cut_line};
 ghost use Rattle.tpmsim_arguments.specs.Lines.{form_line, forms_line, incomplete_line, joined_line};
 ghost use Rattle.tpmsim_arguments.specs.Lines.{keeping_line, kept_line, line_line};
 ghost use Rattle.tpmsim_arguments.specs.Lines.{line_without_connections, line_without_entropy};
@@ -23,7 +25,9 @@ ghost use Rattle.tpmsim_arguments.specs.Lines.{snapshot_line, state_line, trace_
 #[inline(always)]
 pub fn usual_line_laws()
     ensures asm { (name line : List ℕ) → begins_with_hyphen line ≡ false
-        → AskFor (asm_line name line) (assemble line) }
+        → AskFor (asm_line name line) (assemble Symmetric line) }
+    ensures complete_asm { (name line : List ℕ) → begins_with_hyphen line ≡ false
+        → AskFor (complete_asm_line name line) (assemble Complete line) }
     ensures line { (name digits : List ℕ) → begins_with_hyphen digits ≡ false
         → AskFor (line_line name digits) (spell digits) }
     ensures forms { (name : List ℕ) → AskFor (forms_line name) (forms None) }
@@ -32,9 +36,13 @@ pub fn usual_line_laws()
     ensures code { (name digits : List ℕ) → begins_with_hyphen digits ≡ false
         → AskFor (code_line name digits) (name_code digits) }
     ensures run { (name script : List ℕ) → IsScript script
-        → AskFor (run_line name script) (run script false None) }
+        → AskFor (run_line name script) (run script false Symmetric None) }
+    ensures complete_run { (name script : List ℕ) → begins_with_hyphen script ≡ false
+        → AskFor (complete_run_line name script) (run script false Complete None) }
+    ensures complete_image { (name image script : List ℕ) → begins_with_hyphen script ≡ false
+        → AskForNothing (complete_image_line name image script) }
     ensures trace { (name script : List ℕ) → IsScript script
-        → AskFor (trace_line name script) (run script true None) }
+        → AskFor (trace_line name script) (run script true Symmetric None) }
     ensures check { (name script : List ℕ) → IsScript script
         → AskFor (check_line name script) (check script) }
     ensures power { (name state : List ℕ) → begins_with_hyphen state ≡ false
@@ -55,9 +63,11 @@ pub fn usual_line_laws()
         → AskFor (replay_line name journal) (replay journal) }
     ensures kept { (name image entropy script : List ℕ) → IsScript script
         → AskFor (kept_line name image entropy script)
-        (run script true (Some (record { place = in_image image; entropy = Some entropy }))) }
+        (run script true Symmetric
+        (Some (record { place = in_image image; entropy = Some entropy }))) }
     ensures played { (name state : List ℕ) → AskFor (played_line name state)
-        (run (codes "-") false (Some (record { place = in_state state 0; entropy = None }))) }
+        (run (codes "-") false Symmetric
+        (Some (record { place = in_state state 0; entropy = None }))) }
     ensures serve { (name socket image entropy locality connections : List ℕ)
         → NoneBeginsWithHyphen (socket ∷ image ∷ entropy ∷ locality ∷ connections ∷ [])
         → AskForDevice (serve_line name socket image entropy locality connections) socket image

@@ -41,7 +41,7 @@ said_text said.IsNoJournal = codes "is no journal of a device"
 said_text said.HoldsNoImage = codes "holds an image that this program does not open"
 said_text said.HoldsNoState = codes "holds a state that this program does not open"
 said_text said.HoldsEarlierState =
-    codes "holds a state of an earlier version: take a snapshot with that version, and restore it with this one"
+    codes "holds a state text of version 1, which is no longer read: begin with a new device"
 said_text said.WasAnsweredOtherwise =
     codes "was written by a version that answers otherwise than this one, and stays as it is: power-cycle the device with that version, or drop its commands with tpmsim-power --cut"
 said_text (said.Keeper fault) = sentence fault

@@ -131,7 +131,7 @@ impl Said {
             Said::HoldsNoImage => "holds an image that this program does not open",
             Said::HoldsNoState => "holds a state that this program does not open",
             Said::HoldsEarlierState => {
-                "holds a state of an earlier version: take a snapshot with that version, and restore it with this one"
+                "holds a state text of version 1, which is no longer read: begin with a new device"
             }
             Said::WasAnsweredOtherwise => {
                 "was written by a version that answers otherwise than this one, and stays as it is: power-cycle the device with that version, or drop its commands with tpmsim-power --cut"

@@ -10,9 +10,7 @@
 ghost use Rattle.std.specs.Prelude.{◌≡◌, ◌≤◌, ◌+◌, ◌++◌, [], IfOk, OnErr, OnOk, false, length, true};
 ghost use Rattle.tpm_bytes.specs.Tap.{marks_of};
 ghost use Rattle.tpm_step.specs.step.Events.{plain_event};
-ghost use Rattle.tpm_image_text.specs.Image.{image_text};
-ghost use Rattle.tpm_image_text.specs.NonVolatile.{kept_of};
-ghost use Rattle.tpm_image_text.specs.declared.version.Version.TheVariants.{Two};
+ghost use Rattle.tpm_image_text.specs.Image.{device_image};
 ghost use Rattle.tpm_journal_text.specs.Head.{content_limit};
 ghost use Rattle.tpm_journal_text.specs.declared.head.HeadKind.TheVariants.{Image};
 ghost use Rattle.tpm_machine.specs.State.{state_of};
@@ -54,7 +52,7 @@ impl<W: Write + Drop> Log<W> {
     /// the device's image and the time `now_ms` of the host's clock, in milliseconds.
     pub fn begin<K: Keep>(writer: W, machine: &Machine<K>, now_ms: u64) -> Result<Log<W>, Unsaved>
         ensures begins { IfOk result (λ log. Begins now_ms
-            (image_text Two (kept_of (state_of K.record_of machine.now)))
+            (device_image (state_of K.record_of machine.now))
             (W.contents writer) (written_of W.contents log)) }
         ensures goes { IfOk result (λ log. log.failed ≡ false) }
     {
@@ -83,7 +81,7 @@ impl<W: Write + Drop> Log<W> {
 fn write_image<K: Keep>(machine: &Machine<K>, text: &mut Text) -> Sink<10>
     requires { text.old ≡ [] }
     ensures image { result ++ text.new
-        ≡ image_text Two (kept_of (state_of K.record_of machine.now)) }
+        ≡ device_image (state_of K.record_of machine.now) }
     ensures small { length result + length text.new ≤ content_limit Image }
 {
     image_laws();

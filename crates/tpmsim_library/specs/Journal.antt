@@ -2,9 +2,7 @@
 use Rattle.std.specs.Prelude.{◌≡◌, ◌==◌, ◌≤◌, ◌<◌, ℕ, Bool, false, if◌then◌else◌, List, length, take, Option, Some, None, Result, Ok, Err}
 use Rattle.tpm_journal.specs.Execution.{Seen}
 use Rattle.tpm_machine.specs.Follows.{After, Follows}
-use Rattle.tpm_image_text.specs.Image.{image_text}
-use Rattle.tpm_image_text.specs.NonVolatile.{kept_of}
-use Rattle.tpm_image_text.specs.declared.version.Version.TheVariants.{Two}
+use Rattle.tpm_image_text.specs.Image.{device_image}
 use Rattle.tpm_journal.specs.Checkpoint.{checkpointed_journal, state_beside}
 use Rattle.tpm_journal.specs.Command.{Command, Executed, command_at, elapsed_of, entry_of}
 use Rattle.tpm_journal.specs.Opening.{IsJournal, OpensJournal}
@@ -27,7 +25,7 @@ use Rattle.tpmsim_library.specs.declared.device.Device.{Device}
 
 -- the image of a device when power comes on
 abbrev pub image_at_power : Device → List ℕ
-image_at_power device = image_text Two (kept_of (after_cycle (record_of device)))
+image_at_power device = device_image (after_cycle (record_of device))
 
 -- The device was power-cycled, and its new journal starts at the time `now`.
 pub record BeginsJournal (before : Device) (now : ℕ) (after : Device) : Type 0 where

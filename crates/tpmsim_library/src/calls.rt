@@ -7,14 +7,13 @@ ghost use Rattle.std.specs.declared.option.Option.TheVariants.{None, Some};
 ghost use Rattle.std.specs.declared.result.Result.{Result};
 ghost use Rattle.tpm_machine.specs.Follows.{After, Follows};
 ghost use Rattle.tpm_machine.specs.History.{History, PowerCycled};
-ghost use Rattle.tpm_image_text.specs.Image.{IsImage, image_text};
+ghost use Rattle.tpm_image_text.specs.Image.{IsImage, device_image};
 ghost use Rattle.tpm_image_text.specs.KeptText.{kept_text};
 ghost use Rattle.tpm_image_text.specs.NonVolatile.{kept_of};
 ghost use Rattle.tpm_image_text.specs.Opening.{Opens};
 ghost use Rattle.tpm_image_text.specs.Saving.{PutsFront};
 ghost use Rattle.tpm_image_text.specs.declared.fault.ImageFault.{ImageFault as Fault};
 ghost use Rattle.tpm_image_text.specs.declared.version.Version.{Version};
-ghost use Rattle.tpm_image_text.specs.declared.version.Version.TheVariants.{Two};
 ghost use Rattle.tpm_machine.specs.Drawn.{drawn_by};
 ghost use Rattle.tpm_journal.specs.State.{journal_of};
 ghost use Rattle.tpm_record.specs.IsRecord.{IsRecord};
@@ -127,7 +126,7 @@ pub extern "C" fn tpmsim_power_cycle(alloc: Global, holder: &mut Holder) -> u8
 #[unsafe(no_mangle)]
 pub extern "C" fn tpmsim_save(alloc: Global, holder: &mut Holder, room: &mut [u8]) -> usize
     ensures saved { MatchOption holder.old.device ((result ≡ 0) × (room.new ≡ room.old))
-        (λ device. PutsFront (image_text Two (kept_of (record_of device))) room.old result
+        (λ device. PutsFront (device_image (record_of device)) room.old result
         room.new) }
     ensures kept { holder.new.device ≡ holder.old.device }
 {

@@ -4,13 +4,12 @@ ghost use Rattle.std.specs.Prelude.{◌≡◌, ◌≤◌, ◌∷◌, [], IfErr, 
 ghost use Rattle.std.specs.Prelude.{replicate, take, true};
 ghost use Rattle.tpm_machine.specs.Follows.{After, Follows};
 ghost use Rattle.tpm_machine.specs.History.{History, PowerCycled};
-ghost use Rattle.tpm_image_text.specs.Image.{IsImage, image_text};
+ghost use Rattle.tpm_image_text.specs.Image.{IsImage, device_image};
 ghost use Rattle.tpm_image_text.specs.KeptText.{kept_text};
 ghost use Rattle.tpm_image_text.specs.NonVolatile.{kept_of};
 ghost use Rattle.tpm_image_text.specs.Opening.{Opens};
 ghost use Rattle.tpm_image_text.specs.Saving.{PutsFront};
 ghost use Rattle.tpm_image_text.specs.declared.version.Version.{Version};
-ghost use Rattle.tpm_image_text.specs.declared.version.Version.TheVariants.{Two};
 ghost use Rattle.tpm_machine.specs.Drawn.{drawn_by};
 ghost use Rattle.tpm_record.specs.IsRecord.{IsRecord};
 ghost use Rattle.tpm_record.specs.Record.{Record, manufactured};
@@ -154,7 +153,7 @@ impl Device {
 
     /// Writes the image to the start of a buffer, if it fits. Returns the image's size.
     pub fn save_into(&mut self, room: &mut [u8]) -> usize
-        ensures put { PutsFront (image_text Two (kept_of (record_of self.old))) room.old result
+        ensures put { PutsFront (device_image (record_of self.old)) room.old result
             room.new }
         ensures kept { self.new ≡ self.old }
     {

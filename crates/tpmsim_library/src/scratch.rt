@@ -2,11 +2,9 @@
 //! buffer.
 
 ghost use Rattle.std.specs.Prelude.{◌≡◌, ◌≤◌, option_copied};
-ghost use Rattle.tpm_image_text.specs.Image.{image_text};
+ghost use Rattle.tpm_image_text.specs.Image.{device_image};
 ghost use Rattle.tpm_image_text.specs.KeptText.{kept_text};
-ghost use Rattle.tpm_image_text.specs.NonVolatile.{kept_of};
 ghost use Rattle.tpm_image_text.specs.Saving.{PutsFront};
-ghost use Rattle.tpm_image_text.specs.declared.version.Version.TheVariants.{Two};
 ghost use Rattle.tpm_record.specs.IsRecord.{IsRecord};
 ghost use Rattle.tpm_slots.specs.SlotRecord.{slot_record};
 ghost use Rattle.tpm_state_text.specs.Filling.{state_of};
@@ -42,7 +40,7 @@ impl Scratch {
     /// Writes the image of a machine to the start of a buffer, if it fits. Returns the size of the
     /// image.
     pub fn save_into(&mut self, machine: &Machine<SlotKeep>, buffer: &mut [u8]) -> usize
-        ensures { PutsFront (image_text Two (kept_of (slot_record machine.now.keep))) buffer.old
+        ensures { PutsFront (device_image (slot_record machine.now.keep)) buffer.old
             result buffer.new }
     {
         self.text.clear();

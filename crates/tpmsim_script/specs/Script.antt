@@ -8,10 +8,12 @@ use Rattle.std.specs.Io.KnownBytes.{Appends}
 use Rattle.std.specs.Result.{result_ok}
 use Rattle.hex.specs.Hex.{encode_lower}
 use Rattle.tpm_types_common.specs.Locality.{locality_number}
-use Rattle.tpm_record.specs.Record.{Record, manufactured}
+use Rattle.tpm_commands.specs.declared.profile.Profile.{Profile}
+use Rattle.tpm_commands.specs.declared.profile.Profile.TheVariants.{Symmetric}
+use Rattle.tpm_record.specs.Record.{Record, manufactured_as}
 use Rattle.tpm_step.specs.step.Events.{PlainEvent, Given, Cycled}
 use Rattle.tpm_step.specs.step.Step.{Stepped, step}
-use Rattle.tpm_text.specs.Line.{assembled_bytes}
+use Rattle.tpm_text.specs.Line.{assembled_for}
 use Rattle.tpm_text.specs.Trace.{trace_text}
 use Rattle.tpmsim_script.specs.Line.{Meaning, Executes, ExecutesWords, SetsLocality, Waits}
 use Rattle.tpmsim_script.specs.Line.{SetsEntropy, CyclesPower, DoesNothing}
@@ -42,9 +44,13 @@ script_playing traced script device = record {
 abbrev pub script_bytes : List ℕ
 script_bytes = range_with_len 0 256
 
--- the new device on which a script without an image is played
+-- the new device of a profile on which a script without an image is played
+abbrev pub new_device_as : Profile → Record
+new_device_as profile = manufactured_as profile script_bytes
+
+-- the new device of the symmetric profile
 abbrev pub new_device : Record
-new_device = manufactured script_bytes
+new_device = new_device_as Symmetric
 
 -- the start of a script on this device: locality 0, no elapsed time, and random bytes that are all
 -- 0
@@ -120,7 +126,8 @@ set_entropy p entropy =
 -- the effect of a line with this meaning; None if the line cannot be performed
 abbrev pub perform : Playing → Meaning → Option Effect
 perform p (Executes digits) = option_map (execute p) (bytes_of digits)
-perform p (ExecutesWords words) = option_map (execute p) (result_ok (assembled_bytes words))
+perform p (ExecutesWords words) =
+    option_map (execute p) (result_ok (assembled_for p.device.fixed.profile words))
 perform p (SetsLocality number) = Some (silence (record p { locality = number }))
 perform p (Waits milliseconds) = wait p milliseconds
 perform p (SetsEntropy digits) = option_and_then (set_entropy p) (bytes_of digits)

@@ -10,10 +10,11 @@ use crate::lines::LINE_LIMIT;
 use crate::room::Room;
 use crate::script::Script;
 use std::alloc::{AllocError, Global};
+use tpm_commands::Profile;
 use tpm_text::AsmFault;
 
-/// Checks the lines of a script, one after another. It remembers the values that the earlier lines
-/// set for the next command.
+/// Checks the lines of a script for a device of the symmetric profile, one after another. It remembers
+/// the values that the earlier lines set for the next command.
 #[derive(Drop)]
 pub struct Checker {
     script: Script,
@@ -85,7 +86,7 @@ impl Checker {
         ensures { Checks (check (waited_of self.old) (ExecutesWords words.now)) (waited_of self.old)
             result (waited_of self.new) }
     {
-        match self.room.assemble(words) {
+        match self.room.assemble(Profile::Symmetric, words) {
             Ok(buffer) => {
                 let _command = self.script.command(buffer);
                 Ok(())

@@ -42,5 +42,5 @@ pub use fault::RunFault;
 pub use laws::check_laws;
 pub use line::Line;
 pub use report::{Report, report_of};
-pub use run::{SCRIPT_LINES, first_bytes, new_machine, run_device, run_script};
+pub use run::{SCRIPT_LINES, first_bytes, new_machine, run_device, run_script, run_script_for};
 pub use script_fault::ScriptFault;

@@ -132,7 +132,10 @@ impl<K: Keep> Player<K> {
     {
         match line {
             Line::Command(digits) => self.execute(room.decode(digits)?, writer, saver)?,
-            Line::Words(words) => self.execute(room.assemble(words)?, writer, saver)?,
+            Line::Words(words) => {
+                let profile = self.machine.keep().fixed().profile;
+                self.execute(room.assemble(profile, words)?, writer, saver)?;
+            }
             Line::Locality(locality) => self.script.set_locality(locality),
             Line::Wait(milliseconds) => self.script.wait(milliseconds)?,
             Line::Entropy(digits) => self.script.set_entropy(room.decode(digits)?)?,

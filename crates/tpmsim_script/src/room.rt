@@ -4,12 +4,13 @@
 ghost use Rattle.std.specs.Prelude.{◌≡◌, ◌≤◌, length, vec_len};
 ghost use Rattle.std.specs.Result.{result_ok};
 ghost use Rattle.tpm_bytes.specs.Reading.{Gives};
-ghost use Rattle.tpm_text.specs.Line.{assembled_bytes};
+ghost use Rattle.tpm_text.specs.Line.{assembled_for};
 ghost use Rattle.tpmsim_script.specs.Line.{Tells, bytes_of};
 ghost use Rattle.tpmsim_script.specs.declared.room.TheConstants.{DECODED_LIMIT};
 
 use crate::line::{Unfit, decode};
 use std::alloc::{AllocError, Global};
+use tpm_commands::Profile;
 use tpm_text::{AsmFault, Draft, assemble_in};
 
 /// The maximum number of bytes that the hex of a line can encode.
@@ -42,11 +43,12 @@ impl Room {
         decode(digits, &mut self.decoded)
     }
 
-    /// Returns the command that the words encode, or their first fault from the left.
-    pub fn assemble(&mut self, words: &[u8]) -> Result<&[u8], AsmFault>
-        ensures value { Gives (λ bytes. bytes.now) (assembled_bytes words.now) result }
-        ensures told { Tells (λ bytes. bytes.now) result (result_ok (assembled_bytes words.now)) }
+    /// Returns the command of a profile that the words encode, or their first fault from the left.
+    pub fn assemble(&mut self, profile: Profile, words: &[u8]) -> Result<&[u8], AsmFault>
+        ensures value { Gives (λ bytes. bytes.now) (assembled_for profile words.now) result }
+        ensures told { Tells (λ bytes. bytes.now) result
+            (result_ok (assembled_for profile words.now)) }
     {
-        assemble_in(words, &mut self.draft)
+        assemble_in(profile, words, &mut self.draft)
     }
 }

@@ -13,7 +13,7 @@ ghost use Rattle.tpmsim_script.specs.Run.{AreTheirs, NextFound, OnNoMemory, OnTo
 ghost use Rattle.tpmsim_script.specs.Run.{OnUnwritten, PlaysAllAllowed, PlaysToFailure, Ran};
 ghost use Rattle.tpmsim_script.specs.Run.{UnlessFailed, end_at_limit, is_unsaved};
 ghost use Rattle.tpmsim_script.specs.ScriptFault.{AreScriptFaults, OnScriptNoMemory, RanScript, script_result};
-ghost use Rattle.tpmsim_script.specs.Script.{Plays, at_first, new_device, script_bytes};
+ghost use Rattle.tpmsim_script.specs.Script.{Plays, at_first, new_device, new_device_as, script_bytes};
 
 use crate::fault::RunFault;
 use crate::lines::{Lines, Next};
@@ -24,6 +24,7 @@ use std::alloc::{AllocError, Global};
 use std::array;
 use std::io::{Read, Write};
 use tpm_bytes::{NoMemory, Tap};
+use tpm_commands::Profile;
 use tpm_machine::Machine;
 use tpm_machine_saver::{Saver, SavesNothing};
 use tpm_record::Keep;
@@ -31,9 +32,7 @@ use tpm_record::Keep;
 /// The maximum number of lines that a script may have.
 pub const SCRIPT_LINES: u32 = 1_048_576;
 
-/// Like [`run_device`], but runs the script from `reader` on a new device, which is manufactured
-/// with the bytes 00 to ff and is not saved. A script with too many lines ends like one whose
-/// reader failed.
+/// Like [`run_script_for`], on a device of the symmetric profile.
 pub fn run_script<K: Keep, R: Read, W: Write>(
     alloc: Global,
     reader: &mut Tap<R>,
@@ -56,7 +55,36 @@ pub fn run_script<K: Keep, R: Read, W: Write>(
     ensures no_memory { OnScriptNoMemory result
         ((reader.new ≡ reader.old) × (writer.new ≡ writer.old)) }
 {
-    let machine: Machine<K> = new_machine(alloc)?;
+    run_script_for::<K, R, W>(alloc, Profile::Symmetric, reader, writer, trace)
+}
+
+/// Like [`run_device`], but runs the script from `reader` on a new device of this profile, which is
+/// manufactured with the bytes 00 to ff and is not saved. A script with too many lines ends like one
+/// whose reader failed.
+pub fn run_script_for<K: Keep, R: Read, W: Write>(
+    alloc: Global,
+    profile: Profile,
+    reader: &mut Tap<R>,
+    writer: &mut Tap<W>,
+    trace: bool,
+) -> Result<(), ScriptFault>
+    ensures played { K.can_refuse ≡ false → RanScript (Plays (R.remaining (device_of reader.old))
+        (W.contents (device_of writer.old)) (W.contents (device_of writer.new))
+        (at_first trace (new_device_as profile)) 1) result }
+    // If allocations never fail, the lines that the reader returned before it failed were played,
+    // or as many lines as a script may have.
+    ensures failed { AreScriptFaults result (marks_of reader.new) (marks_of writer.new)
+        (K.can_refuse ≡ false → PlaysToFailure
+        (R.remaining (device_of reader.old)) (R.remaining (device_of reader.new))
+        (W.contents (device_of writer.old)) (W.contents (device_of writer.new))
+        (at_first trace (new_device_as profile)))
+        (K.can_refuse ≡ false → PlaysAllAllowed (R.remaining (device_of reader.old))
+        (W.contents (device_of writer.old)) (W.contents (device_of writer.new))
+        (at_first trace (new_device_as profile))) }
+    ensures no_memory { OnScriptNoMemory result
+        ((reader.new ≡ reader.old) × (writer.new ≡ writer.old)) }
+{
+    let machine: Machine<K> = new_machine(alloc, profile)?;
     script_result(run_device(alloc, machine, &mut SavesNothing, reader, writer, trace))
 }
 
@@ -73,12 +101,12 @@ fn script_result(ended: Result<(), RunFault>) -> Result<(), ScriptFault>
     }
 }
 
-/// A new device for scripts, manufactured with the bytes 00 to ff.
-pub fn new_machine<K: Keep>(alloc: Global) -> Result<Machine<K>, NoMemory>
+/// A new device of this profile for scripts, manufactured with the bytes 00 to ff.
+pub fn new_machine<K: Keep>(alloc: Global, profile: Profile) -> Result<Machine<K>, NoMemory>
     ensures refused { OnErr result (K.empty_can_refuse ≡ true) }
-    ensures state { IfOk result (λ machine. state_of K.record_of machine ≡ new_device) }
+    ensures state { IfOk result (λ machine. state_of K.record_of machine ≡ new_device_as profile) }
 {
-    Machine::manufacture(alloc, &first_bytes())
+    Machine::manufacture_as(alloc, profile, &first_bytes())
 }
 
 /// The bytes 00 to ff, with which a new device for scripts is manufactured.

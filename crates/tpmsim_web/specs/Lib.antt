@@ -6,3 +6,4 @@ pub mod Place
 pub mod Reading
 pub mod Restoring
 pub mod Version
+pub mod Words

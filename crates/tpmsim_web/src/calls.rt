@@ -6,14 +6,13 @@ ghost use Rattle.std.specs.Option.{MatchOption};
 ghost use Rattle.std.specs.declared.option.Option.TheVariants.{None, Some};
 ghost use Rattle.std.specs.declared.result.Result.{Result};
 ghost use Rattle.tpm_journal.specs.State.{journal_of};
-ghost use Rattle.tpm_image_text.specs.Image.{IsImage, image_text};
+ghost use Rattle.tpm_image_text.specs.Image.{IsImage, device_image};
 ghost use Rattle.tpm_image_text.specs.KeptText.{kept_text};
 ghost use Rattle.tpm_image_text.specs.NonVolatile.{kept_of};
 ghost use Rattle.tpm_image_text.specs.Opening.{Opens};
 ghost use Rattle.tpm_image_text.specs.Saving.{PutsFront};
 ghost use Rattle.tpm_image_text.specs.declared.fault.ImageFault.{ImageFault as Fault};
 ghost use Rattle.tpm_image_text.specs.declared.version.Version.{Version};
-ghost use Rattle.tpm_image_text.specs.declared.version.Version.TheVariants.{Two};
 ghost use Rattle.tpm_machine.specs.Drawn.{drawn_by};
 ghost use Rattle.tpm_machine.specs.Follows.{After, Follows};
 ghost use Rattle.tpm_machine.specs.History.{History, PowerCycled};
@@ -140,7 +139,7 @@ pub extern "C" fn device_cycle_power(holder: &mut Holder) -> u8
 #[unsafe(no_mangle)]
 pub extern "C" fn device_save(holder: &mut Holder, buffer: &mut [u8]) -> usize
     ensures saved { MatchOption holder.old.device ((result ≡ 0) × (buffer.new ≡ buffer.old))
-        (λ device. PutsFront (image_text Two (kept_of (record_of device))) buffer.old result
+        (λ device. PutsFront (device_image (record_of device)) buffer.old result
         buffer.new) }
     ensures kept { holder.new.device ≡ holder.old.device }
 {

@@ -5,13 +5,12 @@ ghost use Rattle.std.specs.Prelude.{take, true};
 ghost use Rattle.tpm_journal.specs.State.{journal_of};
 ghost use Rattle.tpm_completion.specs.Completion.{forgotten};
 ghost use Rattle.tpm_completion.specs.Execution.{CompletesIf};
-ghost use Rattle.tpm_image_text.specs.Image.{IsImage, image_text};
+ghost use Rattle.tpm_image_text.specs.Image.{IsImage, device_image};
 ghost use Rattle.tpm_image_text.specs.KeptText.{kept_text};
 ghost use Rattle.tpm_image_text.specs.NonVolatile.{kept_of};
 ghost use Rattle.tpm_image_text.specs.Opening.{Opens};
 ghost use Rattle.tpm_image_text.specs.Saving.{PutsFront};
 ghost use Rattle.tpm_image_text.specs.declared.version.Version.{Version};
-ghost use Rattle.tpm_image_text.specs.declared.version.Version.TheVariants.{Two};
 ghost use Rattle.tpm_machine.specs.Drawn.{drawn_by};
 ghost use Rattle.tpm_machine.specs.Follows.{After, Follows};
 ghost use Rattle.tpm_machine.specs.History.{History, PowerCycled};
@@ -145,7 +144,7 @@ impl Device {
 
     /// Writes the image to the start of a buffer, if it fits. Returns the image's size.
     pub fn save_into(&self, buffer: &mut [u8]) -> usize
-        ensures { PutsFront (image_text Two (kept_of (record_of self.now))) buffer.old result
+        ensures { PutsFront (device_image (record_of self.now)) buffer.old result
             buffer.new }
     {
         save_into(&self.machine, buffer)

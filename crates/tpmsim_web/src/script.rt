@@ -12,6 +12,7 @@ ghost use Rattle.tpmsim_web.specs.Reading.{IsGood, ReadsLine, ReadsMeaning, Tell
 use crate::read_line::{ENTROPY, HEX, LOCALITY, NOTHING, POWER, ReadLine, WAIT, WORDS};
 use crate::wanted::wanted_text;
 use std::mem;
+use tpm_commands::Profile;
 use tpm_text::{AsmFault, Draft, assemble_in};
 use tpmsim_script::line::{misplaced, too_large};
 use tpmsim_script::lines::LINE_LIMIT;
@@ -118,7 +119,7 @@ fn assemble(words: &[u8], written: &mut [u8; 32768]) -> Result<usize, BadLine>
         × (bad.wanted ≡ Wanted.Command)) }
 {
     let mut draft = Draft::new();
-    match assemble_in(words, &mut draft) {
+    match assemble_in(Profile::Symmetric, words, &mut draft) {
         Ok(bytes) => {
             let (front, _) = written.split_at_mut(bytes.len());
             front.copy_from_slice(bytes);

@@ -4,7 +4,7 @@
 ghost use Rattle.std.specs.Prelude.{◌≡◌, ◌≢◌, ℕ, Err, List, Ok, take};
 ghost use Rattle.std.specs.Option.{MatchOption, option_or};
 ghost use Rattle.std.specs.Prelude.{option_map, unwrap_or};
-ghost use Rattle.tpm_commands.specs.CommandCode.{code_called, code_named, code_number};
+ghost use Rattle.tpm_commands.specs.CommandCode.{code_called, code_number};
 ghost use Rattle.tpm_help.specs.Form.{form_of};
 ghost use Rattle.tpm_help.specs.ResponseCode.{told_of};
 ghost use Rattle.tpm_help.specs.Wanted.{word_at};
@@ -13,11 +13,12 @@ ghost use Rattle.tpm_text.specs.Line.{assembled_bytes};
 ghost use Rattle.tpm_text.specs.declared.fault.AsmFault.{AsmFault as Fault};
 ghost use Rattle.tpmsim_web.specs.Place.{place_number};
 ghost use Rattle.tpmsim_web.specs.Reading.{TellsFault};
+ghost use Rattle.tpmsim_web.specs.Words.{symmetric_named};
 
 use crate::front::put_front;
 use crate::read_line::{ReadLine, WORDS};
 use arrayvec::ArrayString;
-use tpm_commands::CommandCode;
+use tpm_commands::{CommandCode, Profile};
 use tpm_help::{example_of, form_text, meaning_of, word_at};
 use tpm_line::{LINE_LIMIT, write_line};
 use tpm_text::{Draft, assemble_in};
@@ -40,7 +41,7 @@ pub extern "C" fn line_assemble(
         × (command.new ≡ command.old) }
 {
     let mut draft = Draft::new();
-    match assemble_in(words, &mut draft) {
+    match assemble_in(Profile::Symmetric, words, &mut draft) {
         Ok(bytes) => {
             let (front, _) = command.split_at_mut(bytes.len());
             front.copy_from_slice(bytes);
@@ -78,29 +79,42 @@ pub extern "C" fn command_number(name: &[u8]) -> u32
     }
 }
 
-/// Writes the syntax of the command with this code, in words, to the start of a buffer, if it fits.
-/// Returns the size of the syntax, even if it does not fit, or 0 if there is no such command.
+/// Returns the command of the symmetric profile with this code.
+fn symmetric_named(number: u32) -> Option<CommandCode>
+    ensures { result ≡ symmetric_named number }
+{
+    let code = CommandCode::named(number)?;
+    if Profile::Symmetric.serves(code) {
+        Some(code)
+    } else {
+        None
+    }
+}
+
+/// Writes the syntax of the command of the symmetric profile with this code, in words, to the start
+/// of a buffer, if it fits. Returns the size of the syntax, even if it does not fit, or 0 if there is
+/// no such command.
 #[unsafe(no_mangle)]
 pub extern "C" fn command_form(number: u32, form: &mut [u8; 256]) -> usize
-    ensures { MatchOption (code_named number) ((result ≡ 0) × (form.new ≡ form.old))
+    ensures { MatchOption (symmetric_named number) ((result ≡ 0) × (form.new ≡ form.old))
         (λ code. PutsFront (form_of code) form.old result form.new) }
 {
-    match CommandCode::named(number) {
+    match symmetric_named(number) {
         Some(code) => put_front(form_text(code).as_str().as_bytes(), form),
         None => 0,
     }
 }
 
-/// Writes an example for the command with this code (the words after the command's name) to the
-/// start of a buffer, if it fits. Returns the size of the example, even if it does not fit, or 0 if
-/// there is no such command.
+/// Writes an example for the command of the symmetric profile with this code (the words after the
+/// command's name) to the start of a buffer, if it fits. Returns the size of the example, even if it
+/// does not fit, or 0 if there is no such command.
 #[unsafe(no_mangle)]
 pub extern "C" fn command_example(number: u32, example: &mut [u8; 256]) -> usize
-    ensures { MatchOption (code_named number)
+    ensures { MatchOption (symmetric_named number)
         ((result ≡ 0) × (example.new ≡ example.old))
         (λ code. (text : List ℕ) × PutsFront text example.old result example.new) }
 {
-    match CommandCode::named(number) {
+    match symmetric_named(number) {
         Some(code) => put_front(example_of(code).as_bytes(), example),
         None => 0,
     }

@@ -1,5 +1,9 @@
 /* The results of the calls in any.h. */
 #include "any.h"
+#include <getopt.h>
+#include <signal.h>
+#include <sys/epoll.h>
+#include <sys/resource.h>
 #undef snprintf
 
 char formatted[64], some_device, some_keeper;
@@ -47,41 +51,16 @@ int ftruncate(int file, off_t size) { return is_done(); }
 int fchmod(int file, mode_t mode) { return is_done(); }
 int close(int file) { return is_done(); }
 
-int open(const char *path, int flags, ...) {
-    reads_text(path);
-    return file_or_failure();
-}
-
-int openat(int folder, const char *path, int flags, ...) {
-    reads_text(path);
-    return file_or_failure();
-}
-
-static int done_at(const char *path) {
-    reads_text(path);
-    return is_done();
-}
-
-int mkdir(const char *path, mode_t mode) { return done_at(path); }
-int unlink(const char *path) { return done_at(path); }
-int unlinkat(int folder, const char *path, int flags) { return done_at(path); }
-int fchmodat(int folder, const char *path, mode_t mode, int flags) { return done_at(path); }
+int open(const char *path, int flags, ...) { return file_or_failure(); }
+int openat(int folder, const char *path, int flags, ...) { return file_or_failure(); }
+int mkdir(const char *path, mode_t mode) { return is_done(); }
+int unlink(const char *path) { return is_done(); }
+int unlinkat(int folder, const char *path, int flags) { return is_done(); }
+int fchmodat(int folder, const char *path, mode_t mode, int flags) { return is_done(); }
 long syscall(long number, ...) { return is_done(); }
-
-int rename(const char *path, const char *name) {
-    reads_text(name);
-    return done_at(path);
-}
-
-int renameat(int folder, const char *path, int into, const char *name) {
-    reads_text(name);
-    return done_at(path);
-}
-
-int linkat(int folder, const char *path, int into, const char *name, int flags) {
-    reads_text(name);
-    return done_at(path);
-}
+int rename(const char *path, const char *name) { return is_done(); }
+int renameat(int folder, const char *path, int into, const char *name) { return is_done(); }
+int linkat(int folder, const char *path, int into, const char *name, int flags) { return is_done(); }
 
 int fstat(int file, struct stat *status) {
     if (MAY) return fails();
@@ -90,12 +69,8 @@ int fstat(int file, struct stat *status) {
     return 0;
 }
 
-int fstatat(int folder, const char *path, struct stat *status, int flags) {
-    reads_text(path);
-    return fstat(folder, status);
-}
-
-int lstat(const char *path, struct stat *status) { return fstatat(0, path, status, 0); }
+int fstatat(int folder, const char *path, struct stat *status, int flags) { return fstat(folder, status); }
+int lstat(const char *path, struct stat *status) { return fstat(0, status); }
 
 int clock_gettime(clockid_t clock, struct timespec *now) {
     if (MAY) return fails();
@@ -135,6 +110,9 @@ char *strerror(int number) {
     return sentence;
 }
 
+static char program_name[256] = "a";
+char *program_invocation_short_name = program_name;
+
 char *getenv(const char *name) {
     reads_text(name);
     if (MAY) return NULL;
@@ -163,6 +141,99 @@ char *strndup(const char *text, size_t most) {
 int setsockopt(int socket, int level, int name, const void *value, socklen_t size) { return is_done(); }
 ssize_t recv(int socket, void *bytes, size_t size, int flags) { return moved_into(bytes, size); }
 ssize_t send(int socket, const void *bytes, size_t size, int flags) { return moved(size); }
+
+int any_socket(int family, int type, int protocol) { return file_or_failure(); }
+int any_bind(int socket, const struct sockaddr *address, socklen_t size) { return is_done(); }
+int any_listen(int socket, int most) { return is_done(); }
+int any_accept(int socket, struct sockaddr *address, socklen_t *size, int flags) { return file_or_failure(); }
+
+/* A name may be longer than the buffer. Then the size is that of the name. */
+int any_getsockname(int socket, struct sockaddr *address, socklen_t *size) {
+    if (MAY) return fails();
+    any_bytes(address, *size);
+    *size = (socklen_t)ANY(0, 128);
+    return 0;
+}
+
+int any_inet_pton(int family, const char *text, void *address) {
+    if (MAY) return 0;
+    any_bytes(address, family == AF_INET ? 4 : 16);
+    return 1;
+}
+
+const char *any_inet_ntop(int family, const void *address, char *text, socklen_t size) {
+    if (MAY) return NULL;
+    any_text(text, size);
+    return text;
+}
+
+/* The only open stream, whose text is allocated when it is closed. */
+static char **stream_text;
+static FILE stream;
+
+FILE *any_open_memstream(char **text, size_t *size) {
+    if (MAY) return NULL;
+    stream_text = text;
+    return &stream;
+}
+
+int any_fclose(FILE *closed) {
+    *stream_text = malloc(64);
+    if (!*stream_text) return -1;
+    any_text(*stream_text, 64);
+    return MAY ? 0 : -1;
+}
+
+int getrlimit(int resource, struct rlimit *most) {
+    if (MAY) return fails();
+    any_bytes(most, sizeof *most);
+    return 0;
+}
+
+char *any_optarg;
+int any_optind = 1;
+static char option_word[64];
+enum { OPTIONS_MOST = 16 };
+
+/* Any of the options, with its word if it needs one; no option, or one that is not in the list. */
+int any_getopt_long(int count, char *const words[], const char *letters, const struct option *options, int *found) {
+    any_optind = ANY(1, count);
+    any_optarg = NULL;
+    for (int i = 0; i < OPTIONS_MOST && options[i].name; i++) {
+        if (MAY) continue;
+        any_text(option_word, sizeof option_word);
+        if (options[i].has_arg == required_argument) any_optarg = option_word;
+        return options[i].val;
+    }
+    return MAY ? -1 : '?';
+}
+
+int sigprocmask(int how, const sigset_t *set, sigset_t *before) {
+    if (MAY) return fails();
+    any_bytes(before, sizeof *before);
+    return 0;
+}
+
+int sigaction(int number, const struct sigaction *action, struct sigaction *before) { return is_done(); }
+
+/* What was given with a socket that is watched. A socket is no longer watched after it is closed. */
+enum { SOCKETS = 3 };
+static void *watched[SOCKETS];
+
+int epoll_create1(int flags) { return file_or_failure(); }
+
+int epoll_ctl(int epoll, int how, int socket, struct epoll_event *event) {
+    if (MAY) return fails();
+    watched[ANY(0, SOCKETS - 1)] = event->data.ptr;
+    return 0;
+}
+
+int epoll_pwait(int epoll, struct epoll_event *events, int most, int milliseconds, const sigset_t *mask) {
+    if (MAY) return fails();
+    int found = ANY(0, most);
+    for (int i = 0; i < found; i++) events[i].data.ptr = watched[ANY(0, SOCKETS - 1)];
+    return found;
+}
 
 /* ---- the library */
 
@@ -245,9 +316,7 @@ uint8_t tpmsim_restore(tpmsim *device, const uint8_t *text, size_t size) {
     return size < 42 ? TPMSIM_STATE_SHORT : opened(device);
 }
 
-/* The shortest head of a journal has more than 77 bytes. */
 uint8_t tpmsim_journal_open(tpmsim *device, const uint8_t *text, size_t size, size_t *taken) {
-    if (size < 77) return TPMSIM_NO_JOURNAL;
     *taken = Frama_C_size_t_interval(0, size);
     return opened(device);
 }
@@ -298,6 +367,17 @@ size_t tpmsim_keeper_text(tpmsim_keeper *keeper, uint8_t *buffer, size_t size) {
 uint8_t tpmsim_keeper_answer(tpmsim_keeper *keeper, uint8_t response[4096], tpmsim_answered *answered) {
     answer(response, answered);
     return TPMSIM_DONE;
+}
+
+uint8_t tpmsim_keeper_restore(tpmsim_keeper *keeper, uint64_t now_ms, uint64_t start, const uint8_t *state,
+                              size_t size) {
+    return begun(keeper);
+}
+
+size_t tpmsim_keeper_state(tpmsim_keeper *keeper, uint8_t *buffer, size_t size) {
+    size_t written = Frama_C_size_t_interval(42, TPMSIM_STATE_SIZE);
+    if (written <= size) any_bytes(buffer, written);
+    return written;
 }
 
 void tpmsim_keeper_next(tpmsim_keeper *keeper, uint8_t got, uint64_t file, uint64_t file_size, const uint8_t *bytes,

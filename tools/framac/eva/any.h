@@ -31,6 +31,12 @@
 #ifndef O_DIRECTORY
 #define O_DIRECTORY 0200000
 #endif
+#ifndef SOCK_CLOEXEC
+#define SOCK_CLOEXEC 02000000
+#endif
+#ifndef SOCK_NONBLOCK
+#define SOCK_NONBLOCK 04000
+#endif
 #ifndef CLOCK_BOOTTIME
 #define CLOCK_BOOTTIME 7
 #endif
@@ -57,23 +63,72 @@ extern char formatted[64];
 #define vsnprintf(text, size, format, words) any_text((text), (size))
 #define dprintf(file, ...) ((void)snprintf(formatted, sizeof formatted, __VA_ARGS__), ANY(-1, INT_MAX))
 #define fprintf(stream, ...) ((void)snprintf(formatted, sizeof formatted, __VA_ARGS__))
+#define printf(...) ((void)snprintf(formatted, sizeof formatted, __VA_ARGS__), ANY(-1, INT_MAX))
+#define fputs(text, stream) (reads_text(text), ANY(-1, INT_MAX))
+#define fflush(stream) ANY(-1, 0)
 
-/* Calls that Frama-C's own headers do not declare. */
-/*@ requires is_read((char *)bytes, size); requires place >= 0; */
-ssize_t pwrite(int file, const void *bytes, size_t size, off_t place);
-/*@ requires is_written((char *)bytes, size); requires place >= 0; */
-ssize_t pread(int file, void *bytes, size_t size, off_t place);
+/* Calls that Frama-C's own headers do not declare, or declare without a condition: then a second declaration would add
+ * none, so the call gets another name. */
+/*@ requires is_read((char *)bytes, size); */
+ssize_t any_pwrite(int file, const void *bytes, size_t size, off_t place);
+#define pwrite any_pwrite
 /*@ requires is_written((char *)bytes, size); */
-ssize_t getrandom(void *bytes, size_t size, unsigned flags);
+ssize_t any_pread(int file, void *bytes, size_t size, off_t place);
+#define pread any_pread
+/*@ requires is_written((char *)bytes, size); */
+ssize_t any_getrandom(void *bytes, size_t size, unsigned flags);
+#define getrandom any_getrandom
+/*@ requires valid_read_string(path); */
+int any_open(const char *path, int flags, ...);
+#define open any_open
+/*@ requires valid_read_string(path); */
+int any_openat(int folder, const char *path, int flags, ...);
+#define openat any_openat
+/*@ requires valid_read_string(path); */
+int any_mkdir(const char *path, mode_t mode);
+#define mkdir any_mkdir
+/*@ requires valid_read_string(path); */
+int any_unlink(const char *path);
+#define unlink any_unlink
+/*@ requires valid_read_string(path); */
+int any_unlinkat(int folder, const char *path, int flags);
+#define unlinkat any_unlinkat
+/*@ requires valid_read_string(path); */
+int any_fchmodat(int folder, const char *path, mode_t mode, int flags);
+#define fchmodat any_fchmodat
+/*@ requires valid_read_string(path) && valid_read_string(name); */
+int any_rename(const char *path, const char *name);
+#define rename any_rename
+/*@ requires valid_read_string(path) && valid_read_string(name); */
+int any_renameat(int folder, const char *path, int into, const char *name);
+#define renameat any_renameat
+/*@ requires valid_read_string(path) && valid_read_string(name); */
+int any_linkat(int folder, const char *path, int into, const char *name, int flags);
+#define linkat any_linkat
+/*@ requires \valid(status); */
+int any_fstat(int file, struct stat *status);
+#define fstat any_fstat
+/*@ requires valid_read_string(path) && \valid(status); */
+int any_fstatat(int folder, const char *path, struct stat *status, int flags);
+#define fstatat any_fstatat
+/*@ requires valid_read_string(path) && \valid(status); */
+int any_lstat(const char *path, struct stat *status);
+#define lstat any_lstat
+/*@ requires \valid(now); */
+int any_clock_gettime(clockid_t clock, struct timespec *now);
+#define clock_gettime any_clock_gettime
+/*@ requires valid_read_string(text); */
+char *any_strdup(const char *text);
+#define strdup any_strdup
+/*@ requires valid_read_string(text); */
+char *any_strndup(const char *text, size_t most);
+#define strndup any_strndup
+/*@ requires is_read((char *)value, size); */
+int any_setsockopt(int socket, int level, int name, const void *value, socklen_t size);
+#define setsockopt any_setsockopt
 int flock(int file, int operation);
 int fdatasync(int file);
 int syncfs(int file);
-int openat(int folder, const char *path, int flags, ...);
-int unlinkat(int folder, const char *path, int flags);
-int renameat(int folder, const char *path, int into, const char *name);
-int linkat(int folder, const char *path, int into, const char *name, int flags);
-int fstatat(int folder, const char *path, struct stat *status, int flags);
-int fchmodat(int folder, const char *path, mode_t mode, int flags);
 int madvise(void *page, size_t size, int advice);
 long syscall(long number, ...);
 const char *strerrordesc_np(int number);
@@ -86,6 +141,35 @@ ssize_t any_send(int socket, const void *bytes, size_t size, int flags);
 /*@ requires is_written((char *)bytes, size); */
 ssize_t any_recv(int socket, void *bytes, size_t size, int flags);
 #define recv any_recv
+int any_socket(int family, int type, int protocol);
+#define socket any_socket
+/*@ requires is_read((char *)address, size); */
+int any_bind(int socket, const struct sockaddr *address, socklen_t size);
+#define bind any_bind
+int any_listen(int socket, int most);
+#define listen any_listen
+/*@ requires \valid(size) && \initialized(size) && is_written((char *)address, *size); */
+int any_getsockname(int socket, struct sockaddr *address, socklen_t *size);
+#define getsockname any_getsockname
+int any_accept(int socket, struct sockaddr *address, socklen_t *size, int flags);
+#define accept4 any_accept
+/*@ requires valid_read_string(text); requires is_written((char *)address, family == AF_INET ? 4 : 16); */
+int any_inet_pton(int family, const char *text, void *address);
+#define inet_pton any_inet_pton
+/*@ requires is_read((char *)address, family == AF_INET ? 4 : 16) && is_written(text, size); */
+const char *any_inet_ntop(int family, const void *address, char *text, socklen_t size);
+#define inet_ntop any_inet_ntop
+FILE *any_open_memstream(char **text, size_t *size);
+#define open_memstream any_open_memstream
+int any_fclose(FILE *stream);
+#define fclose any_fclose
+struct option;
+int any_getopt_long(int count, char *const words[], const char *letters, const struct option *options, int *found);
+#define getopt_long any_getopt_long
+extern char *any_optarg;
+extern int any_optind;
+#define optarg any_optarg
+#define optind any_optind
 
 /* tpmsim.h: the conditions that the caller must meet. */
 extern char some_device, some_keeper;
@@ -146,6 +230,11 @@ uint8_t tpmsim_keeper_power(tpmsim_keeper *keeper, uint64_t now_ms, uint64_t sta
 /*@ requires is_keeper(keeper); requires is_text(content, size); */
 uint8_t tpmsim_keeper_seed(tpmsim_keeper *keeper, uint8_t seed, uint64_t now_ms, uint64_t start,
                            const uint8_t *content, size_t size);
+/*@ requires is_keeper(keeper); requires is_text(state, size); */
+uint8_t tpmsim_keeper_restore(tpmsim_keeper *keeper, uint64_t now_ms, uint64_t start, const uint8_t *state,
+                              size_t size);
+/*@ requires is_keeper(keeper); requires is_buffer(buffer, size); */
+size_t tpmsim_keeper_state(tpmsim_keeper *keeper, uint8_t *buffer, size_t size);
 /*@ requires is_keeper(keeper); requires \valid(ask); */
 void tpmsim_keeper_ask(tpmsim_keeper *keeper, tpmsim_ask *ask);
 /*@ requires is_keeper(keeper); requires is_buffer(buffer, size); */

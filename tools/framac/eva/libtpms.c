@@ -50,13 +50,39 @@ static void get_states(void) {
     free(got);
 }
 
+TPM_RESULT TPMLIB_SetProfile(const char *profile);
+
+/* What does not depend on the device's state. */
+static void get_facts(void) {
+    unsigned char *block = NULL;
+    size_t got;
+    uint32_t least, most;
+    int number;
+    free(TPMLIB_GetInfo((enum TPMLIB_InfoFlags)ANY(0, INT_MAX)));
+    TPMLIB_GetVersion();
+    TPMLIB_ChooseTPMVersion((TPMLIB_TPMVersion)ANY(0, 3));
+    TPMLIB_GetTPMProperty((enum TPMLIB_TPMProperty)ANY(0, 10), &number);
+    TPMLIB_SetBufferSize((uint32_t)ANY(0, INT_MAX), MAY ? NULL : &least, MAY ? NULL : &most);
+    TPMLIB_SetProfile(MAY ? NULL : "");
+    TPMLIB_DecodeBlob("", (enum TPMLIB_BlobType)ANY(0, 5), &block, &got);
+    if (TPM_Malloc(&block, (uint32_t)ANY(0, MOST)) != TPM_SUCCESS) return;
+    TPM_Realloc(&block, (uint32_t)ANY(0, MOST));
+    TPM_Free(block);
+}
+
+static void set_log(void) {
+    TPMLIB_SetDebugFD(ANY(-1, INT_MAX));
+    TPMLIB_SetDebugLevel((unsigned)ANY(0, INT_MAX));
+    TPMLIB_SetDebugPrefix(MAY ? NULL : "any");
+}
+
 int main(void) {
     unsigned char *response = NULL;
     uint32_t size = 0, room = 0;
     TPM_BOOL is;
     any_bytes(bytes, sizeof bytes);
     for (;;) {
-        switch (ANY(0, 12)) {
+        switch (ANY(0, 16)) {
         case 0: TPMLIB_MainInit(); break;
         case 1: TPMLIB_Process(&response, &size, &room, bytes, (uint32_t)ANY(0, MOST)); break;
         case 2: TPMLIB_Terminate(); break;
@@ -71,6 +97,10 @@ int main(void) {
         case 9: TPM_IO_TpmEstablished_Get(&is); break;
         case 10: TPM_IO_TpmEstablished_Reset(); break;
         case 11: TPMLIB_RegisterCallbacks(MAY ? NULL : MAY ? &few : &callbacks); break;
+        case 12: get_facts(); break;
+        case 13: set_log(); break;
+        case 14: TPMLIB_WasManufactured(); break;
+        case 15: TPMLIB_CancelCommand(); break;
         default: free(response); return 0;
         }
     }

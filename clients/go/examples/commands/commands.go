@@ -8,7 +8,7 @@ import (
 	"fmt"
 	"log"
 
-	"tpmsim"
+	"example.org/tpmsim"
 )
 
 // Handles, and the kinds of sessions.

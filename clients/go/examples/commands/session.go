@@ -9,7 +9,7 @@ import (
 	"errors"
 	"log"
 
-	"tpmsim"
+	"example.org/tpmsim"
 )
 
 // Attributes of a session: the device decrypts the first parameter of the command, or encrypts the

@@ -3,8 +3,8 @@
 package main
 
 import (
-	"tpmsim"
-	. "tpmsim/examples/commands"
+	"example.org/tpmsim"
+	. "example.org/tpmsim/examples/commands"
 )
 
 const (

@@ -9,8 +9,8 @@ import (
 	"fmt"
 	"log"
 
-	"tpmsim"
-	. "tpmsim/examples/commands"
+	"example.org/tpmsim"
+	. "example.org/tpmsim/examples/commands"
 )
 
 const (

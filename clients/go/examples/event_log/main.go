@@ -9,8 +9,8 @@ import (
 	"fmt"
 	"strings"
 
-	"tpmsim"
-	. "tpmsim/examples/commands"
+	"example.org/tpmsim"
+	. "example.org/tpmsim/examples/commands"
 )
 
 type measurement struct {

@@ -6,8 +6,8 @@ import (
 	"log"
 	"time"
 
-	"tpmsim"
-	. "tpmsim/examples/commands"
+	"example.org/tpmsim"
+	. "example.org/tpmsim/examples/commands"
 )
 
 // The attributes of an index that is written and read with its own authorization value.

@@ -8,8 +8,8 @@ import (
 	"fmt"
 	"log"
 
-	"tpmsim"
-	. "tpmsim/examples/commands"
+	"example.org/tpmsim"
+	. "example.org/tpmsim/examples/commands"
 )
 
 // The attributes of a counter that is written and read with its own authorization value or with the

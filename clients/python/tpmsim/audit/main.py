@@ -1,23 +1,24 @@
-"""Checks a device's log for reviewers: a script, and what was printed for it.
+"""Usage: tpmsim-audit SCRIPT [OUTPUT] [--image START] [--policy FILE]..
+  or:  tpmsim-audit --digest --policy FILE..
+Check whether the log of a device is consistent, and print what it shows.
 
-    tpmsim-audit SCRIPT [OUTPUT] [--image START] [--policy FILE]..
-    tpmsim-audit --digest --policy FILE..
+  SCRIPT         A script or a journal, or - for standard input
+  OUTPUT         What `tpmsim run --trace SCRIPT` printed; a journal needs none, since it has checksums
+                 of its answers
+  --image START  Start with the device of this image, after a power cycle, or of this state text
+                 [default: the one in the head of a journal, or a new device]
+  --policy FILE  Check this policy in words (docs/EXPLAIN.md) too; may be repeated
+  --digest       Only print the digests of the policies
+  --help         Print this help
 
-OUTPUT is what `tpmsim run --trace SCRIPT` printed; `-` is standard input. A journal contains
-checksums of its own answers, and needs no OUTPUT. The device was new, unless --image or the head of
-a journal provides an image or a state text: an image is opened as after a power cycle, and the
-device of a state text continues unchanged. Each --policy is a policy in words, as docs/EXPLAIN.md
-describes it. With --digest nothing is checked, and the digests of the policies are printed.
-
-It prints what the log shows: the PCRs, the policies, each use of an entity with the reason why it
-was accepted, the reasons for refusals that no entry caused, the counters, and the failed guesses.
-For each policy in words it prints which entities have it, and how each use of these entities
-satisfied it.
+Print the PCRs, the policies, each use of an entity with the reason why it was accepted, the reasons
+for refusals that no entry caused, the counters, and the failed guesses. For each policy in words,
+print which entities have it, and how each use of these entities satisfied it.
 
 The status is 0 if everything agrees. It is 1, with a line on standard error, if the log is cut, if
 no device with this start returns these responses, if the script has a bad line, if no entity has a
 given policy, or if a use does not satisfy its policy. It is 2 if the arguments, a file, a policy or
-the image is wrong. It needs only python3.
+the image is wrong.
 """
 
 import os
@@ -38,10 +39,7 @@ USAGE = (
 )
 HELP = (__doc__ or "").strip().replace("tpmsim-audit", NAME)
 
-AGREES = (
-    "At each event the answer is that of a device with this start, and the device is what its "
-    "history tells. A log that is consistent cannot be told from a true one."
-)
+AGREES = "All responses are those of the model. A consistent forgery would have them too."
 
 
 @dataclass

@@ -1,5 +1,6 @@
 """A caller of a device, which sends commands and learns from each response."""
 
+import contextlib
 import secrets
 from typing import Any, Callable, Protocol
 
@@ -11,6 +12,11 @@ from tpmsim.policies.policy_file import policy_of, Step, steps_of
 from tpmsim.standard import ALG_NULL, CC, given, nv, objects, policy, RH_NULL, RH_OWNER, SE_HMAC
 from tpmsim.standard import SE_POLICY, SE_TRIAL, SHA256, trimmed, XOR
 from tpmsim.standard.values import Cipher
+
+
+# The warnings YIELDED, TESTING and RETRY: the TPM has not executed the command, and may accept it if
+# it is sent again.
+AGAIN = 0x908, 0x90A, 0x922
 
 
 class Answered(Protocol):
@@ -85,10 +91,16 @@ class Caller(Calls, PreparedCommands):
     def policy(self, words: str, algorithm: int | str = SHA256, **choices: Any) -> Use:
         """Starts a policy session, executes the commands of a policy in words (docs/EXPLAIN.md) in
         it, and returns the session, ready for use in a command. Tries the branches of an `either`
-        in order until the device accepts one. Raises Refused if the device refuses them all.
+        in order until the device accepts one. If the device refuses them all, flushes the session
+        and raises Refused.
         """
         session = self.session(kind=SE_POLICY, algorithm=algorithm, **choices)
-        return self.tell(session, words)
+        try:
+            return self.tell(session, words)
+        except Refused:
+            with contextlib.suppress(Refused):  # the session may be gone
+                self.send(self.flush(session.handle))
+            raise
 
     def tell(self, session: Session, words: str) -> Use:
         """Executes the commands of a policy in words in a session, and returns a use of the
@@ -118,7 +130,7 @@ class Caller(Calls, PreparedCommands):
 
     def tell_branch(self, use: Use, step: Step) -> None:
         """Executes the first branch that the device accepts. If it accepts none, raises the refusal
-        of the last branch.
+        of the last branch. A warning that only asks for the same command again is raised at once.
         """
         refused: Refused | None = None
         for branch in step.branches:
@@ -128,6 +140,8 @@ class Caller(Calls, PreparedCommands):
                 self.send(self.told(CC.PolicyOR, use.session, step.parameters))
                 return
             except Refused as fault:
+                if fault.number in AGAIN:
+                    raise
                 refused, use.demand = fault, None
                 self.send(self.restart(use.session))
         assert refused is not None

@@ -10,7 +10,9 @@ from typing import Any, Callable, Sequence
 from tpmsim.caller import short_names
 from tpmsim.caller.entries import Means, Prepared, Response, Session
 from tpmsim.caller.knowledge import Knowledge
-from tpmsim.standard import CC, given, nv, objects, Short
+from tpmsim.standard import CC, given, NAMED, NUMBERED, nv, objects, Short
+from tpmsim.standard.command_names import NAMES
+from tpmsim.standard.commands import ALL_NUMBERED, close_name
 
 # The parameters whose bytes encode a structure: `response.outPublic` is the structure, and
 # `response["outPublic"]` its bytes.
@@ -51,13 +53,40 @@ def response_class(code: CC) -> type[Response]:
     return type(f"{code.name}Response", (Response,), {**facts, **handles, **values})
 
 
-RESPONSES = {code: response_class(code) for code in CC}
+RESPONSES = {code: response_class(code) for code in NUMBERED.values()}
 globals().update({it.__name__: it for it in RESPONSES.values()})
 
 
 def number_of(value: Any) -> Any:
     """Returns the handle of a session; returns any other value unchanged."""
     return value.handle if isinstance(value, Session) else value
+
+
+def missing(number: int) -> str:
+    """Returns why a command has no call."""
+    if number in ALL_NUMBERED:
+        return "only a device of the complete profile has this command; send its bytes with execute"
+    return "tpmsim has no such command"
+
+
+def named(name: str | CC) -> CC:
+    """Returns the command with this name; raises TypeError if there is none."""
+    if isinstance(name, CC):
+        return name
+    if name in NAMED:
+        return NAMED[name]
+    for number, other in NAMES.items():
+        if name == other:
+            raise TypeError(f"{name} ({number:X}): {missing(number)}")
+    close = close_name(str(name), NAMED)
+    hint = f"; did you mean {close}?" if close else ""
+    raise TypeError(f"{name} is not a command that the device serves{hint}")
+
+
+def form_of(code: CC) -> str:
+    """Returns the form of a call, such as NV_Read(authHandle, nvIndex, size=, offset=)."""
+    handles = [it.name for it in code.handles]
+    return f"{code.name}({', '.join([*handles, *(f'{it.name}=' for it in code.parameters)])})"
 
 
 class Commands(Knowledge):
@@ -90,12 +119,10 @@ class Commands(Knowledge):
         **arguments: Any,
     ) -> Prepared:
         """Prepares any command. The command and its parameters are named as in Part 3. Raises
-        TypeError if a handle or a parameter is missing, BadValue if one has a wrong value, and
-        KeyError if there is no such command.
+        TypeError if there is no such command, or if a handle or a parameter is missing, and BadValue
+        if one has a wrong value.
         """
-        if not isinstance(name, CC) and name not in CC.__members__:
-            raise KeyError(f"{name} is not a command that the device serves")
-        code = name if isinstance(name, CC) else CC[name]
+        code = named(name)
         return self.asked(code, those, uses, *given.in_order(code, arguments))
 
     def __getattr__(self, name: str) -> Callable[..., Prepared]:
@@ -128,3 +155,11 @@ class Calls(Commands):
         handles first. Wrong arguments raise the same exceptions as in `command`.
         """
         return self.send(self.command(name, *those, uses=uses, **arguments))
+
+
+# help(Caller.call) lists the commands.
+if Calls.call.__doc__:
+    FORMS = "".join(f"\n            {form_of(it)}" for it in NUMBERED.values())
+    Calls.call.__doc__ += (
+        f"\n        The commands, with their handles and parameters:\n{FORMS}\n        "
+    )

@@ -7,7 +7,8 @@ from functools import cached_property
 from typing import Any, Union
 
 from tpmsim.faults import TpmsimError
-from tpmsim.standard import ALG_NULL, CC, CONTINUE_SESSION, DECRYPT, ENCRYPT, Entry, frames, SE_HMAC
+from tpmsim.standard import ALG_NULL, CC, CONTINUE_SESSION, DECRYPT, ENCRYPT, Entry, frames
+from tpmsim.standard import SE_HMAC, Short
 from tpmsim.standard.frames import spelled_code
 from tpmsim.standard.objects import Public
 from tpmsim.standard.values import read_all
@@ -111,7 +112,14 @@ def wrong(prepared: Prepared, place: int = 1) -> Prepared:
     return prepared.but_entry(place, hmac=flipped(hmac) if hmac else b"\1")
 
 
-@dataclass(frozen=True)
+def shown(value: object) -> str:
+    """Returns a value as a response shows it: bytes in hex."""
+    if isinstance(value, list):
+        return f"[{', '.join(map(shown, value))}]"
+    return value.hex() or "empty" if isinstance(value, bytes) else repr(value)
+
+
+@dataclass(frozen=True, repr=False)
 class Response:
     """The successful response to a command. Its decrypted parameters are named as in Part 3, as in
     `response["randomBytes"]`; docs/table describes each one. A wrong name raises KeyError, which
@@ -127,6 +135,14 @@ class Response:
     def fields(self) -> dict[str, Any]:
         """All parameters by name."""
         return read_all(self.code.answered_parameters, self.parameters)
+
+    def __repr__(self) -> str:
+        handle = [] if self.handle is None else [f"handle={self.handle:08x}"]
+        try:
+            values = [f"{name}={shown(value)}" for name, value in self.fields.items()]
+        except (Short, ValueError):
+            values = [f"parameters={shown(self.parameters)}"]
+        return f"{self.code.name}Response({', '.join([*handle, *values])})"
 
     def __getitem__(self, name: str) -> Any:
         if name not in self.fields:

@@ -13,8 +13,8 @@ from tpmsim.caller.knowledge import CLEAR, NONCE_BYTES, STATE
 from tpmsim.caller.templates import area, bits, BY_OWNER, counter, extended, hmac_key, sealed
 from tpmsim.caller.templates import storage_key
 from tpmsim.device.base import Transport
-from tpmsim.standard import CC, nv, policy, RH_ENDORSEMENT, RH_OWNER, RH_PLATFORM, SE_POLICY
-from tpmsim.standard import SHA256, start_auth_session
+from tpmsim.standard import ALG_NULL, CC, KEYEDHASH, number, nv, policy, RH_ENDORSEMENT, RH_OWNER
+from tpmsim.standard import RH_PLATFORM, SE_POLICY, SHA256, sized, start_auth_session
 from tpmsim.standard.objects import Public
 
 INDEX, COUNTER, BITS, EXTENDED, LOCKABLE = range(0x0100_0001, 0x0100_0006)
@@ -107,6 +107,9 @@ class Scene:
 
 Example = Callable[[Scene], Prepared]
 
+# A time in milliseconds to which TPM2_ClockSet sets Clock.
+LATER = 1_000_000
+
 
 def unstarted(scene: Scene) -> Prepared:
     """TPM2_Startup, after a power cycle."""
@@ -124,6 +127,33 @@ def loading(scene: Scene) -> Prepared:
     """TPM2_Load of an object that TPM2_Create returned."""
     parent = scene.storage()
     return scene.tpm.loading(parent, scene.create(parent))
+
+
+def setting_clock(scene: Scene, milliseconds: int) -> Prepared:
+    """TPM2_ClockSet, by the owner."""
+    return scene.tpm.prepare(CC.ClockSet, [RH_OWNER], number(milliseconds, 8), b"")
+
+
+def adjusting_rate(scene: Scene, rate: int) -> Prepared:
+    """TPM2_ClockRateAdjust, by the owner."""
+    return scene.tpm.prepare(CC.ClockRateAdjust, [RH_OWNER], number(rate, 1), b"")
+
+
+def testing(scene: Scene, *algorithms: int) -> Prepared:
+    """TPM2_IncrementalSelfTest of these algorithms."""
+    listed = b"".join(number(it, 2) for it in algorithms)
+    return scene.tpm.prepare(CC.IncrementalSelfTest, [], number(len(algorithms), 4) + listed)
+
+
+def trying_parameters(scene: Scene) -> Prepared:
+    """TPM2_TestParms of a KEYEDHASH without a scheme."""
+    return scene.tpm.prepare(CC.TestParms, [], number(KEYEDHASH, 2) + number(ALG_NULL, 2))
+
+
+def hashing(scene: Scene) -> Prepared:
+    """TPM2_Hash with SHA-256, and a ticket of the owner's hierarchy."""
+    parameters = sized(b"data") + number(SHA256, 2) + number(RH_OWNER, 4)
+    return scene.tpm.prepare(CC.Hash, [], parameters)
 
 
 # One device can execute all examples in this order.
@@ -175,4 +205,15 @@ EXAMPLES: dict[CC, Example] = {
     CC.Clear: lambda it: it.tpm.clearing(RH_PLATFORM),
     CC.PolicyCpHash: lambda it: it.tpm.cp_hash_told(it.session(), bytes(32)),
     CC.PolicyNvWritten: lambda it: it.tpm.written_told(it.session(), 1),
+}
+
+# The commands that only a device of the complete profile serves.
+COMPLETE_EXAMPLES: dict[CC, Example] = {
+    CC.StirRandom: lambda it: it.tpm.prepare(CC.StirRandom, [], sized(b"data")),
+    CC.GetTestResult: lambda it: it.tpm.prepare(CC.GetTestResult, []),
+    CC.IncrementalSelfTest: lambda it: testing(it, SHA256),
+    CC.TestParms: trying_parameters,
+    CC.Hash: hashing,
+    CC.ClockSet: lambda it: setting_clock(it, LATER),
+    CC.ClockRateAdjust: lambda it: adjusting_rate(it, 1),
 }

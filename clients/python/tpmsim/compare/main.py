@@ -1,4 +1,4 @@
-"""tpmsim-compare SCRIPT.. --with TPM: plays each script on tpmsim and on another TPM, side by side.
+"""Play each script on tpmsim and on another TPM, and print where their responses differ.
 
 TPM is one of
     swtpm                                   the program, started again for each script

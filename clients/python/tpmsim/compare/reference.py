@@ -19,8 +19,8 @@ from tpmsim.model.object_rules import Object
 from tpmsim.model.policy_state import Session
 from tpmsim.model.protection import Lockout
 from tpmsim.records import goes_on, opened
-from tpmsim.standard import ALG_NULL, DECRYPT, ENCRYPT, Entry, Fields, frames, NUMBERED, SESSIONS
-from tpmsim.standard import sessions, Short
+from tpmsim.standard import ALG_NULL, DECRYPT, ENCRYPT, Entry, Fields, frames, NUMBERED, Profile
+from tpmsim.standard import sessions, SESSIONS, Short
 from tpmsim.standard.frames import NO_SESSIONS
 from tpmsim.standard.values import read_all
 
@@ -110,7 +110,9 @@ class Reference:
         begun = opened(step.content, step.start)
         found = begun.device
         text = image.image(found) if begun.is_state else step.content
-        if state_text.state_text(image.open_image(text)) != state_text.state_text(found):
+        if state_text.state_text(image.open_image(text, profiles=Profile)) != state_text.state_text(
+            found
+        ):
             return False
         is_used = found.objects or found.indices or found.saved or any(found.auth_values.values())
         if is_used or found.disable_clear or found.lockout != Lockout():

@@ -9,7 +9,8 @@ second or third entry of a command; form depends on the bytes alone. Leave out r
 counter of the TPM has to reach 2^64.
 
 LOG is any log that tpmsim-explain reads: a script, a journal of a device in a folder, a log of
-tpmsim serve, or the trace of a device in Python; - is standard input.
+tpmsim serve, or the trace of a device in Python; - is standard input. A folder stands for all
+journals of the device in it: journal, journal.1 and so on.
 
 Options:
       --only KIND   Count only the refusals of this kind: state, value, session or form
@@ -24,6 +25,7 @@ The exit status is 0; 1 by --least; 2 if an argument or a log is wrong.
 
 import argparse
 import pathlib
+import re
 import sys
 
 from tpmsim.coverage.met import Met
@@ -35,6 +37,9 @@ from tpmsim.refusals.arguments import Arguments
 from tpmsim.standard.rows import Kind
 
 NAME = "tpmsim-coverage"
+
+# The journals in the folder of a device (docs/SERVE.md).
+JOURNAL = re.compile(r"journal(\.[1-9]\d?)?")
 
 
 def arguments() -> Arguments:
@@ -49,12 +54,23 @@ def arguments() -> Arguments:
     return words
 
 
+def files_of(log: str) -> list[str]:
+    """Returns the journals in a folder, or the log itself; raises Usage if a folder has none."""
+    folder = pathlib.Path(log)
+    if not folder.is_dir():
+        return [log]
+    found = sorted(str(it) for it in folder.iterdir() if JOURNAL.fullmatch(it.name))
+    if not found:
+        raise Usage(f"{log} has no journal of a device")
+    return found
+
+
 def met_in(logs: list[str]) -> Met:
     """Counts logs; raises Usage if one cannot be read to its end."""
     if not logs:
         raise Usage("LOG is missing")
     met = Met()
-    for name in logs:
+    for name in [file for log in logs for file in files_of(log)]:
         if fault := met.add(read(name)):
             raise Usage(f"{name}: {fault}")
     return met

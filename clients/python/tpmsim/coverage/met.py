@@ -4,11 +4,12 @@ from __future__ import annotations
 
 import collections
 import functools
+import itertools
 from typing import Iterable
 
 from tpmsim.explain.play import Event, Play
 from tpmsim.model.machine import Outcome
-from tpmsim.standard import NUMBERED
+from tpmsim.standard import ALL_NUMBERED
 from tpmsim.standard.rows import AnyRow, every_row, Kind, Row, UNKNOWN
 
 
@@ -29,11 +30,13 @@ class Met:
         self.accepted = collections.Counter[str]()
         self.differing = 0
 
-    def add(self, log: bytes) -> str:
-        """Counts a log. Returns why it could not be read to its end, or an empty text."""
+    def add(self, log: bytes, done: int = 0) -> str:
+        """Counts a log without its first `done` commands and power cycles. Returns why it could not
+        be read to its end, or an empty text.
+        """
         play = Play()
         play.explains = lambda scene: False
-        for event in play.events(log):
+        for event in itertools.islice(play.events(log), done, None):
             if event.differences:
                 self.differing += 1
             else:
@@ -48,7 +51,7 @@ class Met:
 
     def count_row(self, outcome: Outcome) -> None:
         code = outcome.row.code
-        name = NUMBERED[code].name if code in NUMBERED else UNKNOWN
+        name = ALL_NUMBERED[code].name if code in ALL_NUMBERED else UNKNOWN
         if outcome.refused is None:
             self.accepted[name] += 1
             return

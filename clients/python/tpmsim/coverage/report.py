@@ -5,7 +5,7 @@ from typing import Iterable
 
 from tpmsim.coverage.met import Met
 from tpmsim.refusals.words import sentence_of
-from tpmsim.standard import CC
+from tpmsim.standard import ALL_NUMBERED, NAMED, Profile
 from tpmsim.standard.rows import AnyRow, Kind, UNKNOWN
 
 
@@ -16,7 +16,7 @@ def kinds_of(only: Kind | None) -> list[Kind]:
 
 def names_of(met: Met) -> list[str]:
     """Returns the names of the used commands, in the order of their description."""
-    return [UNKNOWN, *(it.name for it in CC if it.name in met.used)]
+    return [UNKNOWN, *(it.name for it in ALL_NUMBERED.values() if it.name in met.used)]
 
 
 def percent_of(met: Met, only: Kind | None) -> float:
@@ -57,7 +57,8 @@ def never_line(row: AnyRow) -> str:
 def summary(met: Met, only: Kind | None) -> list[str]:
     """Returns the line about all commands, and a line about commands that do not count."""
     shares = (f"{it.value} {cell(*met.share(met.could(it))) or '0/0'}" for it in kinds_of(only))
-    used = f"{len(met.used)} of {len(CC)} kinds of commands"
+    profile = Profile.SYMMETRIC if met.used <= NAMED.keys() else Profile.COMPLETE
+    used = f"{len(met.used)} of {len(profile.commands)} kinds of commands"
     found, count = met.share(met.could(only))
     lines = [
         f"{met.commands} commands, {used}; {found} of {count} refusals met "

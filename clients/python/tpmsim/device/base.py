@@ -6,7 +6,7 @@ from types import TracebackType
 from typing import Self, Sequence
 
 from tpmsim.faults import TpmsimError
-from tpmsim.standard import lines, NUMBERED
+from tpmsim.standard import ALL_NUMBERED, lines, Profile
 
 
 class Unsupported(TpmsimError):
@@ -59,7 +59,7 @@ class Executed:
         code = self.response[6:10].hex()
         if self.check is None:
             return code
-        name = NUMBERED[self.code].name if self.code else "?"
+        name = ALL_NUMBERED[self.code].name if self.code else "?"
         return f"{name} L{self.locality} +{self.elapsed} {self.check} {code}"
 
 
@@ -68,11 +68,11 @@ def line_in_bytes(buffer: bytes) -> str:
     return f"cmd {buffer.hex()}".rstrip()
 
 
-def line(buffer: bytes) -> str:
-    """Returns the script line that executes a buffer, in words if a line encodes exactly these
-    bytes. For the empty buffer the line ends in a space.
+def line(buffer: bytes, profile: Profile = Profile.SYMMETRIC) -> str:
+    """Returns the script line that executes a buffer, in words if a line with a command of the
+    profile encodes exactly these bytes. For the empty buffer the line ends in a space.
     """
-    words = lines.line_of(buffer)
+    words = lines.line_of(buffer, profile)
     return f"cmd {buffer.hex()}" if words is None else f"do {words}"
 
 
@@ -129,6 +129,11 @@ class Transport(ABC):
 
     def __init__(self) -> None:
         self.events: list[str | Executed] = []
+
+    def __repr__(self) -> str:
+        last = [lines_told(self.events[-1])[-1].removeprefix("# ")] if self.events else []
+        told = [type(self).__name__, f"events: {len(self.events)}", *(f"last: {it}" for it in last)]
+        return f"<{', '.join(told)}>"
 
     @property
     def trace(self) -> list[str]:

@@ -140,10 +140,10 @@ RESPONSE_BYTES = 4096
 TEXT_BYTES = 36_930
 
 # The results of a call (clients/c/tpmsim.h): NO_MEMORY, the faults of an image from 4 on, and those
-# of a state text from 13 on.
+# of a state text from 13 on, and for version 1 the last one.
 NO_MEMORY, FAULTS = 3, ("Short", "Magic", "Version", "Length", "Digest", "Body")
 IMAGE_FAULTS = dict(enumerate(FAULTS, 4))
-STATE_FAULTS = dict(enumerate(FAULTS, 13))
+STATE_FAULTS = {**dict(enumerate(FAULTS, 13)), 21: "Earlier"}
 
 CHECKS = {0: "ok", **{it: f"G{it}" for it in range(1, 12)}}
 CHECKS |= {20 + it: f"A{it}" for it in range(1, 8)}

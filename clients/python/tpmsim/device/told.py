@@ -16,6 +16,7 @@ from tpmsim.model.machine import MANUFACTURED, Model
 from tpmsim.model.state_text import Layer
 from tpmsim.refuse.finding import Event
 from tpmsim.refuse.pending import Pending
+from tpmsim.standard import Profile
 from tpmsim.standard.aes_tables import encrypt_block
 
 RANDOM_BYTES = 256
@@ -282,7 +283,7 @@ class ModelDevice(Device):
 
     def begin(self, image: bytes) -> None:
         try:
-            self.model, self.layer = images.open_image(image, encrypt_block), Layer()
+            self.model, self.layer = images.open_image(image, encrypt_block, Profile), Layer()
         except images.Fault as fault:
             raise BadImage(str(fault)) from None
 

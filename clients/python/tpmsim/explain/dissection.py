@@ -11,8 +11,8 @@ from tpmsim.explain import words
 from tpmsim.explain.words import algorithm_words, ATTRIBUTES, bit_words, command_words, handle_words
 from tpmsim.explain.words import kind_words, OPERATIONS, size_words
 from tpmsim.faults import TpmsimError
-from tpmsim.standard import CC, digest_bytes, frames, HASHES, Kind, NUMBERED, nv, objects, Parameter
-from tpmsim.standard import RS_PW
+from tpmsim.standard import ALL_NUMBERED, CC, digest_bytes, frames, HASHES, Kind, nv, objects
+from tpmsim.standard import Parameter, RS_PW
 
 # The part of the buffer that a field belongs to.
 HEADER, HANDLE, ENTRY, PARAMETER, REST = "header", "handle", "entry", "parameter", "rest"
@@ -122,7 +122,11 @@ def said_bytes(data: bytes) -> str:
 
 
 STARTS = {0: "CLEAR", 1: "STATE"}
-TICKETS = {frames.ST_CREATION: "of a creation", frames.ST_AUTH_SECRET: "of an assertion"}
+TICKETS = {
+    frames.ST_CREATION: "of a creation",
+    frames.ST_AUTH_SECRET: "of an assertion",
+    frames.ST_HASHCHECK: "of a digest",
+}
 
 # A function that reads the next parameter. The name of the parameter is passed to the function.
 Reader = Callable[[Walk, str], object]
@@ -182,10 +186,32 @@ def cipher(walk: Walk, name: str) -> None:
     walk.depth -= 1
 
 
+def algorithms(walk: Walk, name: str) -> None:
+    for at in walk.elements(name, "algorithm"):
+        walk.algorithm(f"{name} {at}")
+
+
+def rest(walk: Walk, name: str) -> None:
+    walk.take(walk.end - walk.at, name, said_bytes)
+
+
 def sensitive_create(walk: Walk, name: str) -> None:
     with walk.group(name, walk.peek(), 2):
         walk.buffer("userAuth")
         walk.buffer("data")
+
+
+def public_parameters(walk: Walk, name: str) -> None:
+    with walk.group(name):
+        of_kind(walk, walk.algorithm("type"))
+
+
+def of_kind(walk: Walk, kind: int) -> None:
+    """Reads the parameters of the public area of an object of this kind."""
+    if kind == frames.SYMCIPHER:
+        cipher(walk, "symmetric")
+    elif walk.algorithm("scheme") == frames.ALG_HMAC:
+        walk.algorithm("hashAlg")
 
 
 def public(walk: Walk, name: str) -> None:
@@ -194,10 +220,7 @@ def public(walk: Walk, name: str) -> None:
         walk.algorithm("nameAlg")
         walk.number(4, "objectAttributes", lambda it: words.flag_words(it, objects.Attribute))
         walk.buffer("authPolicy")
-        if kind == frames.SYMCIPHER:
-            cipher(walk, "symmetric")
-        elif walk.algorithm("scheme") == frames.ALG_HMAC:
-            walk.algorithm("hashAlg")
+        of_kind(walk, kind)
         walk.buffer("unique")
 
 
@@ -264,6 +287,9 @@ OF_KIND: dict[Kind, Reader] = {
     Kind.DIGESTS: digests,
     Kind.CIPHER: cipher,
     Kind.HASH: Walk.algorithm,
+    Kind.HIERARCHY: Walk.handle,
+    Kind.ALGORITHMS: algorithms,
+    Kind.BYTES: rest,
     Kind.TICKET: ticket,
     Kind.TIME: time,
     Kind.CAPABILITY: capability,
@@ -282,6 +308,7 @@ NAMED: dict[str, Reader] = {
     **dict.fromkeys(("publicInfo", "nvPublic"), nv_public),
     **dict.fromkeys(("inPrivate", "outPrivate"), private),
     "creationData": creation_data,
+    "parameters": public_parameters,
     **dict.fromkeys(("newRecoveryTime", "lockoutRecovery"), number(4, lambda it: f"{it:,} s")),
 }
 
@@ -299,7 +326,7 @@ def fields_of_command(buffer: bytes, plain: bytes | None = None) -> list[Field]:
 
 def fields_of_response(number: int, response: bytes, plain: bytes | None = None) -> list[Field]:
     """Returns the fields of the response to the command with this number."""
-    return fields_of(response, lambda walk: answer(walk, NUMBERED.get(number), plain))
+    return fields_of(response, lambda walk: answer(walk, ALL_NUMBERED.get(number), plain))
 
 
 def fields_of(data: bytes, read: Callable[[Walk], None]) -> list[Field]:
@@ -319,7 +346,7 @@ def header(walk: Walk, of: str, meaning: Callable[[int], str]) -> tuple[int, int
 
 def command(walk: Walk, plain: bytes | None) -> None:
     tag, number = header(walk, "command", command_words)
-    code = NUMBERED.get(number)
+    code = ALL_NUMBERED.get(number)
     if code is None:
         return
     walk.sort = HANDLE

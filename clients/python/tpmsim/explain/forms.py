@@ -74,6 +74,18 @@ ALONE = (
 )
 
 
+def padded(size: int) -> Form:
+    words = f"padded with blanks to {size}"
+    return Form(words, f"{words} bytes", lambda it: it.ljust(size) if b" " not in it else b"")
+
+
+# Forms with blanks after the value, as in a field of fixed size, which are not combined either.
+PADDED = (
+    *map(padded, (8, 16, 20, 32)),
+    Form("without its blanks", "without the blanks after it", lambda it: it.rstrip(b" ")),
+)
+
+
 def of_digest(turn: Callable[[bytes], bytes]) -> Callable[[bytes], bytes]:
     """Returns a form that applies only to Names that contain a digest, and not to Names that are
     handles.
@@ -117,7 +129,7 @@ def forms_of(value: bytes) -> Iterator[Formed]:
 
     inner = [it for form in NESTED for it in fresh((), form, form.turn(value))]
     yield from inner
-    for form in (*CUTS, *ALONE):
+    for form in (*CUTS, *ALONE, *PADDED):
         yield from fresh((), form, form.turn(value))
     for it in inner:
         for form in (*NESTED, *CUTS):

@@ -39,7 +39,7 @@ def of_log(name: str, play: Play, log: bytes, counts: Counts) -> str:
             first = event.line
     value = {
         "name": shown,
-        "summary": " ".join([counts.words(), *ends_words(play)]),
+        "summary": " ".join([*play.remarks, counts.words(), *ends_words(play)]),
         "script": log.decode("utf-8", "replace").rstrip("\0"),
         "line": first or 1,
         "start": (play.given or b"").hex(),

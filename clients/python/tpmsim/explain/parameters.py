@@ -74,7 +74,7 @@ def rule_of(scene: Scene, field: Field | None) -> str:
         return "structure/SIZE"
     name = field.name if field else ""
     family = "nvPublic" if scene.code == CC.NV_DefineSpace else "public"
-    is_public = scene.place == 2 and scene.code in PUBLIC_SECOND
+    is_public = scene.code == CC.TestParms or scene.place == 2 and scene.code in PUBLIC_SECOND
     of_public = [f"{family}/{it}" for it in (name, IN_PARAMETERS.get(name, ""))]
     keys = [*(of_public if is_public else []), f"{scene.code.name}/parameters"]
     return next((it for it in keys if it in RULES), "buffer/SIZE")

@@ -136,6 +136,19 @@ class Made:
 
 
 @dataclass(frozen=True)
+class Created:
+    """An object that TPM2_Create made: the line, its Name, and its parent with the parent's Name and
+    hierarchy.
+    """
+
+    line: int
+    name: bytes
+    parent: int
+    parent_name: bytes
+    hierarchy: int
+
+
+@dataclass(frozen=True)
 class Moved:
     line: int
     pcr: int | None
@@ -161,6 +174,7 @@ class Past:
         self.accepted_buffers: dict[bytes, int] = {}
         self.made: dict[bytes, Made] = {}
         self.told_banks: dict[int, Banks] = {}
+        self.created: dict[bytes, Created] = {}
         self.pcr_states: list[tuple[int, Banks]] = [(0, banks_of(model))]
         self.seen: dict[int, tuple[object, object]] = {}
         self.last_change: dict[int, str] = {}
@@ -197,6 +211,15 @@ class Past:
                 # The policy of a session that authorized a handle starts over.
                 if entry.handle in self.sessions:
                     self.sessions[entry.handle].restart(line, f"{name}, {USED}")
+
+    def note_created(self, line: int, command: Command, answered: bytes) -> None:
+        """Notes the private area that TPM2_Create returned."""
+        fields = Fields(answered)
+        private, public = fields.sized(), fields.sized()
+        parent = self.model.objects[command.handles[0]]
+        name = object_rules.read_public(Parameters(public)).name
+        whose = command.handles[0], parent.public.name, parent.hierarchy
+        self.created[private] = Created(line, name, *whose)
 
     def note_value(self, command: Command, plain: bytes, answered: int | None) -> None:
         """Notes an authorization value as it was sent, with its trailing zeros."""
@@ -280,6 +303,10 @@ class Past:
     def lines_told(self, handle: int, *codes: CC) -> list[int]:
         begun = self.sessions.get(handle)
         return [it.line for it in begun.told if it.code in codes] if begun else []
+
+    def ended_words(self, handle: int) -> str:
+        """Returns when an entity ended, as a sentence; empty if it has not."""
+        return f"{handle:08x}: {self.gone_words(handle)}." if handle in self.ended else ""
 
     def gone_words(self, handle: int) -> str:
         if handle not in self.ended:

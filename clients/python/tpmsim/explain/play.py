@@ -20,9 +20,18 @@ from tpmsim.model.object_rules import Object
 from tpmsim.model.sequence_sessions import SessionUse
 from tpmsim.records import goes_on, Opened, opened, TRACE
 from tpmsim.records.marks import sum_of
-from tpmsim.standard import HEADER_BYTES, lines, policy
+from tpmsim.standard import CC, frames, HEADER_BYTES, lines, policy
+from tpmsim.standard.command_names import command_name
 
-CODE_DIGITS = 8
+CODE_AT, CODE_DIGITS = 12, 8
+
+# TPM2_Startup(CLEAR), and the response code of a command before it.
+STARTUP, INITIALIZE = frames.command(CC.Startup, bytes(2)), f"{frames.CODES['INITIALIZE']:08x}"
+BAD_LINE = "line {} is no line of a script; `tpmsim check` says what is wrong with it"
+NO_STARTUP = (
+    "{name} in line {line} comes before TPM2_Startup; after power-on, a device refuses it: INITIALIZE "
+    "(100), by check G5. It is explained as on a device that TPM2_Startup(CLEAR) has started."
+)
 
 
 @dataclass(frozen=True)
@@ -93,12 +102,14 @@ class Event:
         if text != wanted:
             self.differences.append(Difference(words, text, wanted))
 
-    def compare_all(self, step: records.Command) -> None:
-        """Compares everything that the log says about the response."""
+    def compare_all(self, step: records.Command, is_foreign: bool = False) -> None:
+        """Compares everything that the log says about the response. Of another TPM's response only
+        the code is compared, since another TPM has other properties and other random bytes.
+        """
         if step.damage:
             self.differences.append(Difference(step.damage, "", ""))
         for it in step.said:
-            self.compare(it)
+            self.compare(code_said(it) if is_foreign else it)
         if step.mark is not None:
             self.compare_sum(step.mark.answered)
 
@@ -282,6 +293,8 @@ class Watched:
         more = ""
         if asked is not None and asked.code == CONTEXT_LOAD and done.did == INTEGRITY[1]:
             more = self.contexts.why_wrong(asked.parameters, *bound)
+        elif asked is not None and asked.code == CONTEXT_LOAD:
+            more = self.past.ended_words(int.from_bytes(asked.parameters[8:12], "big"))
         event.reason = of_layer(done, more)
 
     def place(self, kept: Object) -> int | None:
@@ -299,6 +312,8 @@ class Watched:
         if scene.has_entries:
             self.past.accepted_buffers[scene.buffer] = self.line
         self.past.accepted(self.line, scene.command, scene.plain, answered, event.names)
+        if scene.code == CC.Create and event.answered is not None:
+            self.past.note_created(self.line, scene.command, event.answered)
 
     # Methods that the model calls during execution.
 
@@ -328,7 +343,8 @@ class Play(Watched):
     """A device that plays the lines of a log. `bad_line` is the number of a bad line, and `fault`
     says why playing stopped. `damages` lists what is wrong with heads, and `cuts` the parts of
     records that a crash cut off. `watch` is called with each event at once, while the device is in
-    the state after the event.
+    the state after the event. `remarks` say how the log was read, and `is_foreign` that its
+    responses may be those of another TPM.
     """
 
     def __init__(
@@ -349,11 +365,13 @@ class Play(Watched):
         self.bad_line: int | None = None
         self.fault = ""
         self.cuts, self.damages = list[records.Cut](), list[str]()
+        self.remarks, self.is_foreign = list[str](), False
         self.comments = list[str]()
         self.watch: Callable[[Event], None] = lambda event: None
 
     def events(self, log: bytes) -> Iterator[Event]:
         """Yields each event, with everything that the log says about its response."""
+        self.start_if_alone(log)
         for step in records.steps_of(log):
             try:
                 event = self.step(step)
@@ -362,6 +380,29 @@ class Play(Watched):
                 break
             if event is not None:
                 yield event
+
+    def start_if_alone(self, log: bytes) -> None:
+        """Starts a new device, if the log is a single command that comes before TPM2_Startup, or is
+        another program's, which may begin at any time.
+        """
+        alone = self.first_alone(log)
+        if alone is None:
+            return
+        name = command_name(int.from_bytes(alone.buffer[6:HEADER_BYTES], "big")) or "The command"
+        self.remarks.append(NO_STARTUP.format(name=name, line=alone.line))
+        self.execute(STARTUP, 0, bytes(frames.COMMAND_BYTES), 0)
+        self.judged()
+        self.event = None
+
+    def first_alone(self, log: bytes) -> records.Command | None:
+        """Returns the first command of a log that needs a started device, and has none."""
+        if self.given is not None or self.answers.is_given:
+            return None
+        steps = (it for it in records.steps_of(log) if not isinstance(it, records.Comment))
+        first = next(steps, None)
+        if not isinstance(first, records.Command) or not needs_start(first):
+            return None
+        return first if self.is_foreign or next(steps, None) is None else None
 
     def step(self, step: records.Step) -> Event | None:
         """Plays a step, and returns its event, if there is one."""
@@ -378,7 +419,7 @@ class Play(Watched):
         elif isinstance(step, records.Cut):
             self.cuts.append(step)
         elif isinstance(step, records.Bad):
-            self.bad_line, self.fault = step.line, f"script line {step.line}"
+            self.bad_line, self.fault = step.line, BAD_LINE.format(step.line)
             if isinstance(step, records.BadHead):
                 self.fault = f"line {step.line}: the head is not whole"
         return None
@@ -387,7 +428,7 @@ class Play(Watched):
         """Plays a command of the log, with what the log says about its response."""
         told = step.buffer, step.locality, step.random, step.elapsed
         event = self.command(*told, step.completes)
-        event.compare_all(step)
+        event.compare_all(step, self.is_foreign)
         self.answers.compare(event)
         return event
 
@@ -434,6 +475,21 @@ class Play(Watched):
             words = "the device in the log is another one than that of --image"
             self.damages.append(f"line {step.line}: {words}")
         return is_same
+
+
+def needs_start(step: records.Command) -> bool:
+    """Whether only a started device executes a command, and the log does not show a device that was
+    not started.
+    """
+    is_told = step.mark is not None or INITIALIZE in map(code_said, step.said)
+    number = step.buffer[6:HEADER_BYTES]
+    return len(number) == 4 and number != STARTUP[6:HEADER_BYTES] and not is_told
+
+
+def code_said(said: str) -> str:
+    """Returns the response code in a trace, a response code or a response."""
+    is_response = " " not in said and len(said) > CODE_DIGITS
+    return said[CODE_AT : CODE_AT + CODE_DIGITS] if is_response else said[-CODE_DIGITS:]
 
 
 def entry_facts(scene: Scene) -> Iterator[tuple[int, list[Fact]]]:

@@ -40,6 +40,7 @@ class Search:
         self.items = policy_orders.items_of(algorithm, steps)
         self.missing = policy_orders.missing(use)
         self.alternatives = list(islice(alternatives(use, steps), self.most))
+        self.typed = list(islice(typed(use, steps), self.most))
         self.turned: Turned | None = None
 
     def told(self) -> list[Told]:
@@ -55,7 +56,8 @@ class Search:
         for items, told in islice(arrangements(self.items, self.missing), self.most):
             if self.is_made(self.zeros, items):
                 return [told]
-        return self.one_turned(self.items, self.alternatives)
+        found = self.one_turned(self.items, self.alternatives)
+        return found or self.one_turned(self.items, self.typed)
 
     def one_turned(self, items: Items, those: Sequence[Turned]) -> list[Told]:
         """Tries the changed assertions in `those`, one at a time."""
@@ -121,6 +123,13 @@ def digests_before(begin: bytes, items: Items) -> list[bytes]:
 
 def with_link(items: Items, turned: Turned) -> Items:
     return tuple(replace(it, link=turned.link) if it.place == turned.place else it for it in items)
+
+
+def typed(use: Use, steps: Sequence[Step]) -> Iterator[Turned]:
+    """Yields the assertions with one typing error each."""
+    return chain.from_iterable(
+        policy_values.of_typed(use, place, step) for place, step in enumerate(steps)
+    )
 
 
 def alternatives(use: Use, steps: Sequence[Step]) -> Iterator[Turned]:

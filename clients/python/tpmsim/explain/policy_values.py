@@ -8,7 +8,7 @@ from dataclasses import dataclass
 from itertools import islice, permutations
 from typing import Any, Callable, Iterator, Sequence
 
-from tpmsim.explain.forms import NAME_FORMS
+from tpmsim.explain.forms import mistypings, NAME_FORMS
 from tpmsim.explain.ingredients import Use
 from tpmsim.explain.past import Banks, Step, values_digest
 from tpmsim.explain.slip import other_hash, Told
@@ -60,6 +60,8 @@ def other_values(step: Step) -> Iterator[tuple[tuple[Any, ...], str]]:
     own = step.said.values
     match step.code:
         case CC.PolicyCommandCode:
+            turned_code = int.from_bytes(number(own[0], 4)[::-1], "big")
+            yield (turned_code,), f"the command code {turned_code:08x}, its lowest byte first,"
             yield from (((code,), name) for code, name in NAMES.items() if code != own[0])
         case CC.PolicyNvWritten:
             yield (1 - own[0],), str(1 - own[0])
@@ -144,6 +146,17 @@ def of_names(use: Use, place: int, step: Step, handle: int) -> Iterator[Turned]:
         if value and value != name:
             told = slip, f"With {words} in {step.code.name} it would match."
             yield turned(use, place, step.but(value), told)
+
+
+def of_typed(use: Use, place: int, step: Step) -> Iterator[Turned]:
+    """Yields assertions in which policyRef has a typing error."""
+    if step.code != CC.PolicySecret:
+        return
+    name, reference = step.said.values
+    for value in mistypings(reference):
+        words = f"With the policyRef {bytes_words(value)} in {step.code.name} it would match."
+        other = Step(step.line, Said(step.code, (name, value)), "")
+        yield turned(use, place, other, ("policyRef mistyped", words))
 
 
 def of_tried(use: Use, place: int, step: Step) -> Iterator[Turned]:

@@ -18,7 +18,7 @@ from tpmsim.model.nv_commands import Index
 from tpmsim.model.object_rules import Object
 from tpmsim.model.policy_state import Session
 from tpmsim.model.sequence_sessions import SessionUse
-from tpmsim.standard import CC, Entry, frames, HEADER_BYTES, is_policy, is_session, NUMBERED, nv
+from tpmsim.standard import ALL_NUMBERED, CC, Entry, frames, HEADER_BYTES, is_policy, is_session, nv
 from tpmsim.standard import values
 
 # The sentence for each check, and its location in docs/table. tools/generated.py writes the file.
@@ -139,7 +139,7 @@ class Scene:
 
     @property
     def code(self) -> CC:
-        return NUMBERED[self.number]
+        return ALL_NUMBERED[self.number]
 
     @property
     def handles(self) -> list[int]:

@@ -64,6 +64,7 @@ WORDS: dict[str, Callable[[Any], str]] = {
     "numbers": lambda those: numbers(those) or "none",
     "object flags": lambda it: words.flag_words(it, objects.Attribute),
     "operation": lambda number: words.OPERATIONS[number],
+    "signed": words.signed_words,
     "size": words.size_words,
     "unknown command": words.not_served,
     "words": " ".join,

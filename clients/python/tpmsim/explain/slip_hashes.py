@@ -145,13 +145,28 @@ def names_of_others(use: Use, handles: list[int]) -> Iterator[Slip]:
 # Other texts that a caller may have hashed.
 
 
+# The size of a parameter of each kind that has a fixed size.
+FIXED = {"u8": 1, "u16": 2, "u32": 4}
+
+
 def parameters(use: Use) -> Iterator[Slip]:
     yield from plain_parameters(use)
+    yield from last_parameters(use)
     yield from whole_buffers(use)
     for code in NUMBERED.values():
         if number(code, 4) != use.right().code:
             words = f"cpHash has the command code of {code.name}, and this is {use.code_words}"
             yield Slip.of("another command code", words, code=number(code, 4))
+
+
+def last_parameters(use: Use) -> Iterator[Slip]:
+    """Yields a cpHash without the last parameter, such as an offset."""
+    command = NUMBERED.get(int.from_bytes(use.right().code, "big"))
+    own = command.parameters if command else ()
+    size = FIXED.get(own[-1].kind.value, 0) if len(own) > 1 else 0
+    if size:
+        words = f"cpHash was made without the last parameter, {own[-1].name}"
+        yield Slip.of("last parameter left out", words, parameters=use.right().parameters[:-size])
 
 
 def plain_parameters(use: Use) -> Iterator[Slip]:

@@ -4,11 +4,13 @@ import textwrap
 from dataclasses import dataclass, field
 from typing import Any, Iterable, Iterator
 
+from tpmsim.explain.code_words import meaning_of, title_of
 from tpmsim.explain.dissection import Field
 from tpmsim.explain.play import Event, Play
 from tpmsim.explain.reason import Fact, OfLayer, Reason
 from tpmsim.explain.words import plural, size_words
 from tpmsim.standard.command_names import command_name
+from tpmsim.taken.codes import Code
 
 WIDTH, MOST_DIFFERING = 100, 8
 INDENT = "    "
@@ -67,16 +69,22 @@ def of_log(events: list[Event], play: Play) -> Iterator[str]:
     """Yields the lines about a log. Differences from the model come first, since everything after
     them is unreliable.
     """
+    for words in play.remarks:
+        yield from textwrap.wrap(words, WIDTH, break_on_hyphens=False)
+    if play.remarks:
+        yield ""
     for words in play.damages:
         yield from (words, "")
     differing = [it for it in events if it.differences]
-    for event in differing[:MOST_DIFFERING]:
+    for event in [] if play.is_foreign else differing[:MOST_DIFFERING]:
         yield from differences(event)
         yield ""
-    if len(differing) > MOST_DIFFERING:
+    if len(differing) > MOST_DIFFERING and not play.is_foreign:
         yield f"{plural(len(differing) - MOST_DIFFERING, 'more command')} differ."
         yield ""
     for event in events:
+        if play.is_foreign and event.differences:
+            yield from other_answer(event)
         yield from reasons(event)
     for words in cut_words(play):
         yield from (words, "")
@@ -113,6 +121,18 @@ def reasons(event: Event) -> Iterator[str]:
     for note in event.notes:
         yield f"line {event.line}: {name_of(event)}, worth a look"
         yield from of_reason(note)
+
+
+def other_answer(event: Event) -> Iterator[str]:
+    """Yields what another TPM answered, if the model answers otherwise."""
+    code = Code(int(event.differences[0].log, 16))
+    does = "refuses it" if event.refused else "accepts it"
+    yield f"line {event.line}: {name_of(event)}: the log's TPM answers {title_of(code)}"
+    yield from wrapped(
+        f"{meaning_of(code)} tpmsim {does}: it is another TPM, or has not seen all before."
+    )
+    if not event.refused:
+        yield ""
 
 
 def title(event: Event) -> str:
@@ -202,7 +222,8 @@ def value_of_log(events: list[Event], counts: Counts, play: Play, is_whole: bool
     names = "commands", "refused", "power_cycles", "answers", "differing", "layer"
     told = {it: getattr(counts, it) for it in names}
     values = [value_of_event(it, is_whole) for it in events]
-    ends = {"damages": play.damages, "cuts": [vars(it) for it in play.cuts]}
+    cuts = [vars(it) for it in play.cuts]
+    ends = {"remarks": play.remarks, "damages": play.damages, "cuts": cuts}
     return {"version": VERSION, **told, **ends, "bad_line": play.bad_line, "events": values}
 
 

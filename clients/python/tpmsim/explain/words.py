@@ -3,8 +3,8 @@
 import enum
 from typing import Iterable, Sequence
 
-from tpmsim.standard import CC, frames, handle_kinds, HMAC_SESSION, lines, NV, nv, PERSISTENT
-from tpmsim.standard import POLICY_SESSION, TRANSIENT
+from tpmsim.standard import ALL_NUMBERED, CC, frames, handle_kinds, HMAC_SESSION, lines, NV, nv
+from tpmsim.standard import PERSISTENT, POLICY_SESSION, TRANSIENT
 from tpmsim.standard.command_names import command_name
 
 ALGORITHMS = {
@@ -77,9 +77,19 @@ def command_words(code: int) -> str:
 
 def not_served(code: int) -> str:
     name, number = command_name(code), f"{code:08x}"
-    return (
-        f"TPM2_{name} ({number}) is not served." if name else f"No command has the number {number}."
-    )
+    if code in ALL_NUMBERED:
+        return f"TPM2_{name} ({number}): only a device of the complete profile has this command."
+    if name:
+        return f"TPM2_{name} ({number}): tpmsim has no such command."
+    turned = int.from_bytes(code.to_bytes(4, "big")[::-1], "big")
+    other = command_name(turned)
+    hint = f" With its bytes in the other order it is TPM2_{other} ({turned:08x})." if other else ""
+    return f"No command has the number {number}.{hint}"
+
+
+def signed_words(number: int) -> str:
+    """Returns a number of four bytes that is signed, as the user gave it."""
+    return str(number - 2**32 if number >= 2**31 else number)
 
 
 def printable(data: bytes) -> bool:

@@ -2,15 +2,21 @@
 section 30.2).
 """
 
+from tpmsim.model import device_properties
 from tpmsim.model.general import Answer, Refusal
 from tpmsim.model.parameters import Held, integer, Request, takes
 from tpmsim.standard import CC, frames, handle_kinds, HASHES, HMAC_SESSION, number, NV, PERSISTENT
-from tpmsim.standard import POLICY_SESSION, TRANSIENT
+from tpmsim.standard import POLICY_SESSION, Profile, TRANSIENT
 
 # The supported capabilities (Part 2, section 6.12), and the largest number of elements in one
 # response.
 HANDLES, COMMANDS, PCRS, PROPERTIES = 1, 2, 5, 6
 MOST_ELEMENTS = 64
+
+# Capabilities of the complete profile alone. The device has none of the last three: commands that
+# require physical presence, commands that are audited, and elliptic curves.
+ALGORITHMS, PCR_PROPERTIES = 0, 7
+NOTHING = (3, 4, 8)
 
 # The first byte of the handles of PCRs, and that of permanent handles.
 PCR_KIND, PERMANENT_KIND = 0x00, 0x40
@@ -57,11 +63,26 @@ class Commands(Held):
         if capability == HANDLES:
             return [number(it, 4) for it in self.handles_from(wanted)]
         if capability == COMMANDS:
-            codes = sorted(it for it in CC if it >= wanted)
+            codes = sorted(it for it in self.profile.commands.values() if it >= wanted)
             return [number(command_attributes(it), 4) for it in codes]
         if capability == PROPERTIES:
             properties = sorted(self.properties().items())
             return [number(key, 4) + value for key, value in properties if key >= wanted]
+        if self.profile == Profile.COMPLETE:
+            return self.further_elements(capability, wanted)
+        raise Refusal("VALUE/p1", "A1")
+
+    def further_elements(self, capability: int, wanted: int) -> list[bytes]:
+        """Returns the elements of a capability that only the complete profile has."""
+        if capability == ALGORITHMS:
+            algorithms = device_properties.ALGORITHMS.items()
+            return [number(key, 2) + number(it, 4) for key, it in algorithms if key >= wanted]
+        if capability == PCR_PROPERTIES:
+            selected = device_properties.pcr_properties().items()
+            octets = [(key, bits.to_bytes(3, "little")) for key, bits in selected if key >= wanted]
+            return [number(key, 4) + number(3, 1) + it for key, it in octets]
+        if capability in NOTHING:
+            return []
         raise Refusal("VALUE/p1", "A1")
 
     def handles_from(self, wanted: int) -> list[int]:
@@ -91,9 +112,12 @@ class Commands(Held):
 
     def properties(self) -> dict[int, bytes]:
         lockout = self.lockout
+        is_complete = self.profile == Profile.COMPLETE
+        further = device_properties.properties(self) if is_complete else {}
         return {
+            **{key: number(it, 4) for key, it in further.items()},
             FAMILY_INDICATOR: FAMILY,
-            TOTAL_COMMANDS: number(len(CC), 4),
+            TOTAL_COMMANDS: number(len(self.profile.commands), 4),
             LOCKOUT_COUNTER: number(lockout.failed_tries, 4),
             MAX_AUTH_FAIL: number(lockout.max_tries, 4),
             LOCKOUT_INTERVAL: number(lockout.recovery_time, 4),

@@ -10,15 +10,18 @@ import dataclasses
 from dataclasses import dataclass
 from typing import Callable, Self
 
-from tpmsim.model import capability, completion_rows, contexts, hidden_sessions, sequence_commands
+from tpmsim.model import capability, completion_rows, contexts, device_properties
+from tpmsim.model import hidden_sessions, sequence_commands
 from tpmsim.model.completion_properties import Counts, properties
+from tpmsim.model.completion_words import refusal_words
 from tpmsim.model.general import Refusal
 from tpmsim.model.machine import Model, Outcome, PLACE_BITS, SESSIONS
 from tpmsim.model.object_rules import Object
 from tpmsim.model.sequence_sessions import SessionUse
 from tpmsim.model.sequences import NO_SEQUENCES, SequenceObject, Slots
 from tpmsim.model.state_text import Layer
-from tpmsim.standard import CC, Fields, frames, is_session, number, RH_NULL, Short, sized, TRANSIENT
+from tpmsim.standard import CC, Fields, frames, is_session, number, NUMBERED, RH_NULL, Short, sized
+from tpmsim.standard import TRANSIENT
 from tpmsim.standard.handle_kinds import first_byte
 
 # The commands that only the layer supports, each with its attributes in TPM2_GetCapability.
@@ -36,32 +39,13 @@ OWN_CODES = {"TOO_MANY_CONTEXTS": 0x12E}
 # The tag of a TPM 1.2 command, and the device's response to it.
 OF_FAMILY_1, BAD_TAG = 0xC1, frames.HEADER.pack(0xC4, 10, 0x1E)
 
-ALGORITHMS = {
-    **{0x04: 0x004, 0x05: 0x104, 0x06: 0x002, 0x08: 0x30C, 0x0A: 0x006, 0x0B: 0x004},
-    **{0x22: 0x404, 0x25: 0x008, 0x43: 0x202},
-}
-OF_ALGORITHMS, OF_PCR_PROPERTIES = 0, 7
-
-# For each PCR property, a bit for each PCR. A property says that TPM2_Shutdown(STATE) saves the PCR
-# (0); that a locality may extend it (1, 3, ..) or reset it (2, 4, ..); that its changes are not
-# counted (11); or that it has a policy (13) or an authorization value (14).
-PCR_PROPERTIES = {
-    **{0x00: 0x00FFFF, 0x01: 0x81FFFF, 0x02: 0x810000, 0x03: 0x81FFFF, 0x04: 0x810000},
-    **{0x05: 0xFFFFFF, 0x06: 0x810000, 0x07: 0xFFFFFF, 0x08: 0x810000, 0x09: 0xFFFFFF},
-    **{0x0A: 0xFF0000, 0x11: 0, 0x13: 0, 0x14: 0},
-}
-
-# The capabilities that the device refuses and for which the layer returns an empty list: physical
-# presence, the audit of commands, and elliptic curves.
-EMPTY = (3, 4, 8)
-
 LISTS = {
-    OF_ALGORITHMS: "the algorithms",
+    capability.ALGORITHMS: "the algorithms",
     capability.HANDLES: "the handles",
     capability.COMMANDS: "the commands",
     capability.PROPERTIES: "the properties",
-    OF_PCR_PROPERTIES: "the properties of PCRs",
-    **{it: "an empty list" for it in EMPTY},
+    capability.PCR_PROPERTIES: "the properties of PCRs",
+    **{it: "an empty list" for it in capability.NOTHING},
 }
 
 # The first bytes of a session's token; and, in a session's context, the number of bytes between the
@@ -218,7 +202,8 @@ class Completion:
         except sequence_commands.Wrong as wrong:
             return Completed(refused(own, wrong.name), own, wrong.words)
         except Refusal as refusal:
-            return Completed(refused(own, refusal.name), own, "the parameters are refused")
+            code = int.from_bytes(buffer[6 : frames.HEADER_BYTES], "big")
+            return Completed(refused(own, refusal.name), own, refusal_words(code, refusal))
         if found is None:
             return None
         if isinstance(found, sequence_commands.Sent):
@@ -293,7 +278,8 @@ class Completion:
         if own.refused:
             return self.unserved(wanted[0]) if own.refused == "VALUE/p1" else None
         if wanted[0] == capability.COMMANDS:
-            commands = {int(it): capability.command_attributes(it) for it in CC} | OWN_COMMANDS
+            served = {it: capability.command_attributes(code) for it, code in NUMBERED.items()}
+            commands = served | OWN_COMMANDS
             return [(it, number(told, 4)) for it, told in sorted(commands.items())]
         if wanted[0] == capability.PROPERTIES:
             found = properties(device, self.counts(device), len(OWN_COMMANDS))
@@ -303,12 +289,14 @@ class Completion:
     @staticmethod
     def unserved(wanted: int) -> list[tuple[int, bytes]] | None:
         """Returns the elements of a list that the device refused to return."""
-        if wanted == OF_ALGORITHMS:
-            return [(it, number(it, 2) + number(told, 4)) for it, told in ALGORITHMS.items()]
-        if wanted == OF_PCR_PROPERTIES:
-            octets = ((it, bits.to_bytes(3, "little")) for it, bits in PCR_PROPERTIES.items())
+        if wanted == capability.ALGORITHMS:
+            algorithms = device_properties.ALGORITHMS.items()
+            return [(it, number(it, 2) + number(told, 4)) for it, told in algorithms]
+        if wanted == capability.PCR_PROPERTIES:
+            selected = device_properties.pcr_properties().items()
+            octets = ((it, bits.to_bytes(3, "little")) for it, bits in selected)
             return [(it, number(it, 4) + number(3, 1) + text) for it, text in octets]
-        return [] if wanted in EMPTY else None
+        return [] if wanted in capability.NOTHING else None
 
     def counts(self, device: Model) -> Counts:
         saved = sum(bool(it) for it in self.sessions)

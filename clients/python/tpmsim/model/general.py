@@ -9,7 +9,7 @@ from typing import Any, TYPE_CHECKING
 from tpmsim.faults import TpmsimError
 from tpmsim.standard import CC, COMMAND_BYTES, DECRYPT, ENCRYPT, Entry, Fact, Fields, first_byte
 from tpmsim.standard import frames, Handle, HEADER_BYTES, is_index, is_policy, is_session
-from tpmsim.standard import MOST_ENTRIES, NUMBERED, PERSISTENT, RS_PW, Short, TRANSIENT
+from tpmsim.standard import MOST_ENTRIES, PERSISTENT, Profile, RS_PW, Short, TRANSIENT
 from tpmsim.standard.frames import AUDIT, AUDIT_EXCLUSIVE, AUDIT_RESET, RESERVED
 from tpmsim.standard.handle_kinds import IS_OF_KIND
 
@@ -78,7 +78,7 @@ class Answer:
     drawn: int = 0
 
 
-def read_header(fields: Fields, length: int) -> tuple[int, CC]:
+def read_header(fields: Fields, length: int, profile: Profile) -> tuple[int, CC]:
     if length < HEADER_BYTES:
         raise Refusal("COMMAND_SIZE", "G1", case="short", size=length, least=HEADER_BYTES)
     if length > COMMAND_BYTES:
@@ -88,9 +88,9 @@ def read_header(fields: Fields, length: int) -> tuple[int, CC]:
         raise Refusal("BAD_TAG", "G2", tag=tag)
     if size != length:
         raise Refusal("COMMAND_SIZE", "G3", said=size, size=length)
-    if code not in NUMBERED:
+    if code not in profile.commands:
         raise Refusal("COMMAND_CODE", "G4", number=code)
-    return tag, NUMBERED[code]
+    return tag, profile.commands[code]
 
 
 def read_handles(fields: Fields, wanted: tuple[Handle, ...], device: Held) -> list[int]:
@@ -191,7 +191,7 @@ def decode(buffer: bytes, device: Held) -> Command:
     value.
     """
     fields = Fields(buffer)
-    tag, code = read_header(fields, len(buffer))
+    tag, code = read_header(fields, len(buffer), device.profile)
     if device.started == (code == CC.Startup):
         raise Refusal("INITIALIZE", "G5", case="again" if device.started else "first", number=code)
     handles = read_handles(fields, code.handles, device)

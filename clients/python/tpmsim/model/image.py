@@ -1,13 +1,14 @@
 """The image of what a device keeps without power: bytes from which another device can be opened.
 
-It starts with the word TPMI, a version and the total length, and ends with the SHA-256 of
-everything before. The body contains the fields of docs/table in their order. Images are written in
-version 2, which has the limits on NV indices before the body. Version 1, with fixed limits, is also
-read.
+It starts with a magic word, a version and the total length, and ends with the SHA-256 of everything
+before. The body contains the fields of docs/table in their order. The image of a device of the
+symmetric profile starts with TPMI, and is written in version 2, which has the limits on NV indices
+before the body. Version 1, with fixed limits, is also read. The image of a device of the complete
+profile starts with TPMC, and has one version, with the body of TPMI's version 2.
 """
 
 from dataclasses import dataclass
-from typing import Container
+from typing import Container, Mapping, TypeVar
 
 from tpmsim.faults import TpmsimError
 from tpmsim.model import nv_commands, object_rules, persistent, protection, state
@@ -15,12 +16,14 @@ from tpmsim.model.general import Refusal
 from tpmsim.model.machine import Model
 from tpmsim.model.parameters import Parameters
 from tpmsim.model.protection import Lockout
-from tpmsim.standard import aes, digest, DIGEST_BYTES, digest_bytes, Fields, number, nv
+from tpmsim.standard import aes, digest, DIGEST_BYTES, digest_bytes, Fields, number, nv, Profile
 from tpmsim.standard import RH_ENDORSEMENT, RH_LOCKOUT, RH_NULL, RH_OWNER, RH_PLATFORM, SHA1, SHA256
 from tpmsim.standard import Short, sized, trimmed
 from tpmsim.standard.aes_tables import encrypt_block
 
-MAGIC = b"TPMI"
+T = TypeVar("T")
+
+MAGIC, COMPLETE_MAGIC = b"TPMI", b"TPMC"
 HEAD_BYTES, DIGEST_AT_END = 10, 32
 
 # The hierarchies in the order of the body, those that may have persistent objects, and the hash
@@ -31,35 +34,45 @@ BANKS = SHA1, SHA256
 
 
 class Fault(TpmsimError):
-    """Why bytes are not an image: Short, Magic, Version, Length, Digest or Body."""
+    """Why bytes are not an image: Short, Magic, Version, Length, Digest or Body. Only a state text of
+    version 1 has the fault Earlier.
+    """
 
 
 @dataclass(frozen=True)
 class Version:
-    """A version of the image format: the limits on NV indices and on the size of their data, and
-    whether these limits are stored in the image.
+    """A version of the image format: the limits on NV indices and on the size of their data,
+    whether these limits are stored in the image, and the magic word.
     """
 
     number: int
     indices: int
     all_bytes: int
     says_limits: bool
+    magic: bytes = MAGIC
 
     @property
     def limits(self) -> bytes:
         return number(self.indices, 2) + number(self.all_bytes, 4) if self.says_limits else b""
 
+    @property
+    def profile(self) -> Profile:
+        return Profile.SYMMETRIC if self.magic == MAGIC else Profile.COMPLETE
+
 
 VERSION_1 = Version(1, 32, 8192, False)
 VERSION_2 = Version(2, nv_commands.INDICES, nv_commands.ALL_BYTES, True)
-VERSIONS = {it.number: it for it in (VERSION_1, VERSION_2)}
+COMPLETE_VERSION = Version(1, *(nv_commands.INDICES, nv_commands.ALL_BYTES, True, COMPLETE_MAGIC))
+VERSIONS = {(it.magic, it.number): it for it in (VERSION_1, VERSION_2, COMPLETE_VERSION)}
+WRITTEN = {it.profile: it for it in (VERSION_2, COMPLETE_VERSION)}
 
 # The offset of the body in an image that this module writes.
 BODY_AT = HEAD_BYTES + len(VERSION_2.limits)
 
 
-def image(device: Model, version: Version = VERSION_2) -> bytes:
-    return framed(body_text(device), version)
+def image(device: Model, version: Version | None = None) -> bytes:
+    """Returns a device's image, in the version of the device's profile unless another is passed."""
+    return framed(body_text(device), version or WRITTEN[device.profile])
 
 
 def body_text(device: Model) -> bytes:
@@ -78,7 +91,7 @@ def body_text(device: Model) -> bytes:
 
 def framed(body: bytes, version: Version = VERSION_2) -> bytes:
     """Returns a body with its head, the limits if the version stores them, and the digest."""
-    return digested(version.number, version.limits + body)
+    return digested(version.number, version.limits + body, version.magic)
 
 
 def digested(version: int, behind_head: bytes, magic: bytes = MAGIC) -> bytes:
@@ -148,15 +161,18 @@ def check(holds: bool) -> None:
         raise Fault("Body")
 
 
-def within_frame(text: bytes, magic: bytes, versions: Container[int]) -> tuple[int, bytes]:
-    """Returns the version of a framed text, and its content between the head and the digest."""
+def within_frame(text: bytes, versions: Mapping[tuple[bytes, int], T]) -> tuple[T, bytes]:
+    """Returns the version of a framed text, and its content between the head and the digest. The
+    versions are known by their magic word and their number.
+    """
     if len(text) < HEAD_BYTES + DIGEST_AT_END:
         raise Fault("Short")
     fields = Fields(text)
-    if fields.take(len(magic)) != magic:
+    magic = fields.take(len(MAGIC))
+    if magic not in {it for it, _ in versions}:
         raise Fault("Magic")
-    version = fields.number(2)
-    if version not in versions:
+    version = versions.get((magic, fields.number(2)))
+    if version is None:
         raise Fault("Version")
     if fields.number(4) != len(text):
         raise Fault("Length")
@@ -165,13 +181,20 @@ def within_frame(text: bytes, magic: bytes, versions: Container[int]) -> tuple[i
     return version, text[HEAD_BYTES:-DIGEST_AT_END]
 
 
-def open_image(text: bytes, block_cipher: aes.BlockCipher = encrypt_block) -> Model:
-    """Returns the device of an image, in the state after a power cycle."""
-    version, body = within_frame(text, MAGIC, VERSIONS)
-    device = Model(block_cipher=block_cipher)
+def open_image(
+    text: bytes,
+    block_cipher: aes.BlockCipher = encrypt_block,
+    profiles: Container[Profile] = (Profile.SYMMETRIC,),
+) -> Model:
+    """Returns the device of an image, in the state after a power cycle. The device must be of one of
+    the profiles; otherwise, the fault is Magic.
+    """
+    known = {key: it for key, it in VERSIONS.items() if it.profile in profiles}
+    version, body = within_frame(text, known)
+    device = Model(block_cipher=block_cipher, profile=version.profile)
     try:
         fields = Parameters(body)
-        read_kept(fields, VERSIONS[version], device)
+        read_kept(fields, version, device)
         fields.end()
     except (Refusal, Short):
         raise Fault("Body") from None
@@ -182,7 +205,7 @@ def goes_on(device: Model, text: bytes) -> bool:
     """Whether an image belongs to this device. The image's clock may be later than the device's;
     then the device continues from the image's clock.
     """
-    found, clock = open_image(text), device.clock
+    found, clock = open_image(text, profiles=Profile), device.clock
     device.clock = found.clock
     if image(device) == image(found):
         return True
@@ -190,9 +213,9 @@ def goes_on(device: Model, text: bytes) -> bool:
     return False
 
 
-def fault_of(text: bytes) -> str | None:
+def fault_of(text: bytes, profiles: Container[Profile] = (Profile.SYMMETRIC,)) -> str | None:
     try:
-        open_image(text)
+        open_image(text, profiles=profiles)
     except Fault as fault:
         return str(fault)
     return None

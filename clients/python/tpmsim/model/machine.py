@@ -10,8 +10,9 @@ from dataclasses import dataclass, field
 from functools import partial
 from typing import Any, Callable
 
-from tpmsim.model import capability, general, history, nv_commands, object_commands, pcrs
-from tpmsim.model import persistent, policy_commands, policy_state, protection, state
+from tpmsim.model import capability, complete_commands, general, history, nv_commands
+from tpmsim.model import object_commands, pcrs, persistent, policy_commands, policy_state
+from tpmsim.model import protection, state
 from tpmsim.model.general import Answer, Command, Refusal
 from tpmsim.model.history import Accepted, PastEvent
 from tpmsim.model.nv_commands import Index
@@ -21,15 +22,18 @@ from tpmsim.model.policy_state import Session
 from tpmsim.standard import aes, CC, DECRYPT, digest_bytes, ENCRYPT, Entry, Fact, Fields, frames
 from tpmsim.standard import handle_kinds, number, nv, objects, policy, RH_ENDORSEMENT, RH_LOCKOUT
 from tpmsim.standard import RH_NULL, RH_OWNER, RH_PLATFORM, RS_PW, sessions, Short, sized, TRANSIENT
-from tpmsim.standard import trimmed
+from tpmsim.standard import Profile, trimmed
 from tpmsim.standard.aes_tables import encrypt_block
 from tpmsim.standard.objects import Attribute
 
 # The largest number of bytes that TPM2_GetRandom returns.
 RANDOM_AT_ONCE = 32
 
+# The largest size of the data for TPM2_StirRandom.
+MOST_STIRRED = 128
+
 # The largest number of sessions, and the least size of a nonce.
-SESSIONS = 16
+SESSIONS = policy_state.SESSIONS
 LEAST_NONCE = 16
 
 # The device is manufactured with the bytes 00 to ff: first the seeds of these hierarchies, then
@@ -85,15 +89,19 @@ class Model(
     protection.Commands,
     state.Commands,
     capability.Commands,
+    complete_commands.Commands,
 ):
     """The device. It calls `tell` with each accepted event. It is manufactured with 256 bytes, and
-    uses the block cipher of aes_tables.py unless another is passed.
+    uses the block cipher of aes_tables.py unless another is passed. Its profile never changes.
     """
 
     def __init__(
-        self, manufactured: bytes = MANUFACTURED, block_cipher: aes.BlockCipher = encrypt_block
+        self,
+        manufactured: bytes = MANUFACTURED,
+        block_cipher: aes.BlockCipher = encrypt_block,
+        profile: Profile = Profile.SYMMETRIC,
     ) -> None:
-        self.block_cipher = block_cipher
+        self.block_cipher, self.profile = block_cipher, profile
         self.auth_values = {}
         self.disable_clear = False
         self.lockout = protection.Lockout()
@@ -407,6 +415,11 @@ class Model(
     def get_random(self, request: Request, wanted: int) -> Answer:
         count = min(wanted, RANDOM_AT_ONCE)
         return Answer(sized(request.random[:count]), drawn=count)
+
+    @takes(buffer(MOST_STIRRED))
+    def stir_random(self, request: Request, stirred: bytes) -> Answer:
+        # The random bytes of each command come from the host alone.
+        return Answer()
 
     @takes(buffer())
     def hierarchy_change_auth(self, request: Request, new: bytes) -> Answer:

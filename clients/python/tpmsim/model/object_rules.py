@@ -89,18 +89,29 @@ def read_sensitive_create(fields: Parameters) -> tuple[bytes, bytes]:
     return fields.sized(DIGEST_BYTES), fields.sized(DATA_BYTES)
 
 
+def read_kind(fields: Parameters) -> int:
+    return fields.one_of(2, (KEYEDHASH, SYMCIPHER), "TYPE")
+
+
+def read_parameters(fields: Parameters, kind: int) -> int:
+    """Parses the parameters of an object of this kind. Returns the hash algorithm of a KEYEDHASH's
+    scheme, or ALG_NULL.
+    """
+    if kind == SYMCIPHER:
+        fields.cipher()
+    elif fields.one_of(2, (ALG_NULL, frames.ALG_HMAC), "SCHEME") != ALG_NULL:
+        return fields.hash()
+    return ALG_NULL
+
+
 def read_public(fields: Parameters) -> Public:
-    kind = fields.one_of(2, (KEYEDHASH, SYMCIPHER), "TYPE")
+    kind = read_kind(fields)
     name_algorithm = fields.hash()
     attributes = fields.number(4)
     if attributes & ~NAMED:
         raise fields.refusal("RESERVED_BITS", "bits", named=NAMED, value=attributes)
     auth_policy = fields.sized(DIGEST_BYTES)
-    scheme = ALG_NULL
-    if kind == SYMCIPHER:
-        fields.cipher()
-    elif fields.one_of(2, (ALG_NULL, frames.ALG_HMAC), "SCHEME") != ALG_NULL:
-        scheme = fields.hash()
+    scheme = read_parameters(fields, kind)
     unique = fields.sized(DIGEST_BYTES)
     return Public(kind, name_algorithm, attributes, auth_policy, scheme, unique)
 

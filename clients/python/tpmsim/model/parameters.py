@@ -7,7 +7,7 @@ from dataclasses import dataclass
 from typing import Any, Callable, Iterable, Sequence, TYPE_CHECKING, TypeVar
 
 from tpmsim.model.general import Answer, Refusal
-from tpmsim.standard import DIGEST_BYTES, Fields, frames, HASHES, PCRS
+from tpmsim.standard import DIGEST_BYTES, Fields, frames, HASHES, PCRS, Profile
 
 if TYPE_CHECKING:
     from tpmsim.model.policy_state import Session
@@ -187,6 +187,7 @@ class Held:
     """The state of a device. Dictionaries have handles as keys. The times are in milliseconds."""
 
     block_cipher: BlockCipher
+    profile: Profile
     started: bool
     auth_values: dict[int, bytes]
     seeds: dict[int, bytes]
@@ -210,4 +211,7 @@ class Held:
         raise NotImplementedError
 
     def values(self, selection: list[tuple[int, list[int]]]) -> bytes:
+        raise NotImplementedError
+
+    def check_counter(self, changes: int) -> None:
         raise NotImplementedError

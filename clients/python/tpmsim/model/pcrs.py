@@ -17,6 +17,9 @@ LOCALITIES = range(5)
 VALUES_AT_ONCE, MOST_DIGESTS = 8, 2
 EVENT_BYTES = 1024
 
+# The largest value of the update counter.
+LAST_COUNTER = 2**64 - 1
+
 
 def starting_value(algorithm: int, pcr: int) -> bytes:
     """Returns all ones for the PCRs of a dynamic launch, and zeros for the others."""
@@ -61,12 +64,18 @@ class Commands(Held):
         listed = number(len(values), 4) + b"".join(values)
         return Answer(counter + frames.selection(*selection) + listed)
 
+    def check_counter(self, changes: int) -> None:
+        """Refuses changes that the update counter cannot count."""
+        if self.update_counter + changes > LAST_COUNTER:
+            raise Refusal("FAILURE", "A2")
+
     def extend(self, handle: int, values: list[tuple[int, bytes]], locality: int) -> None:
         """Extends the PCR in the bank of each digest. Has no effect for TPM_RH_NULL."""
         if handle == RH_NULL:
             return
         if locality not in (allowed := extended_from(handle)):
             raise Refusal("LOCALITY", "A1", pcr=handle, allowed=allowed, locality=locality)
+        self.check_counter(len(values))
         for algorithm, value in values:
             bank = self.banks[algorithm]
             bank[handle] = digest(algorithm, bank[handle] + value)
@@ -88,6 +97,7 @@ class Commands(Held):
         (pcr,) = request.handles
         if request.locality not in (allowed := reset_from(pcr)):
             raise Refusal("LOCALITY", "A1", pcr=pcr, allowed=allowed, locality=request.locality)
+        self.check_counter(len(self.banks))
         for algorithm, bank in self.banks.items():
             bank[pcr] = bytes(digest_bytes(algorithm))
             self.update_counter += 1

@@ -7,7 +7,7 @@ from typing import Iterable
 
 from tpmsim.faults import TpmsimError
 from tpmsim.model.machine import Model
-from tpmsim.standard import lines
+from tpmsim.standard import lines, Profile
 
 LINE_BYTES, LINES = 65_536, 1_048_576
 RANDOM_BYTES = 256
@@ -40,11 +40,12 @@ def hex_bytes(text: bytes) -> bytes:
 
 class Words:
     """The settings for the next command in a script: its locality, its random bytes, and the
-    elapsed milliseconds.
+    elapsed milliseconds. A `do` line encodes a command of the profile.
     """
 
-    def __init__(self) -> None:
+    def __init__(self, profile: Profile = Profile.SYMMETRIC) -> None:
         self.locality, self.random, self.elapsed = 0, bytes(RANDOM_BYTES), 0
+        self.profile = profile
 
     def take(self, line: bytes) -> bytes | None:
         """Returns the buffer of a command's line. For the line of a setting, stores the setting and
@@ -74,10 +75,9 @@ class Words:
         else:
             raise BadLine
 
-    @staticmethod
-    def assembled(argument: bytes) -> bytes:
+    def assembled(self, argument: bytes) -> bytes:
         try:
-            return lines.assemble(argument)
+            return lines.assemble(argument, self.profile)
         except lines.Fault:
             raise BadLine from None
 
@@ -88,8 +88,8 @@ class Player(Words):
     """
 
     def __init__(self, device: Model | None = None, starved: Iterable[int] = ()) -> None:
-        super().__init__()
         self.device = device or Model()
+        super().__init__(self.device.profile)
         self.starved, self.commands = starved, 0
 
     def play(self, line: bytes) -> list[str]:
@@ -107,11 +107,11 @@ class Player(Words):
         return [lines.traced(outcome, self.locality, elapsed), outcome.response.hex()]
 
 
-def played(text: bytes) -> tuple[list[tuple[int, str]], str]:
+def played(text: bytes, profile: Profile = Profile.SYMMETRIC) -> tuple[list[tuple[int, str]], str]:
     """Returns the lines that a script prints, each with the number of the script line that caused
     it, and the message on standard error, which is empty if the script ends well.
     """
-    player, printed = Player(), []
+    player, printed = Player(Model(profile=profile)), []
     script = text.removesuffix(b"\n").split(b"\n") if text else []
     for number, line in enumerate(script[:LINES], 1):
         try:

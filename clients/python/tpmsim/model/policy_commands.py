@@ -7,7 +7,7 @@ from tpmsim.model.general import Answer, Refusal
 from tpmsim.model.parameters import buffer, choice, Held, integer, Parameters, Request, Selection
 from tpmsim.model.parameters import takes
 from tpmsim.model.policy_state import Session, State
-from tpmsim.standard import digest, digest_bytes, frames, number, NUMBERED, policy, sized
+from tpmsim.standard import digest, digest_bytes, frames, number, policy, sized
 
 
 class Commands(Held):
@@ -66,7 +66,7 @@ class Commands(Held):
         _, told, algorithm = self.told_to(request)
         if told.code not in (None, code):
             raise Refusal("VALUE/p1", "A1", told=told.code)
-        if code not in NUMBERED:
+        if code not in self.profile.commands:
             raise Refusal("POLICY_CC/p1", "A2")
         told.digest = policy.after_command_code(algorithm, told.digest, code)
         told.code = code

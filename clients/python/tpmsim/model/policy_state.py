@@ -11,6 +11,9 @@ from tpmsim.model.general import Refusal
 from tpmsim.standard import digest_bytes, nv, objects, SE_TRIAL
 from tpmsim.standard.policy import ALL_LOCALITIES
 
+# The largest number of sessions.
+SESSIONS = 16
+
 
 @dataclass
 class State:

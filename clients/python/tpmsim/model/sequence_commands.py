@@ -10,7 +10,7 @@ from __future__ import annotations
 from dataclasses import dataclass, replace
 from typing import Callable, TYPE_CHECKING
 
-from tpmsim.model.completion_rows import ticketed
+from tpmsim.model.complete_commands import ticketed
 from tpmsim.model.general import MOST_NONCE_OR_HMAC, read_area, Refusal
 from tpmsim.model.hash_states import HmacState
 from tpmsim.model.nv_commands import BUFFER_BYTES

@@ -6,16 +6,23 @@ import enum
 
 from tpmsim.model import nv_commands
 from tpmsim.model.general import Answer, Refusal
-from tpmsim.model.parameters import choice, Held, Request, takes
+from tpmsim.model.parameters import choice, Held, integer, Request, takes
 from tpmsim.standard import number, nv, RH_ENDORSEMENT, RH_LOCKOUT, RH_NULL, RH_OWNER, RH_PLATFORM
+from tpmsim.standard import sized
 
 CLEAR, STATE = 0, 1
 
 # The number of PCRs that TPM2_Shutdown(STATE) saves.
 SAVED_PCRS = 16
 
-# The largest time and the largest count.
+# The largest time and the largest count, and the largest time to which TPM2_ClockSet sets Clock.
 LAST_TIME, LAST_COUNT = 2**64 - 1, 2**32 - 1
+LAST_SET_TIME = 0xFFFF_0000_0000_0000
+
+# The values of TPM2_ClockRateAdjust, as unsigned bytes: -3 to 3.
+ADJUSTMENTS = [it % 256 for it in range(-3, 4)]
+
+TESTS_PASSED = number(0, 4)
 
 SECRET_BYTES = 32
 
@@ -44,6 +51,20 @@ class Commands(Held):
         counts = number(self.reset_count, 4) + number(self.restart_count, 4)
         # The clock never goes back, so its value is always safe.
         return Answer(times + counts + b"\x01")
+
+    @takes(integer(8))
+    def clock_set(self, request: Request, clock: int) -> Answer:
+        if not self.clock <= clock <= LAST_SET_TIME:
+            raise Refusal("VALUE/p1", "A1", clock=self.clock, most=LAST_SET_TIME)
+        self.clock = clock
+        return Answer()
+
+    @takes(integer(1))
+    def clock_rate_adjust(self, request: Request, rate: int) -> Answer:
+        # The host's clock determines the rate.
+        if rate not in ADJUSTMENTS:
+            raise Refusal("VALUE/p1", "A1", rate=rate)
+        return Answer()
 
     # A startup is a TPM Reset; or, from saved state, a TPM Restart or a TPM Resume.
 
@@ -88,12 +109,17 @@ class Commands(Held):
     def self_test(self, request: Request, full: int) -> Answer:
         return Answer()
 
+    @takes()
+    def get_test_result(self, request: Request) -> Answer:
+        return Answer(sized(b"") + TESTS_PASSED)
+
     # TPM2_Clear removes what belongs to the owner of the computer.
 
     @takes()
     def clear(self, request: Request) -> Answer:
         if self.disable_clear:
             raise Refusal("DISABLED", "A1")
+        self.check_counter(1)
 
         drawn = secrets(request.random, 3)
         self.seeds[RH_OWNER], self.proofs[RH_OWNER], self.proofs[RH_ENDORSEMENT] = drawn

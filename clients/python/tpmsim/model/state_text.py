@@ -3,8 +3,8 @@ where the original device stopped.
 
 It has the frame of an image, with a different magic. Its body (docs/table/state_text.md) contains
 what the device keeps without power, encoded as in its image; what a power cycle would clear; and
-what the completing layer remembers, if there is one. State texts are written in version 2. Version
-1, in which the layer remembers objects too, can also be read.
+what the completing layer remembers, if there is one. The version says of which profile the device
+is: 2 of the symmetric profile, 3 of the complete one. Version 1 is no longer read.
 """
 
 from __future__ import annotations
@@ -22,18 +22,19 @@ from tpmsim.model.policy_state import Session, State
 from tpmsim.model.protection import LOCKOUT_AUTH, Lockout, MILLISECONDS, TRIES
 from tpmsim.model.sequences import NO_SEQUENCES, Slots
 from tpmsim.standard import AES, aes, DIGEST_BYTES, digest_bytes, frames, name_of, number
-from tpmsim.standard import PCRS, policy, RH_NULL, Short, sized, TRANSIENT
+from tpmsim.standard import PCRS, policy, Profile, RH_NULL, Short, sized, TRANSIENT
 from tpmsim.standard.aes_tables import encrypt_block
 
 T = TypeVar("T")
 
-MAGIC, VERSION = b"TPMS", 2
+MAGIC = b"TPMS"
 
-# In version 1, the layer has two numbers for each object: the number of its context, and the number
-# of its flush. A text of version 1 may contain an object that was flushed but whose context could
-# still be loaded. Such an object is left out when the text is read.
+# The version of each profile. Texts of version 1 are refused by this version's fault, after the
+# checks of the frame.
 VERSION_1 = 1
-VERSIONS = VERSION_1, VERSION
+VERSIONS = {Profile.SYMMETRIC: 2, Profile.COMPLETE: 3}
+PROFILES = {number: profile for profile, number in VERSIONS.items()}
+NUMBERS = {(MAGIC, it): it for it in (VERSION_1, *PROFILES)}
 
 # The protections and the demands. The index of each one is its encoding.
 PROTECTIONS = None, TRIES, LOCKOUT_AUTH
@@ -60,15 +61,15 @@ class Layer:
 
 
 def state_text(device: Model, layer: Layer | None = None) -> bytes:
-    return framed(device_text(device) + optional_layer_text(layer))
+    return framed(device_text(device) + optional_layer_text(layer), device.profile)
 
 
-def framed(body: bytes) -> bytes:
-    return image.digested(VERSION, body, MAGIC)
+def framed(body: bytes, profile: Profile = Profile.SYMMETRIC) -> bytes:
+    return image.digested(VERSIONS[profile], body, MAGIC)
 
 
 def device_text(device: Model) -> bytes:
-    kept = image.VERSION_2.limits + image.body_text(device)
+    kept = image.WRITTEN[device.profile].limits + image.body_text(device)
     return kept + b"".join(
         (
             number(device.started, 1),
@@ -146,27 +147,24 @@ def layer_text(layer: Layer) -> bytes:
 
 
 # Reading a state text. Bytes that are not a state text have the same faults, found in the same
-# order, as bytes that are not an image.
+# order, as bytes that are not an image. A text of version 1 has the fault Earlier instead of Body.
 
 
 def open_state(
     text: bytes, block_cipher: aes.BlockCipher = encrypt_block
 ) -> tuple[Model, Layer | None]:
-    version, body = image.within_frame(text, MAGIC, VERSIONS)
-    device = Model(block_cipher=block_cipher)
+    version, body = image.within_frame(text, NUMBERS)
+    if version == VERSION_1:
+        raise image.Fault("Earlier")
+    device = Model(block_cipher=block_cipher, profile=PROFILES[version])
     try:
         fields = Parameters(body)
         read_device(fields, device)
-        layer = read_optional_layer(fields, device, version)
+        layer = read_optional_layer(fields)
         fields.end()
     except (Refusal, Short):
         raise image.Fault("Body") from None
     return device, layer
-
-
-def is_earlier(text: bytes) -> bool:
-    """Returns whether a text begins like a state text of version 1."""
-    return text.startswith(MAGIC + number(VERSION_1, 2))
 
 
 def fault_of(text: bytes) -> str | None:
@@ -186,7 +184,7 @@ def optional(fields: Parameters, read: Callable[[Parameters], T]) -> T | None:
 
 
 def read_device(fields: Parameters, device: Model) -> None:
-    image.read_kept(fields, image.VERSION_2, device)
+    image.read_kept(fields, image.WRITTEN[device.profile], device)
     device.started = yes_no(fields)
     device.banks = {it: [fields.take(digest_bytes(it)) for _ in PCRS] for it in image.BANKS}
     device.update_counter, device.time = fields.number(8), fields.number(8)
@@ -247,27 +245,16 @@ def read_policy(fields: Parameters) -> State:
     )
 
 
-def read_optional_layer(fields: Parameters, device: Model, version: int) -> Layer | None:
-    """Reads the layer, if there is one. In version 1, a layer has no sequence objects."""
-    kind = fields.one_of(1, LAYERS if version == VERSION else (NO_LAYER, LAYER), "VALUE")
+def read_optional_layer(fields: Parameters) -> Layer | None:
+    kind = fields.one_of(1, LAYERS, "VALUE")
     if kind == NO_LAYER:
         return None
-    layer = read_layer(fields, device, version)
+    layer = read_layer(fields)
     if kind == LAYER_WITH_SEQUENCES:
         layer.sequences = sequence_text.read_slots(fields)
     return layer
 
 
-def read_layer(fields: Parameters, device: Model, version: int) -> Layer:
+def read_layer(fields: Parameters) -> Layer:
     start, count = fields.number(8), fields.number(8)
-    if version == VERSION_1:
-        read_flushed(fields, device)
     return Layer(start, count, [fields.number(8) for _ in range(SESSIONS)])
-
-
-def read_flushed(fields: Parameters, device: Model) -> None:
-    """Reads the layer's two numbers for each object, and removes the objects that were flushed."""
-    for place in range(OBJECTS):
-        _, flushed = fields.number(8), fields.number(8)
-        if flushed:
-            device.objects.pop(TRANSIENT << 24 | place, None)

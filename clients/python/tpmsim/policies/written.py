@@ -10,7 +10,8 @@ from typing import Any, Callable, Sequence
 from tpmsim.faults import TpmsimError
 from tpmsim.policies.pcr_values import PcrValues, read_values
 from tpmsim.standard import CC, digest, DIGEST_BYTES, digest_bytes, Fields, frames, HIERARCHIES
-from tpmsim.standard import Kind, name_of, number, NUMBERED, PCRS, SHA1, SHA256, sized, values
+from tpmsim.standard import Kind, name_of, NAMED, number, NUMBERED, PCRS, SHA1, SHA256, sized
+from tpmsim.standard import values
 from tpmsim.standard.given import OPERATIONS, write_in_order
 from tpmsim.standard.lines import bytes_of, HANDLE_NAMES, handle_word, hex_word, number_up_to, WORDS
 from tpmsim.standard.lines import Wrong
@@ -93,7 +94,7 @@ def read_digest(word: bytes) -> bytes:
 def read_code(word: bytes) -> int:
     """Reads a command's name or its number."""
     name = word.decode("latin-1")
-    return int(CC[name]) if name in CC.__members__ else number_up_to(2**32 - 1, word)
+    return int(CC[name]) if name in NAMED else number_up_to(2**32 - 1, word)
 
 
 def code_word(code: int) -> str:

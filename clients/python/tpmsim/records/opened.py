@@ -9,6 +9,7 @@ from dataclasses import dataclass
 from tpmsim.model import image, state_text
 from tpmsim.model.completion import Completion
 from tpmsim.model.machine import Model
+from tpmsim.standard import Profile
 
 
 @dataclass
@@ -30,7 +31,7 @@ def opened(text: bytes, start: int = 0) -> Opened:
     which a completing layer that starts here identifies its contexts.
     """
     if not is_state_text(text):
-        return Opened(image.open_image(text), Completion(start))
+        return Opened(image.open_image(text, profiles=Profile), Completion(start))
     device, layer = state_text.open_state(text)
     return Opened(device, Completion.of(layer) if layer else Completion(start), True)
 
@@ -53,4 +54,5 @@ def is_cycled(device: Model, text: bytes) -> bool:
     """Whether a state text is that of this device after a power cycle. A restarted journal begins
     with such a text.
     """
-    return is_state_text(text) and goes_on(image.open_image(image.image(device)), text)
+    cycled = image.open_image(image.image(device), profiles=Profile)
+    return is_state_text(text) and goes_on(cycled, text)

@@ -8,7 +8,6 @@ import re
 from dataclasses import dataclass, field, replace
 from typing import Iterator
 
-from tpmsim.model import state_text
 from tpmsim.model.player import BadLine, LINE_BYTES, LINES, RANDOM_BYTES, Words
 from tpmsim.records.drawn import drawn_of
 from tpmsim.records.marks import HeadMark, Mark, OFFSET_BASIS, sum_from
@@ -29,10 +28,6 @@ COMMANDS = b"cmd", b"do "
 
 DAMAGED_HEAD = "the head is damaged: its sums are others"
 OTHER_KIND = "the head is damaged: it holds {}"
-EARLIER_HEAD = (
-    "the head holds a state text of version 1: an earlier version executed the commands, and its "
-    "contexts cannot be loaded"
-)
 DAMAGED_MARK = "the record is damaged: the sum of its mark is another one"
 OTHER_LINES = "the record is damaged: its lines are not those of its mark"
 
@@ -257,4 +252,4 @@ def damage_of(mark: HeadMark, content: bytes) -> str:
         return DAMAGED_HEAD
     if mark.is_state != is_state_text(content):
         return OTHER_KIND.format("an image" if mark.is_state else "a state text")
-    return EARLIER_HEAD if state_text.is_earlier(content) else ""
+    return ""

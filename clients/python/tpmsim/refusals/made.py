@@ -14,7 +14,7 @@ from tpmsim.refusals.general import GENERAL, HEADERS
 from tpmsim.refusals.own import OWN
 from tpmsim.refusals.stage import PlainDevice, Stage
 from tpmsim.standard import CC
-from tpmsim.standard.rows import AnyRow, HEADER_ROWS, Row, rows_of, UNKNOWN
+from tpmsim.standard.rows import AnyRow, Row, rows_named
 
 
 @dataclass(frozen=True)
@@ -32,14 +32,14 @@ class Refusal:
     @property
     def script(self) -> list[str]:
         """The lines of a script whose last command is refused."""
-        return [line(it).rstrip() for it in (*self.before, self.buffer)]
+        return [line(it, self.row.profile).rstrip() for it in (*self.before, self.buffer)]
 
     @property
     def state(self) -> bytes:
         """The state text of the device before the command."""
         if self.far:
             return self.far
-        with PlainDevice() as device:
+        with PlainDevice(self.row.profile) as device:
             for it in self.before:
                 device.execute(it)
             return bytes(device.snapshot())
@@ -53,7 +53,7 @@ class Refusal:
 
 def is_refused(row: AnyRow, before: tuple[bytes, ...], buffer: bytes) -> bool:
     """Whether a new device refuses a command as a row says, after the commands before it."""
-    with PlainDevice() as device:
+    with PlainDevice(row.profile) as device:
         for it in before:
             device.execute(it)
         return is_row(row, device, buffer)
@@ -94,26 +94,6 @@ def shortened(refusal: Refusal) -> Refusal:
         if not refusal.far and is_refused(row, less, refusal.buffer):
             before = less
     return Refusal(row, before, refusal.buffer, refusal.far)
-
-
-def rows_named(command: str, check: str = "", code: str = "") -> list[AnyRow]:
-    """Returns the rows of a command, of one of its checks, or with one response code, by their
-    names. Raises BadValue if there is none.
-    """
-    rows: tuple[AnyRow, ...] = HEADER_ROWS
-    if command != UNKNOWN:
-        names = [it.name for it in CC]
-        if command not in names:
-            raise BadValue("command", command, f"one of {', '.join(names)}")
-        rows = rows_of(CC[command])
-    of_check = [it for it in rows if check in ("", it.check)]
-    found = [it for it in of_check if code in ("", it.code_name)]
-    if not of_check:
-        checks = dict.fromkeys(it.check for it in rows)
-        raise BadValue("check", check, f"one of {', '.join(checks)}")
-    if not found:
-        raise BadValue("code", code, f"one of {', '.join(it.code_name for it in of_check)}")
-    return found
 
 
 def refusal(command: str, check: str, code: str = "") -> Refusal:

@@ -14,6 +14,9 @@ Options:
       --state FILE  Write the state text of a device to FILE, and print only the refused command
   -h, --help        Print help
 
+The list has the commands of both profiles (docs/table/README.md). Some commands are served only by
+a device of the complete profile; a script of such a command begins with a comment that says so.
+
 The kinds: state depends on what the device is or contains, so a correct client can get it; value
 depends on a parameter's value; session is like state, in the second or third entry of a command;
 form depends on the bytes alone.
@@ -22,23 +25,21 @@ The exit status is 0, or 2 if there is no such refusal or FILE cannot be written
 """
 
 import argparse
-import os
-import pathlib
 import sys
 
 from tpmsim.device.base import line_in_bytes
+from tpmsim.device.told import ModelDevice
 from tpmsim.explain.main import tell, Usage
-from tpmsim.explain.of_device import why_refused
+from tpmsim.explain.of_device import log_of, why_refused
 from tpmsim.faults import TpmsimError
 from tpmsim.refusals.arguments import Arguments
-from tpmsim.refusals.made import made, Refusal, rows_named, shortened
+from tpmsim.refusals.made import made, Refusal, shortened
 from tpmsim.refusals.words import line_of, sentence_of
-from tpmsim.standard.rows import AnyRow, every_row, Kind
+from tpmsim.refuse.state_file import write_state
+from tpmsim.standard import Profile
+from tpmsim.standard.rows import AnyRow, every_row, Kind, rows_named
 
 NAME = "tpmsim-refusals"
-
-# The mode of a file that contains all secrets of a device.
-OWNER_ALONE = 0o600
 
 
 def arguments() -> Arguments:
@@ -61,23 +62,30 @@ def rows_asked(given: argparse.Namespace) -> list[AnyRow]:
     return [it for it in found if given.only in (None, it.kind.value)]
 
 
+def reason_of(refused: Refusal) -> str:
+    """Returns why the last command of a refusal's script is refused. A script for a device of the
+    complete profile is explained from the state before that command.
+    """
+    script = refused.script
+    if refused.row.profile == Profile.SYMMETRIC:
+        return why_refused("".join(f"{it}\n" for it in script).encode("ascii"))
+    with ModelDevice() as device:
+        device.restore(refused.state)
+        device.execute(refused.buffer)
+        _, line, words = why_refused(log_of(device)).partition(": ")
+    return f"line {len(script)}{line}{words}" if words else ""
+
+
 def script_of(refused: Refusal) -> list[str]:
     """Returns a script of the refusal, with the reason in comments before its last command."""
     if refused.far:
         raise Usage("no script reaches this refusal; --state FILE writes a device that gives it")
-    log = "".join(f"{it}\n" for it in refused.script)
-    words = why_refused(log.encode("ascii")) or sentence_of(refused.row)
-    reason = [f"# {it}".rstrip() for it in words.splitlines()]
-    return [*refused.script[:-1], *reason, refused.script[-1]]
-
-
-def write_state(refused: Refusal, path: str) -> list[str]:
-    """Writes the device before the refusal to a file, and returns the command's line."""
-    file = pathlib.Path(path)
-    file.touch(OWNER_ALONE)
-    os.chmod(file, OWNER_ALONE)
-    file.write_bytes(refused.state)
-    return [line_in_bytes(refused.buffer)]
+    script, head = refused.script, list[str]()
+    if refused.row.profile == Profile.COMPLETE:
+        head = ["# A script for a device of the complete profile: tpmsim run --complete"]
+    words = reason_of(refused) or sentence_of(refused.row)
+    reason = (f"# {it}".rstrip() for it in words.splitlines())
+    return [*head, *script[:-1], *reason, script[-1]]
 
 
 def said(given: argparse.Namespace) -> list[str]:
@@ -88,7 +96,10 @@ def said(given: argparse.Namespace) -> list[str]:
             raise Usage(f"--state needs one refusal, and {len(rows)} have these names")
         return [line_of(it) for it in rows]
     refused = shortened(made(rows[0]))
-    return write_state(refused, given.state) if given.state else script_of(refused)
+    if not given.state:
+        return script_of(refused)
+    write_state(given.state, refused.state)
+    return [line_in_bytes(refused.buffer)]
 
 
 def main(*words: str) -> int:

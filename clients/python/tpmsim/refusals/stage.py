@@ -4,10 +4,12 @@ example of the command needs.
 
 from tpmsim.caller.caller import Caller
 from tpmsim.caller.entries import Prepared, Refused, Session, wrong
-from tpmsim.caller.examples import EXAMPLES, Scene
+from tpmsim.caller.examples import COMPLETE_EXAMPLES, EXAMPLES, Scene
 from tpmsim.caller.templates import area, BY_OWNER, BY_VALUE
 from tpmsim.device.told import ModelDevice, RANDOM_BYTES
-from tpmsim.standard import CC, HandleKind
+from tpmsim.model.machine import MANUFACTURED, Model
+from tpmsim.standard import CC, Fact, HandleKind, Profile
+from tpmsim.standard.aes_tables import encrypt_block
 from tpmsim.standard.nv import Attribute
 
 # The commands with these handles use an NV index.
@@ -20,6 +22,9 @@ PIN, PIN_VALUE, MOST_TRIES = 0x0100_0010, b"pin", 3
 class PlainDevice(ModelDevice):
     """A device that draws zeros, as the device of a script without `entropy` does."""
 
+    def __init__(self, profile: Profile = Profile.SYMMETRIC) -> None:
+        super().__init__(Model(MANUFACTURED, encrypt_block, profile))
+
     def drawn(self) -> bytes:
         return bytes(RANDOM_BYTES)
 
@@ -28,7 +33,9 @@ class Stage(Scene):
     """A scene for one command, in which the nonces of the caller are zeros too."""
 
     def __init__(self, command: CC) -> None:
-        self.command, self.device = command, PlainDevice()
+        is_complete = command.has(Fact.COMPLETE_ONLY)
+        profile = Profile.COMPLETE if is_complete else Profile.SYMMETRIC
+        self.command, self.device = command, PlainDevice(profile)
         super().__init__(Caller(self.device, bytes), self.device.power_cycle)
         if command == CC.Startup:
             return
@@ -38,7 +45,7 @@ class Stage(Scene):
 
     def example(self) -> Prepared:
         """Returns the example of the command, which the device would accept."""
-        return EXAMPLES[self.command](self)
+        return (EXAMPLES | COMPLETE_EXAMPLES)[self.command](self)
 
     def pin(self) -> int:
         """Defines an index with a protected authorization value."""

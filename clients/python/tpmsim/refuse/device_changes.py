@@ -10,12 +10,13 @@ from tpmsim.model.machine import HANDLE_KINDS, Model, PLACE_BITS, SESSIONS
 from tpmsim.model.nv_commands import ALL_BYTES, Index, INDEX_BYTES, INDICES
 from tpmsim.model.object_commands import OBJECTS
 from tpmsim.model.object_rules import loaded, Object, Sensitive
+from tpmsim.model.pcrs import LAST_COUNTER
 from tpmsim.model.persistent import is_persistent, PERSISTENT_OBJECTS
 from tpmsim.model.protection import LOCKOUT_AUTH
-from tpmsim.model.state import Saved
+from tpmsim.model.state import LAST_SET_TIME, Saved
 from tpmsim.refuse.change import Asked, Change, hexed, OTHER_VALUE
 from tpmsim.standard import ALG_NULL, CC, digest, first_byte, HIERARCHIES, is_pcr, KEYEDHASH
-from tpmsim.standard import name_of, number, NV, nv, RH_LOCKOUT, RH_NULL, RH_OWNER
+from tpmsim.standard import name_of, number, NUMBERED, NV, nv, RH_LOCKOUT, RH_NULL, RH_OWNER
 from tpmsim.standard import SE_HMAC, SHA256, TRANSIENT
 from tpmsim.standard.objects import Attribute, Public
 
@@ -24,6 +25,9 @@ TAKEN_FROM, KEPT_FROM = 0x01F0_0000, 0x817F_0000
 
 # A recovery time in seconds, so that failed tries lock the device.
 RECOVERY = 1000
+
+# The commands that the update counter of the PCRs counts.
+COUNTED = CC.PCR_Extend, CC.PCR_Event, CC.PCR_Reset, CC.Clear
 
 # The size of a nonce of a session that only takes a slot.
 NONCE_BYTES = 16
@@ -101,8 +105,8 @@ def persistent_full(model: Model) -> None:
         put_object(model, handle)
 
 
-def of_power(model: Model) -> Iterator[Change]:
-    """Yields changes of whether the device is started, and of what it saved."""
+def of_power(model: Model, asked: Asked) -> Iterator[Change]:
+    """Yields changes of whether the device is started, of what it saved, and of its counters."""
     if model.started:
         yield Change(
             "no TPM2_Startup since a power cycle", lambda it: setattr(it, "started", False)
@@ -111,6 +115,11 @@ def of_power(model: Model) -> Iterator[Change]:
         yield Change("TPM2_Startup came already", lambda it: setattr(it, "started", True))
     if model.saved == Saved.STATE:
         yield Change("no state is saved", lambda it: setattr(it, "saved", Saved.NONE))
+    if asked.code in COUNTED:
+        words = "the update counter of the PCRs is at its end"
+        yield Change(words, lambda it: setattr(it, "update_counter", LAST_COUNTER))
+    if asked.code == CC.ClockSet:
+        yield Change("Clock is at its end", lambda it: setattr(it, "clock", LAST_SET_TIME))
 
 
 def of_protections(model: Model, asked: Asked) -> Iterator[Change]:
@@ -137,7 +146,7 @@ def of_pcrs(asked: Asked) -> Iterator[Change]:
 
 def of_slots(asked: Asked) -> Iterator[Change]:
     """Yields changes that take what the command would allocate."""
-    if asked.code in (CC.CreatePrimary, CC.Load) or asked.code not in list(CC):
+    if asked.code in (CC.CreatePrimary, CC.Load) or asked.code not in NUMBERED:
         yield Change("all slots for objects are taken", objects_full)
     if asked.code == CC.StartAuthSession:
         yield Change("all slots for sessions are taken", sessions_full)
@@ -165,14 +174,6 @@ def of_eviction(asked: Asked) -> Iterator[Change]:
         words = f"{hexed(handle)} is taken"
         yield Change(words, functools.partial(put_object, handle=handle))
     yield Change("all persistent objects are taken", persistent_full)
-
-
-def of_device(model: Model, asked: Asked) -> Iterator[Change]:
-    """Yields the changes of the device as a whole, the least first."""
-    yield from of_slots(asked)
-    yield from of_pcrs(asked)
-    yield from of_protections(model, asked)
-    yield from of_power(model)
 
 
 def of_hierarchies(asked: Asked) -> Iterator[Change]:

@@ -13,9 +13,12 @@ from tpmsim.model import image, state_text
 from tpmsim.model.completion import Completion, CONTEXT_LOAD, CONTEXT_SAVE, STIR_RANDOM
 from tpmsim.model.general import HEADER_CHECKS
 from tpmsim.model.machine import Model
+from tpmsim.model.protection import TRIES
 from tpmsim.refuse import device_changes, entity_changes, session_changes
 from tpmsim.refuse.change import Asked, Change
-from tpmsim.standard import frames, NUMBERED
+from tpmsim.refuse.reasons import reason_of
+from tpmsim.standard import ALL_NUMBERED, CC, frames
+from tpmsim.standard.rows import rows_of
 
 # The check of a response that the completing layer makes itself.
 LAYER = "layer"
@@ -65,7 +68,7 @@ class Event:
 def name_of(buffer: bytes) -> str:
     """Returns the name of a buffer's command; its number in hex if it is unknown here."""
     number = int.from_bytes(buffer[6:10], "big")
-    own = NUMBERED[number].name if number in NUMBERED else f"{number:08x}"
+    own = ALL_NUMBERED[number].name if number in ALL_NUMBERED else f"{number:08x}"
     return LAYER_NAMES.get(number, own)
 
 
@@ -128,7 +131,7 @@ def single(model: Model, asked: Asked, locality: int) -> Iterator[Change]:
     yield from session_changes.of_sessions(model, asked, locality)
     yield from device_changes.of_protections(model, asked)
     yield from entity_changes.names(model, asked)
-    yield from device_changes.of_power(model)
+    yield from device_changes.of_power(model, asked)
 
 
 def several(model: Model, asked: Asked) -> Iterator[Change]:
@@ -137,27 +140,29 @@ def several(model: Model, asked: Asked) -> Iterator[Change]:
     """
     protections = list(entity_changes.protections(model, asked))
     demands = list(session_changes.demands(model, asked))
-    firsts = [*protections, *session_changes.bindings(model, asked), *demands]
+    firsts = [*protections, *session_changes.bindings(model, asked, TRIES), *demands]
     firsts += [one.then(other) for one, other in itertools.product(demands, protections)]
     seconds = [*entity_changes.values(model, asked), *device_changes.of_protections(model, asked)]
     for first, second in itertools.product(firsts, seconds):
         yield first.then(second)
 
 
-def tried(text: bytes, event: Event) -> Iterator[Found]:
-    """Yields the row that a command meets in the state of `text`, and after each change of it. A
-    change that leads to an impossible state is left out.
-    """
-    model, layer = state_text.open_state(text)
+def changes_of(text: bytes, event: Event) -> Iterator[Change]:
+    """Yields the changes of the state in `text` that are tried for a command, the least first."""
+    model, _ = state_text.open_state(text)
     asked = Asked.of(event.buffer, model)
-    unchanged = Change("", lambda it: None)
-    changes = itertools.chain(
-        [unchanged], single(model, asked, event.locality), several(model, asked)
-    )
-    for change in changes:
-        found = after(text, event, change)
-        if found is not None:
-            yield found
+    yield Change("", lambda it: None)
+    yield from single(model, asked, event.locality)
+    yield from several(model, asked)
+
+
+def tried(text: bytes, event: Event, words: str | None = None) -> Iterator[Found]:
+    """Yields the row that a command meets in the state of `text`, and after each change of it; with
+    `words`, only after the changes that have these words. A change that leads to an impossible
+    state is left out.
+    """
+    changes = (it for it in changes_of(text, event) if words in (None, it.words))
+    yield from filter(None, (after(text, event, it) for it in changes))
 
 
 def after(text: bytes, event: Event, change: Change) -> Found | None:
@@ -194,16 +199,38 @@ def authorized(text: bytes, event: Event, change: Change) -> Met:
     return executed(model, layer, event)
 
 
-def rows_from_start(start: bytes, text: bytes, event: Event) -> list[Found]:
-    """Returns refusals that a command in the state `text` would meet if a Name had been another one
-    since the state `start`, where the client began. The text of each is the changed `start`. The
-    row is only expected, since the client may act otherwise.
+def later(text: bytes, event: Event, change: Change) -> Met:
+    """Returns the row that a command meets after a change that leaves Names."""
+    model, layer = state_text.open_state(text)
+    change.act(model)
+    return executed(model, layer, event)
+
+
+def lasting(model: Model, asked: Asked) -> Iterator[Change]:
+    """Yields changes that leave Names, and that a device may have from the start of a run."""
+    yield from device_changes.of_slots(asked)
+    yield from device_changes.of_pcrs(asked)
+    yield from entity_changes.values(model, asked)
+    yield from device_changes.of_hierarchies(asked)
+    yield from device_changes.of_protections(model, asked)
+
+
+def rows_from_start(
+    start: bytes, text: bytes, event: Event, names_alone: bool = True
+) -> list[Found]:
+    """Returns refusals that a command in the state `text` would meet if a Name, or with
+    `names_alone` False something else, had been another one since the state `start`, where the
+    client began. The text of each is the changed `start`. The row is only expected, since the
+    client may act otherwise.
     """
     asked = Asked.of(event.buffer, state_text.open_state(text)[0])
     model, layer = state_text.open_state(start)
+    tries = [(authorized, it) for it in entity_changes.names(model, asked)]
+    if not names_alone:
+        tries += [(later, it) for it in lasting(model, asked)]
     found = dict[Met, Found]()
-    for change in entity_changes.names(model, asked):
-        met = authorized(text, event, change)
+    for row_after, change in tries:
+        met = row_after(text, event, change)
         if not met.is_refusal or met in found:
             continue
         changed, _ = state_text.open_state(start)
@@ -214,14 +241,26 @@ def rows_from_start(start: bytes, text: bytes, event: Event) -> list[Found]:
     return list(found.values())
 
 
-def found(text: bytes, event: Event, wanted: Wanted) -> Found:
+def found(text: bytes, event: Event, wanted: Wanted, words: str = "") -> Found:
     """Returns the least change under which a command meets a row; raises Unrefusable if there is
-    none.
+    none. The change with these words is tried first.
     """
-    count, now = 0, None
+    if words:
+        for it in tried(text, event, words):
+            if wanted.is_met(it.met):
+                return it
+    now, count = None, -1
     for count, it in enumerate(tried(text, event)):
         now = now or it.met
         if wanted.is_met(it.met):
             return it
-    words = f"{event.name} cannot be refused by {wanted} here: it meets {now}"
-    raise Unrefusable(f"{words}, and none of {count} changes of the state makes it meet {wanted}")
+    raise Unrefusable(why_unrefusable(event, wanted, f"it meets {now}", count))
+
+
+def why_unrefusable(event: Event, wanted: Wanted, now: str, count: int) -> str:
+    """Returns why no change was found, of `count` ones that were tried."""
+    words = f"{event.name} cannot be refused by {wanted} here: {now}"
+    words += f", and none of {count} changes of the state makes it meet {wanted}"
+    rows = rows_of(CC[event.name]) if event.name in CC.__members__ else ()
+    reasons = {reason_of(it) for it in rows if wanted.is_met(Met(it.check, it.code))}
+    return f"{words}; {reasons.pop()}" if len(reasons) == 1 and all(reasons) else words

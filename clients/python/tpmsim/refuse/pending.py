@@ -4,10 +4,8 @@ from __future__ import annotations
 
 from dataclasses import dataclass
 
-from tpmsim.faults import BadValue
-from tpmsim.refuse.finding import Event, Found, found, Met, name_of, Wanted
-from tpmsim.standard import CC
-from tpmsim.standard.rows import rows_of
+from tpmsim.refuse.finding import Event, Found, found, name_of, Wanted
+from tpmsim.standard.rows import name_of_code, rows_named
 
 
 @dataclass
@@ -26,13 +24,8 @@ class Pending:
 
     def add(self, command: str, check: str, code: int | str | None) -> None:
         """Adds a refusal; raises BadValue if the table has none such for this command."""
-        if command not in CC.__members__:
-            raise BadValue("command", command, "the name of a command in Part 3")
-        wanted = Wanted.of(check, code)
-        rows = [it for it in rows_of(CC[command]) if wanted.is_met(Met(it.check, it.code))]
-        if not rows:
-            raise BadValue("check", str(wanted), f"a check and a code of {command} in docs/table")
-        self.asked.append(Asked(command, wanted))
+        rows_named(command, check, name_of_code(code) if isinstance(code, int) else code or "")
+        self.asked.append(Asked(command, Wanted.of(check, code)))
 
     def met(self, text: bytes, event: Event) -> Found | None:
         """Returns the change under which a command meets the first refusal that was asked for it;

@@ -2,6 +2,7 @@
 
 from __future__ import annotations
 
+import itertools
 from typing import Any, Iterator
 
 from tpmsim.model.machine import HANDLE_KINDS, Model, PLACE_BITS
@@ -66,19 +67,19 @@ def of_keys(handle: int, session: Session) -> Iterator[Change]:
         yield on_session("has no cipher", handle, cipher=ALG_NULL, masks=None)
 
 
-def bound(handle: int, session: Session) -> Change:
-    """Returns the change after which a session is bound to a protected value, with another key."""
-    words = "is bound to a protected value"
+def bound(handle: int, session: Session, protection: str | None) -> Change:
+    """Returns the change after which a session is bound to a value, with another key."""
+    words = "is bound to a protected value" if protection else "is bound to a free value"
     key = digest(session.algorithm, OTHER_VALUE)
-    fields = {"is_bound": True, "key": key, "bind_auth": OTHER_VALUE, "bind_protection": TRIES}
-    return on_session(words, handle, **fields)
+    fields = {"is_bound": True, "key": key, "bind_auth": OTHER_VALUE}
+    return on_session(words, handle, **fields, bind_protection=protection)
 
 
-def bindings(model: Model, asked: Asked) -> Iterator[Change]:
-    """Yields a change that binds each session of an entry to a protected value."""
-    for entry in asked.entries:
+def bindings(model: Model, asked: Asked, *protections: str | None) -> Iterator[Change]:
+    """Yields changes that bind each session of an entry to a value with each protection."""
+    for entry, protection in itertools.product(asked.entries, protections):
         if entry.handle in model.sessions:
-            yield bound(entry.handle, model.sessions[entry.handle])
+            yield bound(entry.handle, model.sessions[entry.handle], protection)
 
 
 def demands(model: Model, asked: Asked) -> Iterator[Change]:
@@ -132,4 +133,4 @@ def of_sessions(model: Model, asked: Asked, locality: int) -> Iterator[Change]:
             yield from of_policy(handle, session, locality)
         yield from of_keys(handle, session)
         yield of_other_kind(handle, session)
-    yield from bindings(model, asked)
+    yield from bindings(model, asked, None, TRIES)

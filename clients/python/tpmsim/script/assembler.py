@@ -4,9 +4,9 @@ from typing import Sequence
 
 from tpmsim.caller import Knowledge, Prepared, Response, Session, Use
 from tpmsim.script.names import Bad, Token
-from tpmsim.standard import ALG_NULL, CC, CONTINUE_SESSION, DECRYPT, ENCRYPT, Fields
-from tpmsim.standard import first_byte, frames, HEADER_BYTES, is_policy, lines, NUMBERED, policy
-from tpmsim.standard import RS_PW, SESSIONS, TRANSIENT, trimmed
+from tpmsim.standard import ALG_NULL, CC, CONTINUE_SESSION, DECRYPT, ENCRYPT, Fields, first_byte
+from tpmsim.standard import frames, HEADER_BYTES, is_policy, lines, NAMED, NUMBERED, policy, RS_PW
+from tpmsim.standard import SESSIONS, TRANSIENT, trimmed
 from tpmsim.standard.values import read_all
 
 # What may follow the session in an entry: the authorization value of its entity, and words for its
@@ -69,7 +69,7 @@ def bad_line(fault: lines.Fault, given: Sequence[str], tokens: Sequence[Token]) 
     """
     name, *columns = str(fault).split()
     form = tokens[0].text
-    words = f"{name}: {lines.form_of(CC[form])}" if form in CC.__members__ else name
+    words = f"{name}: {lines.form_of(CC[form])}" if form in NAMED else name
     if name == lines.MISSING:
         return Bad(tokens[-1].column + len(tokens[-1].text), words)
     at = int(columns[0]) if columns else 1

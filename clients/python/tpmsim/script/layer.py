@@ -12,7 +12,7 @@ from tpmsim.model.player import BadLine, hex_bytes, LINE_BYTES, Words
 from tpmsim.script.assembler import Assembler, in_bytes, is_computed, value_of
 from tpmsim.script.names import Bad, Names, Token, tokens_of
 from tpmsim.script.own_device import OwnDevice
-from tpmsim.standard import CC, lines, Short
+from tpmsim.standard import CC, lines, NAMED, Short
 from tpmsim.standard.lines import handle_of, handle_word, WORDS, Wrong
 
 WANTED = "do, cmd, loc, wait, entropy, power, let or auth"
@@ -188,7 +188,7 @@ class Layer:
         if text.startswith('"') and text.endswith('"') and len(text) > 1:
             return lines.hex_word(in_bytes(text[1:-1]))
         command, dot, field = text.partition(".")
-        if not dot or command not in CC.__members__:
+        if not dot or command not in NAMED:
             raise Bad(given.column, f"a value is COMMAND.FIELD, or a text in quotes, not {text}")
         answer = self.answers.get(CC[command])
         if answer is None:

@@ -1,5 +1,4 @@
-"""tpmsim-script [--socket PATH] [--trace] [-o FILE] SCRIPT: plays a layered script, and writes the
-plain one.
+"""Play a layered script, and write the plain one.
 
 A layered script has the lines of a script (do, cmd, loc, wait, entropy, power), and also
     let NAME = COMMAND.FIELD    a field of the last response to a command, by its name in Part 3
@@ -51,10 +50,16 @@ def run() -> int:
         description=__doc__,
         formatter_class=argparse.RawDescriptionHelpFormatter,
     )
-    words.add_argument("script", metavar="SCRIPT", help="a file, or - for standard input")
-    words.add_argument("-o", "--output", default="-", metavar="FILE", help="where it is written")
-    words.add_argument("--socket", metavar="PATH", help="the socket of a served device")
-    words.add_argument("--trace", action="store_true", help="each trace, as a comment")
+    words.add_argument("script", metavar="SCRIPT", help="A file, or - for standard input")
+    words.add_argument(
+        "-o",
+        "--output",
+        default="-",
+        metavar="FILE",
+        help="Write to FILE [default: standard output]",
+    )
+    words.add_argument("--socket", metavar="PATH", help="Use the device served at PATH")
+    words.add_argument("--trace", action="store_true", help="Write each trace, as a comment")
     given = words.parse_args()
     try:
         with device_of(given.socket) as device:

@@ -2,7 +2,8 @@
 and computations.
 """
 
-from tpmsim.standard.commands import CC, Fact, Handle, HandleKind, Kind, NUMBERED, Parameter
+from tpmsim.standard.commands import ALL_NUMBERED, CC, Fact, Handle, HandleKind, Kind, NAMED
+from tpmsim.standard.commands import NUMBERED, Parameter, Profile
 from tpmsim.standard.frames import AES, ALG_HMAC, ALG_NULL, area, CFB, command, COMMAND_BYTES
 from tpmsim.standard.frames import CONTINUE_SESSION, DECRYPT, digests, ENCRYPT, Entry, entry
 from tpmsim.standard.frames import HEADER_BYTES, HMAC_SESSION, KEYEDHASH, MOST_ENTRIES, number, NV
@@ -18,14 +19,16 @@ from tpmsim.standard.sessions import HASHES, kdfa, mac, name_of, trimmed
 
 # fmt: off
 __all__ = [
-    "AES", "ALG_HMAC", "ALG_NULL", "area", "CC", "CFB", "command", "COMMAND_BYTES",
-    "command_hash", "CONTINUE_SESSION", "DECRYPT", "digest", "DIGEST_BYTES", "digest_bytes",
-    "digests", "ENCRYPT", "Entry", "entry", "Fact", "Fields", "first_byte", "Handle", "HandleKind",
-    "HASHES", "HASH_WORDS", "HEADER_BYTES", "HIERARCHIES", "HMAC_SESSION", "is_index", "is_pcr",
-    "is_policy", "is_session", "kdfa", "KEYEDHASH", "Kind", "mac", "MOST_ENTRIES", "name_of",
-    "number", "NUMBERED", "NV", "on_handle", "on_handles", "Parameter", "PCRS", "PERSISTENT",
-    "POLICY_SESSION", "policy_secret", "RH_ENDORSEMENT", "RH_LOCKOUT", "RH_NULL", "RH_OWNER",
-    "RH_PLATFORM", "RS_PW", "SE_HMAC", "SE_POLICY", "SE_TRIAL", "selection", "SESSIONS", "SHA1",
-    "SHA256", "Short", "sized", "start_auth_session", "SYMCIPHER", "TRANSIENT", "trimmed", "XOR"
+    "AES", "ALG_HMAC", "ALG_NULL", "ALL_NUMBERED", "area", "CC", "CFB", "command",
+    "COMMAND_BYTES", "command_hash", "CONTINUE_SESSION", "DECRYPT", "digest",
+    "digest_bytes", "DIGEST_BYTES", "digests", "ENCRYPT", "Entry", "entry", "Fact",
+    "Fields", "first_byte", "Handle", "HandleKind", "HASH_WORDS", "HASHES", "HEADER_BYTES",
+    "HIERARCHIES", "HMAC_SESSION", "is_index", "is_pcr", "is_policy", "is_session", "kdfa",
+    "KEYEDHASH", "Kind", "mac", "MOST_ENTRIES", "name_of", "NAMED", "number", "NUMBERED",
+    "NV", "on_handle", "on_handles", "Parameter", "PCRS", "PERSISTENT", "policy_secret",
+    "POLICY_SESSION", "Profile", "RH_ENDORSEMENT", "RH_LOCKOUT", "RH_NULL", "RH_OWNER",
+    "RH_PLATFORM", "RS_PW", "SE_HMAC", "SE_POLICY", "SE_TRIAL", "selection", "SESSIONS",
+    "SHA1", "SHA256", "Short", "sized", "start_auth_session", "SYMCIPHER", "TRANSIENT",
+    "trimmed", "XOR"
 ]
 # fmt: on

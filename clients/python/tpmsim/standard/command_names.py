@@ -1,6 +1,6 @@
 """The names of all commands of the standard, implemented or not (Part 2, section 6.5.2, TPM_CC)."""
 
-from tpmsim.standard.commands import NUMBERED
+from tpmsim.standard.commands import ALL_NUMBERED
 
 # The commands that are not implemented here, by number.
 NOT_SERVED = {
@@ -8,21 +8,17 @@ NOT_SERVED = {
     0x121: "HierarchyControl",
     0x124: "ChangeEPS",
     0x125: "ChangePPS",
-    0x128: "ClockSet",
     0x12B: "PCR_Allocate",
     0x12C: "PCR_SetAuthPolicy",
     0x12D: "PP_Commands",
     0x12E: "SetPrimaryPolicy",
     0x12F: "FieldUpgradeStart",
-    0x130: "ClockRateAdjust",
     0x132: "NV_GlobalWriteLock",
     0x133: "GetCommandAuditDigest",
     0x13E: "SequenceComplete",
     0x13F: "SetAlgorithmSet",
     0x140: "SetCommandCodeAuditStatus",
     0x141: "FieldUpgradeData",
-    0x142: "IncrementalSelfTest",
-    0x146: "StirRandom",
     0x147: "ActivateCredential",
     0x148: "Certify",
     0x14A: "CertifyCreation",
@@ -53,15 +49,12 @@ NOT_SERVED = {
     0x177: "VerifySignature",
     0x178: "ECC_Parameters",
     0x179: "FirmwareRead",
-    0x17C: "GetTestResult",
-    0x17D: "Hash",
     0x183: "PCR_SetAuthValue",
     0x184: "NV_Certify",
     0x185: "EventSequenceComplete",
     0x186: "HashSequenceStart",
     0x187: "PolicyPhysicalPresence",
     0x188: "PolicyDuplicationSelect",
-    0x18A: "TestParms",
     0x18B: "Commit",
     0x18D: "ZGen_2Phase",
     0x18E: "EC_Ephemeral",
@@ -85,7 +78,7 @@ NOT_SERVED = {
 }
 
 # The names of all commands, by number.
-NAMES = {**{int(it): it.name for it in NUMBERED.values()}, **NOT_SERVED}
+NAMES = {**{code: it.name for code, it in ALL_NUMBERED.items()}, **NOT_SERVED}
 
 
 def command_name(number: int) -> str:

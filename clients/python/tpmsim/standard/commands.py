@@ -5,9 +5,11 @@ line, how a policy names it, what TPM2_GetCapability returns, and the method tha
 
 from __future__ import annotations
 
+import difflib
 import enum
 import re
 from dataclasses import dataclass
+from typing import Iterable
 
 
 class HandleKind(enum.Enum):
@@ -50,6 +52,9 @@ class Kind(enum.Enum):
     DIGESTS = "Digests"
     CIPHER = "Cipher"
     HASH = "Hash"
+    HIERARCHY = "Hierarchy"
+    ALGORITHMS = "Algorithms"
+    BYTES = "Bytes"
     CAPABILITY = "Capability"
     TICKET = "Ticket"
     TIME = "Time"
@@ -59,17 +64,20 @@ class Fact(enum.Enum):
     """Other properties of a command. NO_SESSIONS: the command takes no entries. ADMIN: the role of
     its handle is ADMIN instead of USER. READS_NV: an NV index that authorizes the command needs the
     attributes for reading instead of those for writing. KEEPS_SAVED: if the command succeeds, the
-    state that a shutdown saved is not discarded.
+    state that a shutdown saved is not discarded. COMPLETE_ONLY: only a device of the complete
+    profile serves the command.
     """
 
     NO_SESSIONS = enum.auto()
     ADMIN = enum.auto()
     READS_NV = enum.auto()
     KEEPS_SAVED = enum.auto()
+    COMPLETE_ONLY = enum.auto()
 
 
 NO_SESSIONS, ADMIN = Fact.NO_SESSIONS, Fact.ADMIN
 READS_NV, KEEPS_SAVED = Fact.READS_NV, Fact.KEEPS_SAVED
+COMPLETE_ONLY = Fact.COMPLETE_ONLY
 
 
 @dataclass(frozen=True)
@@ -135,6 +143,26 @@ class CC(enum.IntEnum):
     )
     GetRandom = 0x17B, "bytesRequested:u16", "randomBytes:Buffer", KEEPS_SAVED
     ReadClock = 0x181, "", "currentTime:Time", NO_SESSIONS, KEEPS_SAVED
+
+    StirRandom = 0x146, "inData:Buffer", "", KEEPS_SAVED, COMPLETE_ONLY
+    GetTestResult = 0x17C, "", "outData:Buffer testResult:code32", KEEPS_SAVED, COMPLETE_ONLY
+    IncrementalSelfTest = (
+        0x142,
+        "toTest:Algorithms",
+        "toDoList:Algorithms",
+        KEEPS_SAVED,
+        COMPLETE_ONLY,
+    )
+    TestParms = 0x18A, "parameters:Bytes", "", KEEPS_SAVED, COMPLETE_ONLY
+    Hash = (
+        0x17D,
+        "data:Buffer hashAlg:Hash hierarchy:Hierarchy",
+        "outHash:Buffer validation:Ticket",
+        KEEPS_SAVED,
+        COMPLETE_ONLY,
+    )
+    ClockSet = 0x128, "@auth:PROVISION newTime:bits64", "", COMPLETE_ONLY
+    ClockRateAdjust = 0x130, "@auth:PROVISION rateAdjust:bits8", "", KEEPS_SAVED, COMPLETE_ONLY
 
     PCR_Extend = 0x182, "@pcrHandle:PCR+ digests:Digests"
     PCR_Event = 0x13C, "@pcrHandle:PCR+ eventData:Buffer", "digests:Digests"
@@ -275,4 +303,26 @@ def begins_with_buffer(parameters: tuple[Parameter, ...]) -> bool:
     return bool(parameters) and parameters[0].kind == Kind.BUFFER
 
 
-NUMBERED: dict[int, CC] = {int(it): it for it in CC}
+class Profile(enum.Enum):
+    """The profile of a device, which determines the commands that the device serves."""
+
+    SYMMETRIC = enum.auto()
+    COMPLETE = enum.auto()
+
+    @property
+    def commands(self) -> dict[int, CC]:
+        """The commands that a device of this profile serves, by number."""
+        return NUMBERED if self == Profile.SYMMETRIC else ALL_NUMBERED
+
+
+def close_name(word: str, names: Iterable[str]) -> str | None:
+    """Returns the name of a command that a word is close to, if there is one."""
+    lower = {it.lower(): it for it in names}
+    close = difflib.get_close_matches(word.removeprefix("TPM2_").lower(), lower, 1)
+    return lower[close[0]] if close else None
+
+
+# All commands, and those of the symmetric profile, by number and by name.
+ALL_NUMBERED: dict[int, CC] = {int(it): it for it in CC}
+NUMBERED: dict[int, CC] = {int(it): it for it in CC if not it.has(COMPLETE_ONLY)}
+NAMED: dict[str, CC] = {it.name: it for it in NUMBERED.values()}

@@ -281,8 +281,9 @@ def creation(sensitive: bytes, public: bytes, outside_info: bytes = b"", pcrs: B
     return sensitive + public + sized(outside_info) + selection(*pcrs)
 
 
-# What a ticket confirms: the creation of an object, or an assertion (Part 2, section 6.9).
-ST_CREATION, ST_AUTH_SECRET = 0x8021, 0x8023
+# What a ticket confirms: the creation of an object, an assertion, or that a digest may be signed
+# (Part 2, section 6.9).
+ST_CREATION, ST_AUTH_SECRET, ST_HASHCHECK = 0x8021, 0x8023, 0x8024
 
 
 def ticket(tag: int, hierarchy: int, digest: bytes) -> bytes:

@@ -37,7 +37,10 @@ NUMBER_WORDS: dict[str, dict[str, int]] = {
 
 # The kinds of parameters whose words are those of docs/SCRIPTS.md. The words of a buffer would be
 # hex, which is easily mistaken for text.
-IN_LINES = (Kind.SELECTION, Kind.DIGESTS, Kind.CIPHER, Kind.HASH)
+IN_LINES = (
+    *(Kind.SELECTION, Kind.DIGESTS, Kind.CIPHER, Kind.HASH, Kind.HIERARCHY),
+    Kind.ALGORITHMS,
+)
 
 # What a parameter accepts, by its kind.
 WANTED = {
@@ -54,6 +57,9 @@ WANTED = {
     Kind.DIGESTS: "pairs of a hash and a digest, or words like 'sha256:00..'",
     Kind.CIPHER: "a Cipher, 'null', 'aes', 'xor-sha1' or 'xor-sha256'",
     Kind.HASH: "an algorithm's number, 'sha1', 'sha256' or 'null'",
+    Kind.HIERARCHY: "a handle",
+    Kind.ALGORITHMS: "a list of algorithms' numbers, or words like '0x4+0xb'",
+    Kind.BYTES: "bytes, or a structure",
 }
 
 # The exceptions that encoding a wrong value raises, for all kinds.

@@ -12,7 +12,7 @@ from typing import Any, Callable, Iterable, TYPE_CHECKING, TypeVar
 
 from tpmsim.faults import TpmsimError
 from tpmsim.standard import frames
-from tpmsim.standard.commands import CC, Kind, NUMBERED
+from tpmsim.standard.commands import ALL_NUMBERED, CC, Kind, Profile
 from tpmsim.standard.frames import AES, ALG_NULL, CONTINUE_SESSION, Entry, RS_PW, SESSIONS, SHA1
 from tpmsim.standard.frames import SHA256, XOR
 from tpmsim.standard.handle_kinds import HANDLES, PCRS
@@ -48,6 +48,9 @@ NOTHING, JOIN = b"-", b"+"
 HEX = re.compile(rb"(?:[0-9A-Fa-f]{2})+")
 HANDLE = re.compile(rb"[0-9A-Fa-f]{8}")
 NUMBER = re.compile(rb"0x([0-9A-Fa-f]+)|([0-9]+)")
+
+# The largest number of an algorithm.
+MOST_ALGORITHM = 0xFFFF
 
 # A number with more digits than this, without leading zeros, is too large for every field.
 MOST_DIGITS = len(str(2**64))
@@ -212,6 +215,11 @@ def digest_of(piece: bytes) -> Digest:
     return Digest(algorithm, digest)
 
 
+def algorithm_of(piece: bytes) -> int:
+    """Reads the number of an algorithm."""
+    return number_up_to(MOST_ALGORITHM, piece)
+
+
 def one_of(kind: Kind, words: dict[bytes, Any]) -> Words:
     """Returns the words of a kind that has only these values."""
     return Words(
@@ -243,6 +251,9 @@ WORDS: dict[Kind, Words] = {
         ),
         one_of(Kind.CIPHER, CIPHERS),
         one_of(Kind.HASH, HASHES_OR_NULL),
+        Words(Kind.HIERARCHY, "Hierarchy", handle_of, handle_word),
+        listed(Kind.ALGORITHMS, algorithm_of, "{:#x}".format),
+        Words(Kind.BYTES, "Bytes", bytes_of, hex_word),
     )
 }
 
@@ -321,18 +332,20 @@ class Tokens:
             raise Fault(BAD_FIELD, self.column)
 
 
-def code_of(token: bytes) -> CC:
-    """Reads the name of a command."""
+def code_of(token: bytes, profile: Profile) -> CC:
+    """Reads the name of a command of a profile."""
     name = token.decode("ascii", "replace")
-    if name not in CC.__members__:
+    if name not in CC.__members__ or CC[name] not in profile.commands:
         raise Fault(BAD_NAME)
     return CC[name]
 
 
-def assemble(line: bytes) -> bytes:
-    """Returns the buffer that a line encodes; raises Fault if it is not a line."""
+def assemble(line: bytes, profile: Profile = Profile.SYMMETRIC) -> bytes:
+    """Returns the buffer that a line encodes; raises Fault if it is not a line with a command of
+    the profile.
+    """
     tokens = Tokens(line)
-    code = tokens.take(code_of)
+    code = tokens.take(lambda token: code_of(token, profile))
     handles = [tokens.take(handle_of) for _ in code.handles]
     entries: list[Entry] = []
     while len(entries) < frames.MOST_ENTRIES and any(map(is_entry, tokens.left[:1])):
@@ -345,20 +358,20 @@ def assemble(line: bytes) -> bytes:
     return buffer
 
 
-def line_of(buffer: bytes) -> str | None:
-    """Returns the line that encodes a buffer, or None if no line does."""
+def line_of(buffer: bytes, profile: Profile = Profile.SYMMETRIC) -> str | None:
+    """Returns the line that encodes a command of a profile, or None if no line does."""
     try:
-        line = " ".join(words_of(Fields(buffer)))
-        return line if assemble(line.encode("ascii")) == buffer else None
+        line = " ".join(words_of(Fields(buffer), profile))
+        return line if assemble(line.encode("ascii"), profile) == buffer else None
     except (Short, NoWords, Fault):
         return None
 
 
-def words_of(fields: Fields) -> list[str]:
-    """Returns the tokens of a buffer; raises NoWords if no tokens encode it."""
+def words_of(fields: Fields, profile: Profile) -> list[str]:
+    """Returns the tokens of a command of a profile; raises NoWords if no tokens encode it."""
     tag = fields.number(2)
     fields.take(4)
-    code = NUMBERED.get(fields.number(4))
+    code = profile.commands.get(fields.number(4))
     if code is None:
         raise NoWords
     handles = [handle_word(fields.number(4)) for _ in code.handles]
@@ -374,6 +387,6 @@ def traced(outcome: Outcome, locality: int, elapsed: int) -> str:
     that decided the response, and the response code. If a command is refused before its code is
     known, the name is `?`.
     """
-    code = NUMBERED.get(outcome.row.code)
+    code = ALL_NUMBERED.get(outcome.row.code)
     name = code.name if code else "?"
     return f"{name} L{locality} +{elapsed} {outcome.row.check} {outcome.response[6:10].hex()}"

@@ -14,8 +14,9 @@ from dataclasses import dataclass
 from typing import Iterator
 
 from tpmsim.explain.reason import RULES
+from tpmsim.faults import BadValue
 from tpmsim.model.parameter_faults import parameter_faults
-from tpmsim.standard.commands import CC, Fact, Handle, HandleKind
+from tpmsim.standard.commands import CC, close_name, Fact, Handle, HandleKind, Profile
 from tpmsim.standard.frames import code_of, MOST_ENTRIES, NV, PERSISTENT, POLICY_SESSION
 from tpmsim.standard.frames import spelled_code, TRANSIENT
 from tpmsim.standard.handle_kinds import IS_OF_KIND
@@ -59,6 +60,11 @@ class HeaderRow:
         """Whether only a device whose counters are near 2^64 gives this refusal."""
         return False
 
+    @property
+    def profile(self) -> Profile:
+        """The profile of a device that gives this refusal."""
+        return Profile.SYMMETRIC
+
 
 @dataclass(frozen=True)
 class Row:
@@ -84,6 +90,14 @@ class Row:
         """Whether only a device whose counters are near 2^64 gives this refusal."""
         return (self.command, self.check) in FAR
 
+    @property
+    def profile(self) -> Profile:
+        """The profile of a device that gives this refusal: COMPLETE if only such a device serves
+        the command.
+        """
+        only = self.command.has(Fact.COMPLETE_ONLY)
+        return Profile.COMPLETE if only else Profile.SYMMETRIC
+
 
 AnyRow = HeaderRow | Row
 
@@ -97,9 +111,12 @@ FAR = {
     (CC.NV_Increment, "A4"),
 }
 
-# The own checks that look at the parameters alone. All others also look at the device.
+# The own checks that look at the parameters and the handles alone. All others also look at the
+# device.
 OF_VALUES = {
+    CC.IncrementalSelfTest: "A1",
     CC.GetCapability: "A1 A2",
+    CC.ClockRateAdjust: "A1",
     CC.NV_DefineSpace: "A1 A2 A3 A4",
     CC.NV_ChangeAuth: "A1",
     CC.NV_Read: "A4",
@@ -111,6 +128,7 @@ OF_VALUES = {
     CC.PolicySecret: "A1 A2",
     CC.StartAuthSession: "A1 A2 A3",
     CC.FlushContext: "A1",
+    CC.EvictControl: "A3 A4",
     CC.ClearControl: "A1",
 }
 
@@ -243,11 +261,34 @@ def rows_of(command: CC) -> tuple[Row, ...]:
 
 
 @functools.cache
-def all_rows() -> tuple[Row, ...]:
-    """Returns the refusals of all commands. HEADER_ROWS has those of unknown commands."""
-    return tuple(row for command in CC for row in rows_of(command))
+def all_rows(profile: Profile = Profile.COMPLETE) -> tuple[Row, ...]:
+    """Returns the refusals of all commands that a device of the profile serves. HEADER_ROWS has
+    those of unknown commands.
+    """
+    return tuple(row for command in profile.commands.values() for row in rows_of(command))
 
 
 def every_row() -> tuple[AnyRow, ...]:
     """Returns all refusals, those of unknown commands first."""
     return *HEADER_ROWS, *all_rows()
+
+
+def rows_named(command: str, check: str = "", code: str = "") -> list[AnyRow]:
+    """Returns the rows of a command, of one of its checks, or with one response code, by their
+    names. Raises BadValue if there is none.
+    """
+    rows: tuple[AnyRow, ...] = HEADER_ROWS
+    if command != UNKNOWN:
+        if command not in CC.__members__:
+            close = close_name(command, CC.__members__)
+            names = f"{close} or another name" if close else f"one of {', '.join(CC.__members__)}"
+            raise BadValue("command", command, names)
+        rows = rows_of(CC[command])
+    of_check = [it for it in rows if check in ("", it.check)]
+    found = [it for it in of_check if code in ("", it.code_name)]
+    if not of_check:
+        checks = dict.fromkeys(it.check for it in rows)
+        raise BadValue("check", check, f"one of {', '.join(checks)}")
+    if not found:
+        raise BadValue("code", code, f"one of {', '.join(it.code_name for it in of_check)}")
+    return found

@@ -3,7 +3,7 @@
 from __future__ import annotations
 
 from dataclasses import dataclass
-from typing import Any, Callable, NamedTuple, Protocol, TypeVar
+from typing import Any, Callable, Iterable, NamedTuple, Protocol, TypeVar
 
 from tpmsim.standard import frames
 from tpmsim.standard.commands import Kind, Parameter
@@ -117,14 +117,25 @@ def numbers(size: int) -> Values:
     return Values(lambda value: number(value, size), lambda fields: fields.number(size))
 
 
+def write_bytes(value: bytes | bytearray | memoryview | HasText) -> bytes:
+    """Returns bytes without a size, or a structure's encoding."""
+    return bytes(value) if isinstance(value, BYTES) else value.text
+
+
 def write_buffer(value: bytes | bytearray | memoryview | HasText) -> bytes:
     """Returns a sized buffer that contains bytes or a structure's encoding."""
-    return sized(bytes(value) if isinstance(value, BYTES) else value.text)
+    return sized(write_bytes(value))
 
 
 def read_list(read: Callable[[Fields], Any]) -> Callable[[Fields], list[Any]]:
     """Returns a function that reads a list, which starts with its count."""
     return lambda fields: [read(fields) for _ in range(fields.number(4))]
+
+
+def write_algorithms(value: Iterable[int]) -> bytes:
+    """Returns a list of algorithms."""
+    written = [number(it, 2) for it in value]
+    return number(len(written), 4) + b"".join(written)
 
 
 def read_bank(fields: Fields) -> Bank:
@@ -169,6 +180,10 @@ VALUES: dict[Kind, Values] = {
     Kind.CODE: numbers(4),
     Kind.HANDLE: numbers(4),
     Kind.HASH: numbers(2),
+    Kind.HIERARCHY: numbers(4),
+    Kind.ALGORITHMS: Values(write_algorithms, read_list(lambda fields: fields.number(2))),
+    # The bytes up to the end: no parameter follows one of this kind.
+    Kind.BYTES: Values(write_bytes, lambda fields: fields.take(len(fields.data))),
     Kind.BUFFER: Values(write_buffer, Fields.sized),
     Kind.BUFFERS: Values(lambda value: frames.sized_list(*value), read_list(Fields.sized)),
     Kind.SELECTION: Values(lambda value: frames.selection(*value), read_list(read_bank)),

@@ -20,6 +20,8 @@ HEADS = (
     "refused by",
     "what was changed",
     "the client",
+    "time",
+    "left loaded",
     "its last words",
     "findings",
 )
@@ -55,9 +57,11 @@ def row_of(refused: Refused) -> str:
     refusal, ran = refused.refusal, refused.ran
     after = ran.names[refusal.at + 1 :]
     did = ran.trouble or ended(ran) + (f", then sent {' '.join(after)}" if after else "")
+    left = " ".join(f"{it:08x}" for it in sorted(ran.left))
     words = (
         *(str(refusal.at + 1), refusal.name, f"{refusal.met} {refusal.code_name}"),
-        *(refusal.words or "nothing: faked", did, last_line(ran), named(refused.findings)),
+        *(refusal.words or "nothing: faked", did, f"{ran.seconds:.1f} s", left),
+        *(last_line(ran), named(refused.findings)),
     )
     found = ' class="found"' if refused.findings else ""
     return f"<tr{found}>{''.join(map(cell, words))}</tr>"

@@ -5,14 +5,22 @@ met in a state near its own, and the warnings of the standard that this device n
 from __future__ import annotations
 
 from dataclasses import dataclass, field
-from typing import Iterator
+from typing import Iterator, Sequence
 
-from tpmsim.refuse.finding import Event, Met, rows_from_start, rows_near
+from tpmsim.refuse.finding import Event, LAYER, LAYER_NAMES, Met, rows_from_start, rows_near
+from tpmsim.refuse.finding import Wanted
+from tpmsim.standard import CC
 from tpmsim.standard.frames import spelled_code
+from tpmsim.standard.rows import rows_named
 
-# Warnings that a TPM may give at any time. They are faked: the command is not executed.
+# Warnings that another TPM may give at any time. They are faked: the command is not executed. Most
+# clients send a command again after the first three, and report the others.
 FAKED_CHECK = "faked"
-FAKED = {0x922: "RETRY", 0x908: "YIELDED", 0x90A: "TESTING"}
+FAKED = {0x922: "RETRY", 0x908: "YIELDED", 0x90A: "TESTING", 0x909: "CANCELED", 0x920: "NV_RATE"}
+
+# A sweep does not fake these for TPM2_GetCapability, which writes nothing and takes no time: no TPM
+# limits its rate, and nobody cancels it.
+NOT_OF_CAPABILITIES = 0x909, 0x920
 
 
 @dataclass(frozen=True)
@@ -31,6 +39,15 @@ class Refusal:
     @property
     def is_faked(self) -> bool:
         return self.met.check == FAKED_CHECK
+
+    @property
+    def wanted(self) -> Wanted:
+        """The refusal without its place; a code of 0 means any."""
+        return Wanted(self.met.check, self.met.code or None)
+
+    def due(self, before: Sequence[str], name: str) -> Refusal | None:
+        """Returns this refusal if as many commands precede the next one."""
+        return self if len(before) == self.at else None
 
     @property
     def code_name(self) -> str:
@@ -54,8 +71,12 @@ class Only:
 
     @classmethod
     def of(cls, words: str) -> Only:
-        """Returns the limit in words such as `NV_Read` or `NV_Read:A2`."""
+        """Returns the limit in words such as `NV_Read`, `NV_Read:A2` or `NV_Read:faked`. Raises
+        BadValue if the table has no such refusal.
+        """
         name, _, check = words.partition(":")
+        if name not in LAYER_NAMES.values():
+            rows_named(name, "" if check in (FAKED_CHECK, LAYER) else check)
         return cls(name, check)
 
     def allows(self, refusal: Refusal) -> bool:
@@ -74,7 +95,8 @@ def refusals_of(at: int, start: bytes, text: bytes, event: Event) -> Iterator[Re
         if found.met not in met:
             yield Refusal(at, event.name, found.met, found.words, found.text)
     for code in FAKED:
-        yield Refusal(at, event.name, Met(FAKED_CHECK, code))
+        if event.name != CC.GetCapability.name or code not in NOT_OF_CAPABILITIES:
+            yield Refusal(at, event.name, Met(FAKED_CHECK, code))
 
 
 def planned(sent: list[tuple[bytes, Event]], only: list[Only], limit: int | None) -> list[Refusal]:

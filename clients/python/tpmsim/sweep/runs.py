@@ -64,7 +64,7 @@ def run(settings: Settings, refusal: Refusal | None = None, keeps: bool = False)
         with Server(tpm.execute, tpm.power_cycle) as server:
             status, hangs, seconds, texts = ran(settings, server.environment)
         left = tpm.left()
-    is_met = refusal is None or tpm.is_met
+    is_met = refusal is None or tpm.met is not None
     trouble = tpm.trouble or ("" if is_met else "the client did not send this command")
     return Ran(status, *texts, seconds, hangs, tuple(tpm.sent), left, trouble, tpm.events)
 

@@ -1,4 +1,6 @@
-"""Serves a TPM to one run of a client: on a Unix socket, and by swtpm's protocol on two TCP ports."""
+"""Serves a TPM to one run of a client: on a Unix socket, and on four TCP ports by the protocols of
+swtpm and of Microsoft's simulator.
+"""
 
 from __future__ import annotations
 
@@ -10,14 +12,12 @@ import tempfile
 from concurrent.futures import ThreadPoolExecutor
 from typing import Callable, Self
 
-from tpmsim.sweep.protocols import Commands, Control, Execute, Locality
+from tpmsim.sweep.protocols import Commands, Control, Execute, Platform, Power, Protocol, Simulator
 
 HOST, RECEIVED_AT_ONCE = "127.0.0.1", 65_536
 
 # How long a client may take to read a response, in seconds.
 SEND_SECONDS = 10
-
-Protocol = Commands | Control
 
 
 def listeners_of_ports() -> tuple[socket.socket, socket.socket]:
@@ -30,35 +30,34 @@ def listeners_of_ports() -> tuple[socket.socket, socket.socket]:
             first.close()
 
 
+def acknowledge(connection: socket.socket) -> None:
+    """Acknowledges received bytes at once. Some clients send a request in pieces, and before each
+    piece their hosts wait for the acknowledgement of the previous one, otherwise for 40 ms.
+    """
+    if connection.family == socket.AF_INET:
+        connection.setsockopt(socket.IPPROTO_TCP, socket.TCP_QUICKACK, 1)
+
+
 class Server:
     """Serves a TPM in a thread of its own until `close`."""
 
     def __init__(self, execute: Execute, power_cycle: Callable[[], None]) -> None:
-        self.execute, self.power_cycle, self.locality = execute, power_cycle, Locality()
+        self.execute, self.power = execute, Power(power_cycle)
         self.folder = tempfile.TemporaryDirectory(prefix="tpmsim-sweep-")
         self.path = os.path.join(self.folder.name, "tpm.sock")
         self.selector = selectors.DefaultSelector()
-        self.data, self.control = listeners_of_ports()
-        self.port = self.data.getsockname()[1]
         unix = socket.socket(socket.AF_UNIX)
         unix.bind(self.path)
         unix.listen()
-        for listener, made in (
-            (unix, self.commands),
-            (self.data, self.commands),
-            (self.control, self.requests),
-        ):
+        swtpm, simulator = listeners_of_ports(), listeners_of_ports()
+        self.port, self.simulator_port = (it[0].getsockname()[1] for it in (swtpm, simulator))
+        listeners = unix, *swtpm, *simulator
+        for listener, made in zip(listeners, (Commands, Commands, Control, Simulator, Platform)):
             self.selector.register(listener, selectors.EVENT_READ, made)
         self.ending, self.end = socket.socketpair()
         self.selector.register(self.ending, selectors.EVENT_READ, None)
         self.pool = ThreadPoolExecutor(1)
         self.served = self.pool.submit(self.serve)
-
-    def commands(self) -> Protocol:
-        return Commands(self.execute, self.locality)
-
-    def requests(self) -> Protocol:
-        return Control(self.locality, self.power_cycle)
 
     def serve(self) -> None:
         """Answers all connections until `close` sends a byte, and then closes all sockets. A fault
@@ -80,26 +79,28 @@ class Server:
             assert isinstance(place, socket.socket)
             if place is self.ending:
                 return False
-            if isinstance(key.data, (Commands, Control)):
+            if isinstance(key.data, Protocol):
                 self.receive(place, key.data)
             else:
                 self.accept(place, key.data)
         return True
 
-    def accept(self, listener: socket.socket, made: Callable[[], Protocol]) -> None:
+    def accept(self, listener: socket.socket, made: type[Protocol]) -> None:
         connection, _ = listener.accept()
         connection.settimeout(SEND_SECONDS)
         if connection.family == socket.AF_INET:
             connection.setsockopt(socket.IPPROTO_TCP, socket.TCP_NODELAY, 1)
-        self.selector.register(connection, selectors.EVENT_READ, made())
+        self.selector.register(connection, selectors.EVENT_READ, made(self.execute, self.power))
 
     def receive(self, connection: socket.socket, protocol: Protocol) -> None:
-        """Answers what a client sent; forgets a connection that has ended."""
+        """Answers what a client sent; ends a connection that is over, and forgets one that ended."""
         try:
             data = connection.recv(RECEIVED_AT_ONCE)
             if data:
+                acknowledge(connection)
                 connection.sendall(protocol.answers(data))
-                return
+                if not protocol.is_over:
+                    return
         except OSError:
             pass  # the client is gone
         self.selector.unregister(connection)
@@ -108,10 +109,13 @@ class Server:
     @property
     def environment(self) -> dict[str, str]:
         """The variables by which a client finds the TPM."""
-        tcti = f"swtpm:host={HOST},port={self.port}"
+        tcti, port = f"swtpm:host={HOST},port={self.port}", self.simulator_port
         return {
             **{"TPM2TOOLS_TCTI": tcti, "TCTI": tcti},
             **{"TPMSIM_SOCKET": self.path, "TPMSIM_PORT": str(self.port)},
+            # Those of IBM's TSS.
+            **{"TPM_INTERFACE_TYPE": "socsim", "TPM_SERVER_TYPE": "mssim", "TPM_SERVER_NAME": HOST},
+            **{"TPM_COMMAND_PORT": str(port), "TPM_PLATFORM_PORT": str(port + 1)},
         }
 
     def close(self) -> None:

@@ -3,15 +3,17 @@
 from __future__ import annotations
 
 import time
-from dataclasses import dataclass
+from dataclasses import dataclass, replace
+from typing import Protocol, Sequence
 
+from tpmsim.device.base import Executed, Snapshot
 from tpmsim.device.library import LibraryDevice
 from tpmsim.model import state_text
 from tpmsim.model.machine import PLACE_BITS
-from tpmsim.refuse.finding import Event, found, LAYER, Met, Unrefusable, Wanted
+from tpmsim.refuse.finding import Event, found, LAYER, Met, Unrefusable
 from tpmsim.standard import frames, is_session, TRANSIENT
 from tpmsim.standard.handle_kinds import first_byte
-from tpmsim.sweep.refusals import FAKED_CHECK, Refusal
+from tpmsim.sweep.refusals import Refusal
 
 # The random bytes of each run are the same.
 SEED = b"tpmsim-sweep"
@@ -51,23 +53,46 @@ def sessions_in(handles: frozenset[int]) -> int:
     return sum(map(is_session, handles))
 
 
+class Asked(Protocol):
+    """What refuses one command of a run: a Refusal, or a Demand."""
+
+    @property
+    def start(self) -> bytes | None:
+        """The state text with which the run has to start, if any."""
+        ...
+
+    def due(self, before: Sequence[str], name: str) -> Refusal | None:
+        """Returns the refusal of the next command, if it is the one; `before` are the names of the
+        earlier commands.
+        """
+        ...
+
+
 class SweptTpm:
     """A device in a given state, which refuses at most one command. If `keeps`, it keeps the state
-    before each command.
+    before each command. If a device is given, it is in that state already.
     """
 
-    def __init__(self, text: bytes, refusal: Refusal | None = None, keeps: bool = False) -> None:
-        if refusal is not None and refusal.start is not None:
-            text = refusal.start
-        self.device = CompletingDevice(seed=SEED)
-        self.device.restore(text)
-        self.refusal, self.keeps = refusal, keeps
+    def __init__(
+        self,
+        text: bytes,
+        asked: Asked | None = None,
+        keeps: bool = False,
+        device: LibraryDevice | None = None,
+    ) -> None:
+        if asked is not None and asked.start is not None:
+            text = asked.start
+        self.device = device or CompletingDevice(seed=SEED)
+        if device is None:
+            self.device.restore(text)
+        self.asked, self.keeps = asked, keeps
         self.loaded_first, self.placed = loaded(text), frozenset[int]()
         self.sent, self.events = list[Sent](), list[tuple[bytes, Event]]()
         self.last = time.monotonic()
-        # Why the command could not be refused, if so.
-        self.trouble = ""
-        self.is_met = False
+        # The refusal that a command met; or why a command could not be refused, with the state
+        # before it if no change was found.
+        self.met: Refusal | None = None
+        self.trouble, self.unchanged = "", list[tuple[bytes, Event]]()
 
     def elapsed(self) -> int:
         """Returns the milliseconds since the last command."""
@@ -77,47 +102,58 @@ class SweptTpm:
     def execute(self, buffer: bytes, locality: int = 0) -> bytes:
         """Executes a command of the client, and returns the response."""
         event = Event(buffer, locality, self.device.drawn(), self.elapsed(), True)
+        return self.respond(event).response
+
+    def respond(self, event: Event) -> Executed:
+        """Executes a command, or refuses it."""
         if self.keeps:
             self.events.append((self.device.state(), event))
-        refusal = self.refusal
-        if refusal is not None and len(self.sent) == refusal.at:
-            if refusal.name != event.name:
-                self.trouble = f"the client sent {event.name}, and not {refusal.name}"
-            elif refusal.is_faked:
-                return self.faked(event, refusal)
-            elif refusal.start is not None:
-                return self.refused_from_start(event, refusal)
-            else:
-                self.change_for(event, refusal)
-        return self.answered(event)
+        names = [it.name for it in self.sent]
+        refusal = self.asked.due(names, event.name) if self.asked else None
+        if refusal is None:
+            return self.answered(event)
+        if refusal.name != event.name:
+            self.trouble = f"the client sent {event.name}, and not {refusal.name}"
+            return self.answered(event)
+        if refusal.is_faked:
+            return self.faked(event, refusal)
+        if refusal.start is not None:
+            return self.refused_from_start(event, refusal)
+        return self.refused_by_change(event, refusal)
 
-    def refused_from_start(self, event: Event, refusal: Refusal) -> bytes:
+    def refused_from_start(self, event: Event, refusal: Refusal) -> Executed:
         """Executes a command that the changed state should refuse, and compares its row."""
-        response = self.answered(event)
+        executed = self.answered(event)
         met = self.sent[-1].met
-        self.is_met = met == refusal.met
-        self.trouble = "" if self.is_met else f"it meets {met}, and not {refusal.met}"
-        return response
+        if refusal.wanted.is_met(met):
+            self.met = replace(refusal, met=met)
+        else:
+            self.trouble = f"{event.name} meets {met}, and not {refusal.wanted}"
+        return executed
 
-    def faked(self, event: Event, refusal: Refusal) -> bytes:
+    def faked(self, event: Event, refusal: Refusal) -> Executed:
         """Returns a refusal without executing the command."""
-        self.is_met = True
-        self.sent.append(Sent(event.name, Met(FAKED_CHECK, refusal.met.code)))
-        return frames.refusal(refusal.met.code)
+        self.met = refusal
+        self.sent.append(Sent(event.name, refusal.met))
+        response = frames.refusal(refusal.met.code)
+        return Executed(event.buffer, response, event.locality, event.elapsed)
 
-    def change_for(self, event: Event, refusal: Refusal) -> None:
-        """Changes the state so that the device refuses the command."""
+    def refused_by_change(self, event: Event, refusal: Refusal) -> Executed:
+        """Changes the state so that the device refuses the command, and executes it."""
         text = self.device.state()
         try:
-            change = found(text, event, Wanted(refusal.met.check, refusal.met.code))
+            change = found(text, event, refusal.wanted, refusal.words)
         except Unrefusable as fault:
             self.trouble = str(fault)
-            return
-        self.is_met = True
+            self.unchanged.append((text, event))
+            return self.answered(event)
+        self.met = replace(refusal, met=change.met, words=change.words)
         self.placed = loaded(change.text) - loaded(text)
-        self.device.restore(change.text)
+        begun = Snapshot(change.text, self.device.at, self.device.elapsed, change.text)
+        self.device.restore(begun)
+        return self.answered(event)
 
-    def answered(self, event: Event) -> bytes:
+    def answered(self, event: Event) -> Executed:
         """Executes a command on the device."""
         given = event.buffer, event.locality, event.elapsed, event.random
         executed = self.device.answer(*given)
@@ -125,7 +161,7 @@ class SweptTpm:
         own = Met(executed.check or "", code)
         is_layers = own.check == NO_COMMAND.check and own != NO_COMMAND
         self.sent.append(Sent(event.name, Met(LAYER, code) if is_layers else own))
-        return executed.response
+        return executed
 
     def power_cycle(self) -> None:
         self.device.cycle()

@@ -38,6 +38,8 @@ use Rattle.tpm_journal.proofs.draw_laws.Alike.{alike_after}
 use Rattle.tpm_journal.proofs.draw_laws.Fronts.{part, shorter}
 use Rattle.tpm_actions_policy.specs.Assertions.{assertion_row}
 use Rattle.tpm_actions_device.specs.ClearControl.{clear_control_row}
+use Rattle.tpm_actions_device.specs.ClockRateAdjust.{clock_rate_adjust_row}
+use Rattle.tpm_actions_device.specs.ClockSet.{clock_set_row}
 use Rattle.tpm_actions_device.specs.Clear.{clear_row}
 use Rattle.tpm_actions_object.specs.CreatePrimary.{create_primary_row}
 use Rattle.tpm_actions_object.specs.Create.{create_row}
@@ -47,7 +49,11 @@ use Rattle.tpm_actions_object.specs.EvictControl.{evict_control_row}
 use Rattle.tpm_actions_device.specs.FlushContext.{flush_context_row}
 use Rattle.tpm_actions_capability.specs.GetCapability.{get_capability_row}
 use Rattle.tpm_actions_device.specs.GetRandom.{get_random_row}
+use Rattle.tpm_actions_device.specs.GetTestResult.{get_test_result_row}
+use Rattle.tpm_actions_device.specs.Hash.{hash_row}
 use Rattle.tpm_actions_device.specs.HierarchyChangeAuth.{hierarchy_change_auth_row}
+use Rattle.tpm_actions_device.specs.IncrementalSelfTest.{incremental_self_test_row}
+use Rattle.tpm_actions_device.specs.TestParms.{test_parms_row}
 use Rattle.tpm_actions_object.specs.Hmac.{hmac_row}
 use Rattle.tpm_actions_object.specs.Load.{load_row}
 use Rattle.tpm_nvactions.specs.NvChangeAuth.{nv_change_auth_row}
@@ -70,6 +76,7 @@ use Rattle.tpm_actions_policy.specs.PolicyRestart.{policy_restart_row}
 use Rattle.tpm_actions_device.specs.ReadClock.{read_clock_row}
 use Rattle.tpm_actions_object.specs.ReadPublic.{read_public_row}
 use Rattle.tpm_actions_device.specs.SelfTest.{self_test_row}
+use Rattle.tpm_actions_device.specs.StirRandom.{stir_random_row}
 use Rattle.tpm_actions_device.specs.Shutdown.{shutdown_row}
 use Rattle.tpm_actions_device.specs.StartAuthSession.{start_auth_session_row}
 use Rattle.tpm_actions_device.specs.Startup.{startup_row}
@@ -198,13 +205,14 @@ module _ (r : Record) (q : Request) (other : List ℕ) where
 -- replacing undrawn random bytes does not change the result of a row
 pub row_alike : (r : Record) (c : CommandCode) (q : Request) (other : List ℕ)
     → ActsAlike q.random other (row_of r c q) (row_of r c (with_random q other))
-unfolding row_of assertion_row clear_control_row create_primary_row dictionary_attack_lock_reset_row
-    dictionary_attack_parameters_row evict_control_row flush_context_row get_capability_row
-    hierarchy_change_auth_row hmac_row load_row nv_change_auth_row nv_define_space_row nv_extend_row
-    nv_increment_row nv_read_lock_row nv_read_public_row nv_read_row nv_set_bits_row
+unfolding row_of assertion_row clear_control_row clock_rate_adjust_row clock_set_row
+    create_primary_row dictionary_attack_lock_reset_row dictionary_attack_parameters_row
+    evict_control_row flush_context_row get_capability_row get_test_result_row hash_row
+    hierarchy_change_auth_row hmac_row incremental_self_test_row load_row nv_change_auth_row nv_define_space_row
+    nv_extend_row nv_increment_row nv_read_lock_row nv_read_public_row nv_read_row nv_set_bits_row
     nv_undefine_space_row nv_write_lock_row nv_write_row pcr_event_row pcr_extend_row pcr_read_row
     pcr_reset_row policy_get_digest_row policy_restart_row read_clock_row read_public_row
-    self_test_row shutdown_row unseal_row
+    self_test_row shutdown_row stir_random_row test_parms_row unseal_row
 row_alike r command.GetRandom q other = get_random_alike r q other
 row_alike r command.StartAuthSession q other = start_auth_session_alike r q other
 row_alike r command.Startup q other = startup_alike r q other

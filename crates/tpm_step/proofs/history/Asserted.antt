@@ -5,6 +5,7 @@ use Rattle.tpm_bytes.specs.Reading.{◌>>=◌, number_at, or_fault}
 use Rattle.tpm_bytes.proofs.Fields.{ok_is}
 use Rattle.tpm_mac.specs.declared.algorithm.HashAlg.{HashAlg}
 use Rattle.tpm_policy.proofs.Made.{policy_made}
+use Rattle.tpm_commands.specs.declared.profile.Profile.TheVariants.{Complete}
 use Rattle.tpm_policy.specs.Made.{policy_with}
 use Rattle.tpm_policy.specs.Assertion.{Assertion, Pcr, Or, AuthValue, Password, CommandCode, CpHash, NvWritten, Locality, Secret, Nv, PcrParts, asserted_policy}
 use Rattle.tpm_policy.specs.State.{Policy}
@@ -120,9 +121,13 @@ module _ (r : Record) (c : AcceptedCommand) (history : History)
 
   by_code : IfOk (assertion_in command.PolicyCommandCode r q)
       (IsAsserted c history command.PolicyCommandCode)
-  by_code = by_reading ℕ command.PolicyCommandCode
-      (only (or_fault (number_at w32 q.parameters) (plain code.Insufficient))) CommandCode
-      (λ s. refl)
+  by_code =
+      ok_bind_is _ (only (or_fault (number_at w32 q.parameters) (plain code.Insufficient))) _
+      (λ number read. λ s. record {
+        told = CommandCode Complete number;
+        is = ap (λ (x : Result ℕ Refused). x >>= λ n. Ok (CommandCode Complete n)) read;
+        makes = λ trial policy. refl;
+      })
 
   by_cp_hash : IfOk (assertion_in command.PolicyCpHash r q)
       (IsAsserted c history command.PolicyCpHash)

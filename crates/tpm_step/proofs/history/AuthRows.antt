@@ -74,7 +74,7 @@ use Rattle.tpm_nvactions.specs.NvDefineSpace as definition
 use Rattle.tpm_step.specs.step.Table.{row_of}
 use Rattle.tpm_step.specs.rows.Footprint.{Touches, emptied_fixed}
 use Rattle.tpm_commands.specs.Part.{Part, Nothing, Sessions, NvData, NvCounter, NvUndefined, Lockout, Banks}
-use Rattle.tpm_commands.specs.Part.{Saved, DisableClear, Cleared}
+use Rattle.tpm_commands.specs.Part.{Saved, DisableClear, Clock, Cleared}
 use Rattle.tpm_step.specs.rows.IndexChanges.{ChangesIndices, Defines, Writes}
 use Rattle.tpm_step.specs.rows.Handles.{FitsRule, HandlesFit}
 use Rattle.tpm_step.proofs.rows.Binding.{asked, ok_at, ok_bind, ok_bind_is, ok_then, ok_weaker, some_is}
@@ -138,6 +138,7 @@ keeps_values Lockout = true
 keeps_values Banks = true
 keeps_values Saved = true
 keeps_values DisableClear = true
+keeps_values Clock = true
 keeps_values _ = false
 
 part_keeps : (p : Part) (q : Request) (old new : Record) → keeps_values p ≡ true
@@ -164,6 +165,8 @@ part_keeps Banks q old new keeps up touches changes =
 part_keeps Saved q old new keeps up touches changes =
     subst (KeepsAll old) (sym touches) (λ h v is. is)
 part_keeps DisableClear q old new keeps up touches changes =
+    subst (KeepsAll old) (sym touches) (λ h v is. is)
+part_keeps Clock q old new keeps up touches changes =
     subst (KeepsAll old) (sym touches) (λ h v is. is)
 part_keeps _ q old new keeps up touches changes = absurd (false≢true keeps)
 

@@ -17,7 +17,8 @@ use Rattle.tpm_record.specs.Cycle.{after_cycle}
 use Rattle.tpm_record.specs.Entity.{auth_value_of}
 use Rattle.tpm_record.specs.IsRecord.{IsRecord}
 use Rattle.tpm_record.specs.Objects.{next_handle, object_handle}
-use Rattle.tpm_record.specs.Record.{Record, manufactured}
+use Rattle.tpm_commands.specs.declared.profile.Profile.{Profile}
+use Rattle.tpm_record.specs.Record.{Record, manufactured, manufactured_as}
 use Rattle.tpm_record.specs.Tick.{after_tick, later}
 use Rattle.tpm_record.specs.rows.Refusals.{memory_refusal}
 use Rattle.tpm_auth.specs.Grant.{authorize}
@@ -275,6 +276,35 @@ manufactured_follows random = record {
   sized = manufactured_sized random;
   indices = tt;
 }
+
+-- a device of either profile follows the empty history after it is manufactured
+pub manufactured_as_follows : (profile : Profile) (random : List ℕ)
+    → Follows (manufactured_as profile random) []
+manufactured_as_follows profile random =
+    let asked : Follows (manufactured random) [] = manufactured_follows random in
+    record {
+      counters = asked.counters;
+      forgiving = asked.forgiving;
+      pcrs = asked.pcrs;
+      auth_values = asked.auth_values;
+      sessions = asked.sessions;
+      hmacs = tt;
+      replays = asked.replays;
+      updates = asked.updates;
+      grounds = tt;
+      found = asked.found;
+      asked = tt;
+      policies = tt;
+      shape = record {
+        sessions_many = refl;
+        objects_many = refl;
+        persistent_ascend =
+            tt;
+        indices_ascend = tt;
+      };
+      sized = asked.sized;
+      indices = tt;
+    }
 
 -- ---- events
 

@@ -10,7 +10,6 @@ use Rattle.tpm_types_common.specs.declared.rc.ResponseCode.TheVariants as code
 use Rattle.tpm_types_command.specs.Command.{Whole, sessions_at}
 use Rattle.tpm_commands.specs.CommandCode.{shape_of}
 use Rattle.tpm_types_command.specs.AuthArea.{area_at}
-use Rattle.tpm_types_command.specs.Header.{header_at}
 use Rattle.tpm_types_command.specs.declared.tag.Tag.{Tag}
 use Rattle.tpm_types_command.specs.declared.tag.Tag.TheVariants.{NoSessions, Sessions}
 use Rattle.tpm_types_command.specs.declared.header.Header.{Header}
@@ -18,7 +17,7 @@ use Rattle.tpm_commands.specs.declared.command_code.CommandCode.{CommandCode}
 use Rattle.tpm_commands.specs.declared.command_code.CommandCode.TheVariants as command
 use Rattle.tpm_record.specs.Record.{Record}
 use Rattle.tpm_auth.specs.Grant.{authorize}
-use Rattle.tpm_step.specs.step.General.{body_of, both_or_neither, general, in_header, is_startup, present_handles_at, sessions_pass}
+use Rattle.tpm_step.specs.step.General.{body_of, both_or_neither, general, in_header, is_startup, present_handles_at, sessions_pass, served_header}
 use Rattle.tpm_step.specs.step.Step.{acceptance, acceptance_in, request_in}
 use Rattle.tpm_step.specs.step.Table.{row_of}
 use Rattle.tpm_step.specs.rows.Acceptance.{IsAcceptance, IsDue}
@@ -53,7 +52,7 @@ body_due r header text =
 general_due : (r : Record) (buffer : List ℕ) → IfOk (general r buffer) (λ c. IsDue c.code r)
 unfolding general
 general_due r buffer =
-    ok_bind _ (in_header (header_at buffer)) _ (λ header.
+    ok_bind _ (in_header (served_header r buffer)) _ (λ header.
     ok_in_command _ header.0.code (body_of r header.0 header.1) (body_due r header.0 header.1))
 
 -- If the command's shape forbids sessions, the command has no entries.
@@ -93,7 +92,7 @@ body_alone r header text =
 general_alone : (r : Record) (buffer : List ℕ) → IfOk (general r buffer) IsAlone
 unfolding general
 general_alone r buffer =
-    ok_bind _ (in_header (header_at buffer)) _ (λ header.
+    ok_bind _ (in_header (served_header r buffer)) _ (λ header.
     ok_in_command _ header.0.code (body_of r header.0 header.1) (body_alone r header.0 header.1))
 
 acceptance_is : (r : Record) (c : Whole) (locality : ℕ) (random : List ℕ) → IsDue c.code r

@@ -3,6 +3,8 @@ use Rattle.std.specs.Prelude.{◌/◌}
 use Rattle.std.proofs.Common.{◌^◌, arith, ℕ}
 use Rattle.tpm_commands.specs.CommandCode.{shape_of}
 use Rattle.tpm_commands.specs.declared.command_code.CommandCode.TheVariants as command
+use Rattle.tpm_commands.specs.declared.profile.Profile.{Profile}
+use Rattle.tpm_commands.specs.declared.profile.Profile.TheVariants.{Complete, Symmetric}
 use Rattle.tpm_record.specs.Record.{Record}
 use Rattle.tpm_actions_capability.specs.GetCapability.{capability_of, capability_parameters}
 use Rattle.tpm_actions_capability.specs.GetCapability.{get_capability_row, handle_elements, told_of}
@@ -17,8 +19,10 @@ use Rattle.tpm_step.proofs.rows.PlainSteps.{plain_steps}
 use Rattle.tpm_step.proofs.rows.Successes.{in_place_steps}
 use Rattle.tpm_row_secrecy.proofs.CapabilityRows as capability_secrets
 
-late_capability : (Fit : Type 0) (number : ℕ) → Late Fit (capability_of number)
-late_capability Fit number = grind arith
+late_capability : (Fit : Type 0) (profile : Profile) (number : ℕ)
+    → Late Fit (capability_of profile number)
+late_capability Fit Symmetric number = grind arith
+late_capability Fit Complete number = grind arith
 
 late_handles : (Fit : Type 0) (r : Record) (kind : ℕ) → Late Fit (handle_elements r kind)
 late_handles Fit r kind = grind arith
@@ -28,12 +32,11 @@ late_told : (Fit : Type 0) (r : Record) (asked : CapabilityParameters) (c : Capa
 late_told Fit r asked capability.Handles =
     err_bind _ (handle_elements r (asked.property / 2 ^ 24)) _
     (late_handles Fit r (asked.property / 2 ^ 24)) (λ elements. tt)
-late_told Fit r asked capability.Commands = tt
-late_told Fit r asked capability.Pcrs = tt
-late_told Fit r asked capability.Properties = tt
+late_told Fit r asked _ = tt
 
-plain_capability : (number : ℕ) → Plain (capability_of number)
-plain_capability number = grind arith
+plain_capability : (profile : Profile) (number : ℕ) → Plain (capability_of profile number)
+plain_capability Symmetric number = grind arith
+plain_capability Complete number = grind arith
 
 plain_handles : (r : Record) (kind : ℕ) → Plain (handle_elements r kind)
 plain_handles r kind = grind arith
@@ -43,9 +46,7 @@ plain_told : (r : Record) (asked : CapabilityParameters) (c : Capability)
 plain_told r asked capability.Handles =
     err_bind _ (handle_elements r (asked.property / 2 ^ 24)) _
     (plain_handles r (asked.property / 2 ^ 24)) (λ elements. tt)
-plain_told r asked capability.Commands = tt
-plain_told r asked capability.Pcrs = tt
-plain_told r asked capability.Properties = tt
+plain_told r asked _ = tt
 
 pub get_capability_laws : RowLaws command.GetCapability get_capability_row
 unfolding get_capability_row shape_of capability_parameters
@@ -53,5 +54,5 @@ get_capability_laws = record {
   success = λ r q. search in_place_steps depth 12;
   order = λ r q. search (ordered_steps, late_capability, late_told) depth 16;
   plain = λ r q. search (plain_steps, plain_capability, plain_told) depth 16;
-  tells = λ s covers r q free. capability_secrets.get_capability_tells s r q;
+  tells = λ s covers r q free. capability_secrets.get_capability_tells s r q free;
 }

@@ -35,12 +35,18 @@ use Rattle.tpm_record.specs.rows.Refusals.{parameter_refusal}
 use Rattle.tpm_record.specs.rows.Request.{Request, second_handle}
 use Rattle.tpm_record.specs.rows.Rows.{only}
 use Rattle.tpm_actions_device.specs.ClearControl.{clear_control_row}
+use Rattle.tpm_actions_device.specs.ClockRateAdjust.{clock_rate_adjust_row}
+use Rattle.tpm_actions_device.specs.ClockSet.{clock_set_row}
 use Rattle.tpm_actions_device.specs.DictionaryAttackLockReset.{dictionary_attack_lock_reset_row}
 use Rattle.tpm_actions_device.specs.DictionaryAttackParameters.{dictionary_attack_parameters_row}
 use Rattle.tpm_actions_device.specs.DictionaryAttackParameters.{lockout_parameters}
 use Rattle.tpm_actions_device.specs.FlushContext.{flush_context_row, flushed_from}
 use Rattle.tpm_actions_device.specs.GetRandom.{get_random_row}
+use Rattle.tpm_actions_device.specs.GetTestResult.{get_test_result_row}
+use Rattle.tpm_actions_device.specs.Hash.{hash_parameters_in, hash_row}
 use Rattle.tpm_actions_device.specs.HierarchyChangeAuth.{hierarchy_change_auth_row}
+use Rattle.tpm_actions_device.specs.IncrementalSelfTest.{incremental_self_test_row}
+use Rattle.tpm_actions_device.specs.TestParms.{test_parms_row}
 use Rattle.tpm_actions_device.specs.PcrEvent.{pcr_event_row}
 use Rattle.tpm_actions_device.specs.PcrExtend.{pcr_extend_row}
 use Rattle.tpm_actions_device.specs.PcrRead.{pcr_read_row}
@@ -51,6 +57,7 @@ use Rattle.tpm_actions_device.specs.Shutdown.{shutdown_row}
 use Rattle.tpm_actions_device.specs.StartAuthSession.{Parameters, parameters_in, parameters_pass}
 use Rattle.tpm_actions_device.specs.StartAuthSession.{session_place, session_with}
 use Rattle.tpm_actions_device.specs.StartAuthSession.{start_auth_session_row}
+use Rattle.tpm_actions_device.specs.StirRandom.{stir_random_row}
 use Rattle.tpm_actions_device.specs.Startup.{start_draws, start_of, started_record, startup_row}
 use Rattle.tpm_actions_device.specs.declared.startup.Start.{Start}
 use Rattle.tpm_actions_device.specs.declared.startup.Start.TheVariants.{Reset, Restart, Resume}
@@ -139,7 +146,52 @@ self_test_laws = record {
   tells = λ s covers r q free. device_secrets.self_test_tells s r q;
 }
 
+pub incremental_self_test_laws : RowLaws command.IncrementalSelfTest incremental_self_test_row
+unfolding incremental_self_test_row shape_of
+incremental_self_test_laws = record {
+  success = λ r q. search in_place_steps depth 12;
+  order = λ r q. search ordered_steps depth 16;
+  plain = λ r q. search plain_steps depth 16;
+  tells = λ s covers r q free. device_secrets.incremental_self_test_tells s r q;
+}
+
+pub test_parms_laws : RowLaws command.TestParms test_parms_row
+unfolding test_parms_row shape_of
+test_parms_laws = record {
+  success = λ r q. search in_place_steps depth 12;
+  order = λ r q. search ordered_steps depth 16;
+  plain = λ r q. search plain_steps depth 16;
+  tells = λ s covers r q free. device_secrets.test_parms_tells s r q;
+}
+
+pub get_test_result_laws : RowLaws command.GetTestResult get_test_result_row
+unfolding get_test_result_row shape_of
+get_test_result_laws = record {
+  success = λ r q. search in_place_steps depth 12;
+  order = λ r q. search ordered_steps depth 16;
+  plain = λ r q. search plain_steps depth 16;
+  tells = λ s covers r q free. device_secrets.get_test_result_tells s r q;
+}
+
+pub hash_laws : RowLaws command.Hash hash_row
+unfolding hash_row hash_parameters_in shape_of
+hash_laws = record {
+  success = λ r q. search in_place_steps depth 12;
+  order = λ r q. search ordered_steps depth 16;
+  plain = λ r q. search plain_steps depth 16;
+  tells = λ s covers r q free. device_secrets.hash_tells s r q;
+}
+
 -- ---- clocks and random bytes
+
+pub stir_random_laws : RowLaws command.StirRandom stir_random_row
+unfolding stir_random_row shape_of
+stir_random_laws = record {
+  success = λ r q. search in_place_steps depth 12;
+  order = λ r q. search ordered_steps depth 16;
+  plain = λ r q. search plain_steps depth 16;
+  tells = λ s covers r q free. device_secrets.stir_random_tells s r q;
+}
 
 pub read_clock_laws : RowLaws command.ReadClock read_clock_row
 unfolding read_clock_row shape_of
@@ -215,6 +267,24 @@ clear_control_laws = record {
   order = λ r q. search ordered_steps depth 16;
   plain = λ r q. search plain_steps depth 16;
   tells = λ s covers r q free. device_secrets.clear_control_tells s r q;
+}
+
+pub clock_set_laws : RowLaws command.ClockSet clock_set_row
+unfolding clock_set_row shape_of
+clock_set_laws = record {
+  success = λ r q. search in_place_steps depth 12;
+  order = λ r q. search ordered_steps depth 16;
+  plain = λ r q. search plain_steps depth 16;
+  tells = λ s covers r q free. device_secrets.clock_set_tells s r q;
+}
+
+pub clock_rate_adjust_laws : RowLaws command.ClockRateAdjust clock_rate_adjust_row
+unfolding clock_rate_adjust_row shape_of
+clock_rate_adjust_laws = record {
+  success = λ r q. search in_place_steps depth 12;
+  order = λ r q. search ordered_steps depth 16;
+  plain = λ r q. search plain_steps depth 16;
+  tells = λ s covers r q free. device_secrets.clock_rate_adjust_tells s r q;
 }
 
 -- a new authorization value changes no seed and no proof

@@ -12,7 +12,6 @@ use Rattle.tpm_types_command.specs.AuthArea.{area_at, entries_in}
 use Rattle.tpm_types_command.specs.AuthEntry.{entry_at}
 use Rattle.tpm_types_command.specs.Command.{sessions_at}
 use Rattle.tpm_commands.specs.CommandCode.{shape_of}
-use Rattle.tpm_types_command.specs.Header.{header_at}
 use Rattle.tpm_commands.specs.declared.command_code.CommandCode.{CommandCode}
 use Rattle.tpm_commands.specs.declared.command_code.CommandCode.TheVariants as command
 use Rattle.tpm_types_command.specs.declared.header.Header.{Header}
@@ -20,7 +19,7 @@ use Rattle.tpm_types_command.specs.declared.tag.Tag.{Tag}
 use Rattle.tpm_types_command.specs.declared.tag.Tag.TheVariants.{NoSessions, Sessions}
 use Rattle.tpm_record.specs.Record.{Record}
 use Rattle.tpm_record.specs.rows.Request.{Request}
-use Rattle.tpm_step.specs.step.General.{body_of, both_or_neither, general, in_header, is_startup}
+use Rattle.tpm_step.specs.step.General.{body_of, both_or_neither, general, in_header, is_startup, served_header}
 use Rattle.tpm_step.specs.step.General.{present_handles_at, sessions_pass}
 use Rattle.tpm_step.specs.rows.Draws.{draws_of}
 use Rattle.tpm_step.proofs.rows.Binding.{ok_bind, ok_checked, ok_in_command, ok_then}
@@ -60,7 +59,7 @@ pub general_few : (r : Record) (buffer : List ℕ)
     → IfOk (general r buffer) (λ c. length c.entries ≤ 3)
 unfolding general
 general_few r buffer =
-    ok_bind _ (in_header (header_at buffer)) _ (λ header.
+    ok_bind _ (in_header (served_header r buffer)) _ (λ header.
     ok_in_command _ header.0.code (body_of r header.0 header.1) (body_few r header.0 header.1))
 
 -- TPM2_Startup forbids sessions, and `draws_of` is 0 for it

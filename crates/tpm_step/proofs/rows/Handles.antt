@@ -14,13 +14,12 @@ use Rattle.tpm_commands.specs.declared.shape.HandleRule.{HandleRule}
 use Rattle.tpm_types_command.specs.Command.{Whole, sessions_at}
 use Rattle.tpm_commands.specs.CommandCode.{shape_of}
 use Rattle.tpm_commands.specs.HandleArea.{allowed_handle_at}
-use Rattle.tpm_types_command.specs.Header.{header_at}
 use Rattle.tpm_commands.specs.Shape.{is_of_kind}
 use Rattle.tpm_record.specs.Entity.{is_present}
 use Rattle.tpm_record.specs.Record.{Record}
 use Rattle.tpm_auth.specs.Entries.{entries_pass}
 use Rattle.tpm_auth.specs.Grant.{authorize, grants_pass}
-use Rattle.tpm_step.specs.step.General.{body_of, general, both_or_neither, is_startup, in_header, present_handle_at, present_handles_at, sessions_pass}
+use Rattle.tpm_step.specs.step.General.{body_of, general, both_or_neither, is_startup, in_header, present_handle_at, present_handles_at, sessions_pass, served_header}
 use Rattle.tpm_step.specs.step.Step.{acceptance, request_in}
 use Rattle.tpm_step.specs.step.Table.{row_of}
 use Rattle.tpm_step.specs.rows.Handles.{FitsRule, HandlesFit}
@@ -75,7 +74,7 @@ pub general_fits : (r : Record) (buffer : List ℕ)
     → IfOk (general r buffer) (λ c. HandlesFit r (shape_of c.code).handles c.handles)
 unfolding general
 general_fits r buffer =
-    ok_bind _ (in_header (header_at buffer)) _ (λ header.
+    ok_bind _ (in_header (served_header r buffer)) _ (λ header.
     ok_in_command _ header.0.code (body_of r header.0 header.1) (body_fits r header.0 header.1))
 
 -- ---- refusals after the general checks

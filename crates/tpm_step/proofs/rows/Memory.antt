@@ -15,14 +15,13 @@ use Rattle.tpm_types_command.specs.declared.header.HeaderFault.{HeaderFault}
 use Rattle.tpm_commands.specs.declared.command_code.CommandCode.{CommandCode}
 use Rattle.tpm_types_command.specs.declared.tag.Tag.{Tag}
 use Rattle.tpm_types_command.specs.Command.{Whole, sessions_at}
-use Rattle.tpm_types_command.specs.Header.{header_at}
 use Rattle.tpm_record.specs.Record.{Record}
 use Rattle.tpm_record.specs.Tick.{after_tick}
 use Rattle.tpm_auth.specs.Entries.{entries_pass}
 use Rattle.tpm_auth.specs.Grant.{authorize, grants_pass}
 use Rattle.tpm_step.specs.step.Events.{PlainEvent, Given, Cycled, Placed}
 use Rattle.tpm_step.specs.step.Execution.{Executes}
-use Rattle.tpm_step.specs.step.General.{body_of, both_or_neither, general, in_command, in_header, is_startup, present_handles_at, sessions_pass}
+use Rattle.tpm_step.specs.step.General.{body_of, both_or_neither, general, in_command, in_header, is_startup, present_handles_at, sessions_pass, served_header}
 use Rattle.tpm_step.specs.step.Step.{Accepted, Stepped, acceptance, acceptance_in, stepped_of, request_in, step}
 use Rattle.tpm_step.specs.step.Table.{row_of}
 use Rattle.tpm_step.specs.declared.refused_command.RefusedCommand.{RefusedCommand}
@@ -70,7 +69,7 @@ body_wants r header text =
 general_wants : (r : Record) (buffer : List ℕ) → WantsNone (general r buffer)
 unfolding general
 general_wants r buffer =
-    err_bind _ (in_header (header_at buffer)) _ (header_wants (header_at buffer)) (λ header.
+    err_bind _ (in_header (served_header r buffer)) _ (header_wants (served_header r buffer)) (λ header.
     command_wants header.0.code (body_of r header.0 header.1) (body_wants r header.0 header.1))
 
 -- ---- the authorization, and the row after it

@@ -16,7 +16,7 @@ use Rattle.tpm_record.specs.Clear.{outlasts}
 use Rattle.tpm_record.specs.Record.{Record}
 use Rattle.tpm_record.proofs.ClearLaws.{cleared_few}
 use Rattle.tpm_step.specs.rows.Footprint.{StartsNv, Touches}
-use Rattle.tpm_commands.specs.Part.{AuthValues, Banks, Beginning, Cleared, DisableClear, Lockout, Nothing, Part}
+use Rattle.tpm_commands.specs.Part.{AuthValues, Banks, Beginning, Cleared, Clock, DisableClear, Lockout, Nothing, Part}
 use Rattle.tpm_commands.specs.Part.{Saved, Sessions, SessionsAndObjects}
 use Rattle.tpm_step.specs.rows.Sessions.{SessionsStay}
 use Rattle.tpm_step.specs.rows.Shapes.{Grows, taken_in}
@@ -58,6 +58,7 @@ keeps_places Banks = true
 keeps_places Beginning = true
 keeps_places Saved = true
 keeps_places DisableClear = true
+keeps_places Clock = true
 keeps_places Cleared = true
 keeps_places _ = false
 
@@ -81,6 +82,8 @@ touched_grows Beginning old new keeps touches =
 touched_grows Saved old new keeps touches =
     same_places old new (ap (λ (r : Record). taken_in r) touches)
 touched_grows DisableClear old new keeps touches =
+    same_places old new (ap (λ (r : Record). taken_in r) touches)
+touched_grows Clock old new keeps touches =
     same_places old new (ap (λ (r : Record). taken_in r) touches)
 touched_grows Cleared old new keeps touches =
     let same = ap (λ (r : Record). taken_in r) touches in

@@ -2,13 +2,12 @@
 use Rattle.std.proofs.Common.{Err, IfErr, List, Ok, Result, refl, rules, ℕ}
 use Rattle.tpm_types_common.specs.declared.refused.Refused.{Refused}
 use Rattle.tpm_commands.specs.CommandCode.{code_number}
-use Rattle.tpm_types_command.specs.Header.{header_at}
 use Rattle.tpm_commands.specs.declared.command_code.CommandCode.{CommandCode}
 use Rattle.tpm_types_command.specs.declared.header.Header.{Header}
 use Rattle.tpm_types_command.specs.declared.header.HeaderFault.{HeaderFault}
 use Rattle.tpm_types_command.specs.declared.tag.Tag.{Tag}
 use Rattle.tpm_record.specs.Record.{Record}
-use Rattle.tpm_step.specs.step.General.{body_of, general, in_command, in_header, sessions_pass}
+use Rattle.tpm_step.specs.step.General.{body_of, general, in_command, in_header, sessions_pass, served_header}
 use Rattle.tpm_step.specs.declared.refused_command.RefusedCommand.{RefusedCommand}
 use Rattle.tpm_step.specs.rows.Order.{IsPlain, Plain}
 use Rattle.tpm_step.proofs.rows.Binding.{err_bind, err_checked, err_if}
@@ -36,7 +35,7 @@ pub general_plain : (r : Record) (buffer : List ℕ)
     → IfErr (general r buffer) (λ e. IsPlain e.refused)
 unfolding general
 general_plain r buffer =
-    err_bind (λ (e : RefusedCommand). IsPlain e.refused) (in_header (header_at buffer)) _
-    (header_plain (header_at buffer)) (λ header.
+    err_bind (λ (e : RefusedCommand). IsPlain e.refused) (in_header (served_header r buffer)) _
+    (header_plain (served_header r buffer)) (λ header.
     err_in_command (λ (e : RefusedCommand). IsPlain e.refused) header.0.code
     (body_of r header.0 header.1) (body_plain r header.0 header.1))

@@ -1,5 +1,5 @@
 -- If a command passes the general checks, the whole buffer encodes it, whatever the record.
-use Rattle.std.proofs.Common.{◌≡◌, ℕ, ◌+◌, List, [], ◌∷◌, length, Result, Ok, Err, IfOk, refl, ap, sym, ◌∙◌}
+use Rattle.std.proofs.Common.{◌≡◌, ℕ, ◌+◌, List, [], ◌∷◌, length, Result, Ok, Err, IfOk, refl, ap, sym, ◌∙◌, cond, Bool, true, false}
 use Rattle.std.specs.Prelude.{not}
 use Rattle.std.specs.Int.{w32}
 use Rattle.tpm_bytes.specs.Many.{each_at}
@@ -12,16 +12,18 @@ use Rattle.tpm_types_common.specs.declared.handle.Handle.{Handle}
 use Rattle.tpm_types_common.specs.declared.rc.Rc.{Rc}
 use Rattle.tpm_types_common.specs.declared.rc.ResponseCode.TheVariants as code
 use Rattle.tpm_types_command.specs.Command.{Whole, command_at, handles_at, sessions_at}
-use Rattle.tpm_commands.specs.CommandCode.{shape_of}
+use Rattle.tpm_commands.specs.CommandCode.{serves, shape_of}
+use Rattle.tpm_commands.specs.declared.profile.Profile.{Profile}
 use Rattle.tpm_commands.specs.HandleArea.{allowed_handle_at, handle_fault}
-use Rattle.tpm_types_command.specs.Header.{header_at}
+use Rattle.tpm_types_command.specs.Header.{if_served, header_at}
 use Rattle.tpm_commands.specs.Shape.{is_of_kind}
 use Rattle.tpm_types_command.specs.declared.header.Header.{Header}
 use Rattle.tpm_types_command.specs.declared.header.HeaderFault.{HeaderFault}
+use Rattle.tpm_types_command.specs.declared.header.HeaderFault.TheVariants as fault
 use Rattle.tpm_commands.specs.declared.shape.HandleRule.{HandleRule}
 use Rattle.tpm_record.specs.Entity.{is_present}
 use Rattle.tpm_record.specs.Record.{Record}
-use Rattle.tpm_step.specs.step.General.{both_or_neither, body_of, general, in_header, is_startup, present_handle_at, present_handles_at, sessions_pass}
+use Rattle.tpm_step.specs.step.General.{both_or_neither, body_of, general, in_header, is_startup, present_handle_at, present_handles_at, sessions_pass, served_header}
 use Rattle.tpm_step.proofs.rows.Binding.{checked_ok, ok_at, ok_bind, ok_bind_is, ok_checked, ok_in_command, ok_then}
 
 -- The bytes encode the number of the handle `x.0`, followed by `x.1`.
@@ -55,17 +57,23 @@ each_reads r n (rule ∷ rules) text =
     (each_reads r (n + 1) rules first.1) (λ others are.
     rw (is, are) refl))
 
-header_reads : (x : Result (Header × List ℕ) HeaderFault)
-    → IfOk (in_header x) (λ header. x ≡ Ok header)
-header_reads (Ok header) = refl
-header_reads (Err fault) = tt
+header_reads : (profile : Profile) (x : Result (Header × List ℕ) HeaderFault)
+    → IfOk (in_header (if_served profile x)) (λ header. x ≡ Ok header)
+header_reads profile (Ok header) = by (serves profile header.0.code)
+  where
+    by : (b : Bool) → IfOk (in_header (cond b (Ok header) (Err fault.Code)))
+        (λ h. (let found : Result (Header × List ℕ) HeaderFault = Ok header in found) ≡ Ok h)
+    by true = refl
+    by false = tt
+header_reads profile (Err f) = tt
 
 -- if a command passes the general checks, the whole buffer encodes it
 pub general_reads : (r : Record) (buffer : List ℕ)
     → IfOk (general r buffer) (λ c. command_at buffer ≡ Ok (c, []))
 unfolding general body_of command_at
 general_reads r buffer =
-    ok_then _ _ (in_header (header_at buffer)) _ (header_reads (header_at buffer)) (λ header head.
+    ok_then _ _ (in_header (served_header r buffer)) _
+    (header_reads r.fixed.profile (header_at buffer)) (λ header head.
     ok_in_command _ header.0.code (body_of r header.0 header.1) (
     ok_bind _ (refused_if (both_or_neither r.fixed.started (is_startup header.0.code)) _) _ (λ g5.
     ok_then _ _ (checked_result check.Handles (present_handles_at r header.0.code header.1)) _

@@ -1,7 +1,8 @@
 -- Each assertion that the history records met its condition on the policy session when the
 -- assertion was accepted.
 use Rattle.std.proofs.Common.{◌≡◌, ◌<◌, ◌^◌, ◌+◌, ℕ, arith, Bool, true, false, cond, List, [], ◌∷◌, length, Option, Some, None, Result, Ok, Err, IfOk, IfSome, refl, ap, sym, subst, ◌∙◌}
-use Rattle.std.specs.Prelude.{not, nat_lt, is_some, ◌==◌, ◌&&◌}
+use Rattle.std.specs.Option.{option_map_or}
+use Rattle.std.specs.Prelude.{not, nat_lt, ◌==◌, ◌&&◌}
 use Rattle.std.specs.Int.{w8, w32}
 use Rattle.std.specs.List.{list_any}
 use Rattle.std.specs.Str.{bytes_eq}
@@ -37,7 +38,9 @@ use Rattle.tpm_types_common.specs.declared.handle.Handle.{Handle}
 use Rattle.tpm_types_common.specs.declared.rc.ResponseCode.TheVariants as code
 use Rattle.tpm_types_common.specs.declared.refused.Refused.{Refused}
 use Rattle.tpm_commands.proofs.Codes.{code_named-number, code_number-small}
-use Rattle.tpm_commands.specs.CommandCode.{code_named, code_number, is_served}
+use Rattle.tpm_commands.specs.CommandCode.{code_named, code_number, is_served, serves}
+use Rattle.tpm_commands.specs.declared.profile.Profile.TheVariants.{Complete}
+use Rattle.tpm_commands.specs.declared.profile.Profile.{Profile}
 use Rattle.tpm_commands.specs.declared.command_code.CommandCode.{CommandCode as Code}
 use Rattle.tpm_commands.specs.declared.command_code.CommandCode.TheVariants as command
 use Rattle.tpm_record.specs.Entity.{name_of}
@@ -66,11 +69,12 @@ both_hold true c none holds = none
 both_hold false c none holds = absurd cc
 
 -- The number of a supported command fits in 32 bits.
-served_small : (number : ℕ) → is_served number ≡ true → number < 2 ^ 32
-served_small number served = by (code_named number) (code_named-number number) served
+served_small : (profile : Profile) (number : ℕ) → is_served profile number ≡ true
+    → number < 2 ^ 32
+served_small profile number served = by (code_named number) (code_named-number number) served
   where
-    by : (found : Option Code) → IfSome found (λ c. code_number c ≡ number) → is_some found ≡ true
-        → number < 2 ^ 32
+    by : (found : Option Code) → IfSome found (λ c. code_number c ≡ number)
+        → option_map_or (serves profile) found false ≡ true → number < 2 ^ 32
     by (Some c) is served = subst (λ (n : ℕ). n < 2 ^ 32) is (code_number-small c)
     by None is served = absurd cc
 
@@ -81,12 +85,12 @@ unfolding or_asserted command_code_asserted cp_hash_asserted nv_written_asserted
 found_by hash (assertion.Or digests) p =
     ok_bind_is _ (refused_if (not (list_any (λ digest. bytes_eq digest p.digest) digests)) _) _
     (λ u passes. any_among p.digest digests (asked _ _ u passes))
-found_by hash (assertion.CommandCode number) p =
+found_by hash (assertion.CommandCode profile number) p =
     ok_bind_is _ (refused_if (is_other p.command number) _) _
-    (λ u passes. ok_bind_is _ (refused_if (not (is_served number)) _) _
+    (λ u passes. ok_bind_is _ (refused_if (not (is_served profile number)) _) _
     (λ v served. (
       recorded_is p.command number (passed _ _ u passes),
-      served_small number (asked _ _ v served),
+      served_small profile number (asked _ _ v served),
     )))
 found_by hash (assertion.CpHash cp_hash) p =
     ok_bind _ (refused_if (not (length cp_hash == digest_size hash)) _) _
@@ -245,7 +249,8 @@ module _ (r : Record) (c : AcceptedCommand) (history : History)
   agrees command.PolicyCommandCode =
       by_reading ℕ command.PolicyCommandCode
       (only (or_fault (number_at w32 q.parameters) (plain code.Insufficient)))
-      (λ s x. assertion.CommandCode x) (λ s x. assertion.CommandCode x) (λ s. refl)
+      (λ s x. assertion.CommandCode r.fixed.profile x) (λ s x. assertion.CommandCode Complete x)
+      (λ s. refl)
       (λ s x p holds. (holds, holds.1))
   agrees command.PolicyCpHash =
       by_reading (List ℕ) command.PolicyCpHash (only (buffer_at 32 q.parameters))

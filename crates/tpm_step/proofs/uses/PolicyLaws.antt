@@ -55,14 +55,14 @@ pcrs_as_they_are history c place e s parts meets kind are =
     )
 
 pub its_command : UsesItsCommand
-its_command history c place e s number meets kind are =
+its_command history c place e s profile number meets kind are =
     let recorded : (policy_in s).command ≡ Some number =
     ap (λ (l : List Assertion). (evaluated_policy s.hash (is_trial s.kind) l).command) are in
     let same : number ≡ code_number c.command.code =
     subst (λ (x : Option ℕ). IfSome x (λ n. n ≡ code_number c.command.code)) recorded
     meets.command in
-    subst (λ (n : ℕ). HasPolicyOf s.hash (CommandCode n ∷ []) (policy_at c place)) same
-    (its_assertions s (policy_at c place) (CommandCode number ∷ []) kind are meets.policy)
+    subst (λ (n : ℕ). HasPolicyOf s.hash (CommandCode profile n ∷ []) (policy_at c place)) same
+    (its_assertions s (policy_at c place) (CommandCode profile number ∷ []) kind are meets.policy)
 
 pub as_written : UsesAsWritten
 as_written history c place e s is_written meets kind are =

@@ -221,10 +221,10 @@ module _ (u : PolicyUse) (used : used_in u.command.command u.place ≡ Some u.ha
       }
   met_by PolicyAuthValue one among says = shows (inl (one, among, says))
   met_by PolicyPassword one among says = shows (inr (one, among, says))
-  met_by (PolicyCommandCode number) (assertion.CommandCode asserted) among says =
+  met_by (PolicyCommandCode number) (assertion.CommandCode profile asserted) among says =
       let recorded : (policy_in u.session).command ≡ Some asserted =
       ap (λ (p : Policy). p.command) policy_is
-      ∙ command_recorded hash asserted assertions find among in
+      ∙ command_recorded hash profile asserted assertions find among in
       sym (subst (λ (x : Option ℕ). IfSome x (λ n. n ≡ code_number u.command.command.code)) recorded
       meets.command) ∙ says
   met_by (PolicyLocality localities) (assertion.Locality asserted) among says =

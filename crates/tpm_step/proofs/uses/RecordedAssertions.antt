@@ -7,6 +7,7 @@ use Rattle.tpm_mac.specs.declared.algorithm.HashAlg.{HashAlg}
 use Rattle.tpm_policy.specs.Assertion as assertion
 use Rattle.tpm_policy.specs.Assertion.{Assertion, auth_value_asserted, password_asserted}
 use Rattle.tpm_policy.specs.Made.{policy_with}
+use Rattle.tpm_commands.specs.declared.profile.Profile.{Profile}
 use Rattle.tpm_policy.specs.State.{Policy}
 use Rattle.tpm_policy_meaning.specs.Asserted.{IsAmong, evaluated_policy}
 use Rattle.tpm_types_common.specs.Buffer.{is_given}
@@ -21,18 +22,18 @@ module _ (hash : HashAlg) where
   abbrev made : List Assertion → Policy
   made assertions = evaluated_policy hash false assertions
 
-  pub command_recorded : (number : ℕ) (assertions : List Assertion) → AllFind hash assertions
-      → IsAmong (assertion.CommandCode number) assertions → (made assertions).command ≡ Some number
+  pub command_recorded : (profile : Profile) (number : ℕ) (assertions : List Assertion)
+      → AllFind hash assertions → IsAmong (assertion.CommandCode profile number) assertions → (made assertions).command ≡ Some number
   unfolding auth_value_asserted password_asserted
-  command_recorded number [] find among = absurd among
-  command_recorded number (one ∷ assertions) find (inl same) =
+  command_recorded profile number [] find among = absurd among
+  command_recorded profile number (one ∷ assertions) find (inl same) =
       ap (λ (b : Assertion). (policy_with hash false b (made assertions)).command) (sym same)
-  command_recorded number (one ∷ assertions) find (inr among) =
-      by one find.0.0 (command_recorded number assertions find.1 among)
+  command_recorded profile number (one ∷ assertions) find (inr among) =
+      by one find.0.0 (command_recorded profile number assertions find.1 among)
     where
       by : (one : Assertion) → Finds one (made assertions) → (made assertions).command ≡ Some number
           → (policy_with hash false one (made assertions)).command ≡ Some number
-      by (assertion.CommandCode other) found is =
+      by (assertion.CommandCode other_profile other) found is =
           same_again (made assertions).command number other is found.0
       by (assertion.Pcr parts) found is = is
       by _ found is = is

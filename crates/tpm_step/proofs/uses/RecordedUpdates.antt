@@ -13,6 +13,7 @@ use Rattle.tpm_bytes.specs.Reading.{◌>>=◌, number_at, or_fault, refused_if}
 use Rattle.tpm_bytes.proofs.Fields.{ok_is, passed}
 use Rattle.tpm_mac.specs.declared.algorithm.HashAlg.{HashAlg}
 use Rattle.tpm_policy.specs.Assertion.{Assertion, Pcr, Or, AuthValue, Password, CommandCode, Locality, Secret, Nv, PcrParts, asserted_policy, auth_value_asserted, is_other, password_asserted, pcr_asserted, CpHash, NvWritten}
+use Rattle.tpm_commands.specs.declared.profile.Profile.TheVariants.{Complete}
 use Rattle.tpm_policy.specs.Made.{policy_with}
 use Rattle.tpm_policy.specs.State.{Policy}
 use Rattle.tpm_session.specs.Sessions.{session_at}
@@ -131,7 +132,7 @@ other_told command.PolicyAuthValue c history hash nonce is = refl
 other_told command.PolicyPassword c history hash nonce is = refl
 other_told command.PolicyCommandCode c history hash nonce is =
     made_other (only (or_fault (number_at w32 c.request.parameters) (plain code.Insufficient)))
-    (λ number. CommandCode number) (λ a. refl)
+    (λ number. CommandCode Complete number) (λ a. refl)
 other_told command.PolicyCpHash c history hash nonce is =
     made_other (only (buffer_at 32 c.request.parameters)) (λ cp_hash. CpHash cp_hash) (λ a. refl)
 other_told command.PolicyNvWritten c history hash nonce is =
@@ -153,7 +154,7 @@ count_stays hash trial (Pcr parts) p is = absurd cc
 count_stays hash trial (Or digests) p is = refl
 count_stays hash trial AuthValue p is = refl
 count_stays hash trial Password p is = refl
-count_stays hash trial (CommandCode number) p is = refl
+count_stays hash trial (CommandCode profile number) p is = refl
 count_stays hash trial (CpHash cp_hash) p is = refl
 count_stays hash trial (NvWritten is_written) p is = refl
 count_stays hash trial (Locality localities) p is = refl

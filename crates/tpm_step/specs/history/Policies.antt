@@ -15,6 +15,7 @@ use Rattle.tpm_types_common.specs.declared.rc.ResponseCode.TheVariants as code
 use Rattle.tpm_types_common.specs.declared.refused.Refused.{Refused}
 use Rattle.tpm_commands.specs.declared.command_code.CommandCode.{CommandCode as Code}
 use Rattle.tpm_commands.specs.declared.command_code.CommandCode.TheVariants as command
+use Rattle.tpm_commands.specs.declared.profile.Profile.TheVariants.{Complete}
 use Rattle.tpm_record.specs.rows.Refusals.{handle_refusal}
 use Rattle.tpm_record.specs.rows.Rows.{only}
 use Rattle.tpm_actions_policy.specs.PolicyNv.{nv_parameters}
@@ -38,7 +39,8 @@ pcr_parts_in history hash p = record {
 -- the assertion of a command after a history, on a session with this hash and this nonceTPM. For
 -- TPM2_PolicyNV the policy contains the Name of the index, but not the compared bytes, which a
 -- history does not record. Therefore `compared` is empty here; the effect of the assertion does not
--- depend on it
+-- depend on it. Nor does it depend on the profile in the assertion of TPM2_PolicyCommandCode, which a
+-- history does not record either
 abbrev pub assertion_by : Code → AcceptedCommand → History → HashAlg → (nonce_tpm : List ℕ)
     → Result Assertion Refused
 assertion_by command.PolicyPcr accepted history hash nonce_tpm = do
@@ -51,7 +53,7 @@ assertion_by command.PolicyAuthValue accepted history hash nonce_tpm = Ok AuthVa
 assertion_by command.PolicyPassword accepted history hash nonce_tpm = Ok Password
 assertion_by command.PolicyCommandCode accepted history hash nonce_tpm = do
   number ← only (or_fault (number_at w32 accepted.request.parameters) (plain code.Insufficient))
-  Ok (CommandCode number)
+  Ok (CommandCode Complete number)
 assertion_by command.PolicyCpHash accepted history hash nonce_tpm = do
   cp_hash ← only (buffer_at 32 accepted.request.parameters)
   Ok (CpHash cp_hash)

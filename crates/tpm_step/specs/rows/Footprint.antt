@@ -13,7 +13,7 @@ use Rattle.tpm_record.specs.Hierarchy.{secrets_of}
 use Rattle.tpm_record.specs.Record.{Record}
 use Rattle.tpm_commands.specs.Part.{Part, Nothing, Sessions, Objects, SessionsAndObjects, Persistent, NvData}
 use Rattle.tpm_commands.specs.Part.{NvCounter, NvAuthValue, NvDefined, NvUndefined, AuthValues, Lockout, Banks}
-use Rattle.tpm_commands.specs.Part.{Beginning, Saved, DisableClear, Cleared}
+use Rattle.tpm_commands.specs.Part.{Beginning, Saved, DisableClear, Clock, Cleared}
 
 -- The seed and the proof of each hierarchy are unchanged.
 abbrev pub KeepsSecrets : Hierarchies → Hierarchies → Type 0
@@ -91,6 +91,7 @@ Touches Beginning old new =
 Touches Saved old new = new ≡ record old { fixed = record old.fixed { saved = new.fixed.saved } }
 Touches DisableClear old new =
     new ≡ record old { fixed = record old.fixed { disable_clear = new.fixed.disable_clear } }
+Touches Clock old new = new ≡ record old { fixed = record old.fixed { clock = new.fixed.clock } }
 Touches Cleared old new =
     new ≡ record old {
       fixed = emptied_fixed old.fixed new.fixed;

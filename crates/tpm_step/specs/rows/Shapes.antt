@@ -32,6 +32,9 @@ use Rattle.tpm_types_common.specs.declared.check.Check.TheVariants as check
 use Rattle.tpm_types_common.specs.declared.refused.Refused.{Refused}
 use Rattle.tpm_record.specs.rows.Answer.{begins_sized}
 use Rattle.tpm_record.specs.rows.Rows.{Success, all_read, parameter}
+use Rattle.tpm_actions_device.specs.Hash.{hierarchy_at}
+use Rattle.tpm_actions_device.specs.IncrementalSelfTest.{algorithms_at}
+use Rattle.tpm_actions_device.specs.TestParms.{typed_parameters_at}
 use Rattle.tpm_step.specs.rows.Refusals.{Passes}
 
 -- A success returns a handle if and only if the command's shape says so. The first parameter of its
@@ -85,6 +88,9 @@ behind_kind kind.NvPublic text = behind (filled_by nv_public_at text)
 behind_kind kind.Operation text = behind (operation_at text)
 behind_kind kind.YesNo text = behind (yes_no_at text)
 behind_kind kind.PersistentHandle text = behind (persistent_handle_at text)
+behind_kind kind.Hierarchy text = behind (hierarchy_at text)
+behind_kind kind.AlgorithmList text = behind (algorithms_at text)
+behind_kind kind.PublicParameters text = behind (typed_parameters_at text)
 
 -- parses parameters of these kinds up to the end of the bytes; the first parameter has number n.
 -- The result is the first fault, if any

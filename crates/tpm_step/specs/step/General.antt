@@ -20,7 +20,7 @@ use Rattle.tpm_types_command.specs.declared.command_ref.CommandRef.{CommandRef}
 use Rattle.tpm_types_command.specs.Command.{Whole, sessions_at, whole_of}
 use Rattle.tpm_commands.specs.CommandCode.{code_number}
 use Rattle.tpm_commands.specs.HandleArea.{allowed_handle_at}
-use Rattle.tpm_types_command.specs.Header.{header_at, header_fault_rc}
+use Rattle.tpm_types_command.specs.Header.{header_at, header_fault_rc, if_served}
 use Rattle.tpm_types_common.specs.Rc.{plain}
 use Rattle.tpm_commands.specs.CommandCode.{authorized_handles, shape_of}
 use Rattle.tpm_record.specs.Entity.{absence_rc, is_present}
@@ -50,6 +50,10 @@ header_refusal f = record { code = 0; refused = refusal (header_check f) (header
 abbrev pub in_header : Result (Header × List ℕ) HeaderFault → Result (Header × List ℕ) RefusedCommand
 in_header (Ok h) = Ok h
 in_header (Err f) = Err (header_refusal f)
+
+-- the header of a command that this device serves, or the first fault
+abbrev pub served_header : Record → List ℕ → Result (Header × List ℕ) HeaderFault
+served_header r buffer = if_served r.fixed.profile (header_at buffer)
 
 -- whether a command is TPM2_Startup. Check G5 refuses every other command before the device is
 -- started, and TPM2_Startup afterwards
@@ -103,5 +107,5 @@ body_of r header text = do
 -- the command that a buffer encodes, or the refusal by the first general check that fails
 unfoldable pub general : Record → List ℕ → Result Whole RefusedCommand
 general r buffer = do
-  header ← in_header (header_at buffer)
+  header ← in_header (served_header r buffer)
   in_command header.0.code (body_of r header.0 header.1)

@@ -9,9 +9,16 @@ use Rattle.tpm_record.specs.rows.Rows.{Success}
 use Rattle.tpm_actions_device.specs.Startup.{startup_row}
 use Rattle.tpm_actions_device.specs.Shutdown.{shutdown_row}
 use Rattle.tpm_actions_device.specs.SelfTest.{self_test_row}
+use Rattle.tpm_actions_device.specs.IncrementalSelfTest.{incremental_self_test_row}
+use Rattle.tpm_actions_device.specs.TestParms.{test_parms_row}
+use Rattle.tpm_actions_device.specs.Hash.{hash_row}
 use Rattle.tpm_actions_device.specs.ReadClock.{read_clock_row}
 use Rattle.tpm_actions_device.specs.ClearControl.{clear_control_row}
+use Rattle.tpm_actions_device.specs.ClockRateAdjust.{clock_rate_adjust_row}
+use Rattle.tpm_actions_device.specs.ClockSet.{clock_set_row}
 use Rattle.tpm_actions_device.specs.GetRandom.{get_random_row}
+use Rattle.tpm_actions_device.specs.GetTestResult.{get_test_result_row}
+use Rattle.tpm_actions_device.specs.StirRandom.{stir_random_row}
 use Rattle.tpm_actions_device.specs.PcrRead.{pcr_read_row}
 use Rattle.tpm_actions_device.specs.PcrExtend.{pcr_extend_row}
 use Rattle.tpm_actions_device.specs.PcrEvent.{pcr_event_row}
@@ -51,6 +58,8 @@ row_of r command.EvictControl q = evict_control_row r q
 row_of r command.NvUndefineSpace q = nv_undefine_space_row r q
 row_of r command.Clear q = clear_row r q
 row_of r command.ClearControl q = clear_control_row r q
+row_of r command.ClockSet q = clock_set_row r q
+row_of r command.ClockRateAdjust q = clock_rate_adjust_row r q
 row_of r command.HierarchyChangeAuth q = hierarchy_change_auth_row r q
 row_of r command.NvDefineSpace q = nv_define_space_row r q
 row_of r command.CreatePrimary q = create_primary_row r q
@@ -64,9 +73,11 @@ row_of r command.DictionaryAttackParameters q = dictionary_attack_parameters_row
 row_of r command.NvChangeAuth q = nv_change_auth_row r q
 row_of r command.PcrEvent q = pcr_event_row r q
 row_of r command.PcrReset q = pcr_reset_row r q
+row_of r command.IncrementalSelfTest q = incremental_self_test_row r q
 row_of r command.SelfTest q = self_test_row r q
 row_of r command.Startup q = startup_row r q
 row_of r command.Shutdown q = shutdown_row r q
+row_of r command.StirRandom q = stir_random_row r q
 row_of r command.PolicyNv q = assertion_row command.PolicyNv r q
 row_of r command.NvRead q = nv_read_row r q
 row_of r command.NvReadLock q = nv_read_lock_row r q
@@ -87,10 +98,13 @@ row_of r command.ReadPublic q = read_public_row r q
 row_of r command.StartAuthSession q = start_auth_session_row r q
 row_of r command.GetCapability q = get_capability_row r q
 row_of r command.GetRandom q = get_random_row r q
+row_of r command.GetTestResult q = get_test_result_row r q
+row_of r command.Hash q = hash_row r q
 row_of r command.PcrRead q = pcr_read_row r q
 row_of r command.PolicyPcr q = assertion_row command.PolicyPcr r q
 row_of r command.PolicyRestart q = policy_restart_row r q
 row_of r command.ReadClock q = read_clock_row r q
 row_of r command.PcrExtend q = pcr_extend_row r q
 row_of r command.PolicyGetDigest q = policy_get_digest_row r q
+row_of r command.TestParms q = test_parms_row r q
 row_of r command.PolicyPassword q = assertion_row command.PolicyPassword r q

@@ -18,7 +18,7 @@ use Rattle.tpm_step.specs.history.Sessions.{LiveSession, sessions_of}
 -- code has 32 bits. The bytes that TPM2_PolicyNV compares could be read.
 abbrev pub Finds : Assertion → Policy → Type 0
 Finds (assertion.Or digests) p = IsAmong p.digest digests
-Finds (assertion.CommandCode number) p =
+Finds (assertion.CommandCode profile number) p =
     IfSome p.command (λ recorded. recorded ≡ number) × (number < 2 ^ 32)
 Finds (assertion.CpHash cp_hash) p = IfSome p.cp_hash (λ recorded. recorded ≡ cp_hash)
 Finds (assertion.NvWritten is_written) p =

@@ -10,6 +10,7 @@ use Rattle.tpm_types_common.specs.declared.pcr_selection.BankSelection.{BankSele
 use Rattle.tpm_types_common.specs.declared.session_type.SessionType.TheVariants as type
 use Rattle.tpm_types_command.specs.AuthEntry.{Entry}
 use Rattle.tpm_commands.specs.CommandCode.{code_number}
+use Rattle.tpm_commands.specs.declared.profile.Profile.{Profile}
 use Rattle.tpm_policy_meaning.specs.Asserted.{evaluated_policy}
 use Rattle.tpm_step.specs.uses.Grounds.{MeetsPolicy, policy_at, written_at}
 use Rattle.tpm_step.specs.history.History.{AcceptedCommand, History}
@@ -47,10 +48,10 @@ UsesPcrsAsTheyAre =
 -- entity, the entity's policy requires the code of this command.
 abbrev pub UsesItsCommand : Type 0
 UsesItsCommand =
-    (history : History) (c : AcceptedCommand) (place : ℕ) (e : Entry) (s : LiveSession) (number : ℕ)
-    → MeetsPolicy history c place e s → s.kind ≡ type.Policy
-    → s.assertions ≡ CommandCode number ∷ []
-    → HasPolicyOf s.hash (CommandCode (code_number c.command.code) ∷ []) (policy_at c place)
+    (history : History) (c : AcceptedCommand) (place : ℕ) (e : Entry) (s : LiveSession)
+    (profile : Profile) (number : ℕ) → MeetsPolicy history c place e s → s.kind ≡ type.Policy
+    → s.assertions ≡ CommandCode profile number ∷ []
+    → HasPolicyOf s.hash (CommandCode profile (code_number c.command.code) ∷ []) (policy_at c place)
 
 -- Suppose that a session whose only assertion is TPM2_PolicyNvWritten authorizes the use of an
 -- entity. Then the entity is an NV index, and its WRITTEN attribute is as its policy requires.

@@ -1,40 +1,63 @@
 //! Reads a whole command, from its header to its parameters.
 
-ghost use Rattle.std.specs.Prelude.{◌≡◌, ◌≤◌, [], length, map, Ok, IfOk};
+ghost use Rattle.std.specs.Prelude.{◌≡◌, ◌≤◌, [], length, map, true, Ok, IfOk};
 ghost use Rattle.tpm_bytes.specs.Reading.{AreBytes, Reads};
 ghost use Rattle.tpm_types_command.specs.AuthEntry.{entry_of};
-ghost use Rattle.tpm_types_command.specs.Command.{IsCommand, Whole, command_at, command_text};
+ghost use Rattle.tpm_types_command.specs.Command.{IsCommand, Whole, command_text, served_command_at};
+ghost use Rattle.tpm_commands.specs.CommandCode.{serves};
+ghost use Rattle.tpm_commands.specs.declared.profile.Profile.TheVariants.{Symmetric};
 ghost use Rattle.tpm_types_command.specs.Command.{handles_at, sessions_at, whole_command};
 
 use crate::auth_area::read_area;
 use crate::auth_entry::AuthEntry;
 use crate::command::Command;
-use crate::header::Header;
+use crate::header::{Header, HeaderFault};
 use crate::tag::Tag;
 use arrayvec::ArrayVec;
 use tpm_bytes::Cursor;
+use tpm_commands::Profile;
 use tpm_types_common::{Handle, Rc, ResponseCode};
 
 impl<'a> Command<'a> {
-    /// Reads a command, which must fill the rest of the input and fit in a command buffer. Fails
-    /// with the first fault of the header, with INSUFFICIENT for the first truncated handle, or
-    /// with AUTHSIZE for any fault in the authorization area.
+    /// Reads a command of the symmetric profile. Like [`Command::read_for`] with this profile.
     pub fn read(text: &mut Cursor<'a>) -> Result<Command<'a>, Rc>
         // The result is the decoded command, or the first fault.
-        ensures exact { Reads whole_command (command_at text.old) text.old result text.new }
+        ensures exact { Reads whole_command (served_command_at Symmetric text.old) text.old result
+            text.new }
         // If decoding succeeds, the input is exactly the encoding of the returned command.
         ensures found { IfOk result (λ command. IsCommand (whole_command command)
             × (text.old ≡ command_text (whole_command command)) × (text.new ≡ [])) }
-        // The encoding of a command decodes to that command.
-        ensures only { (command : Whole) → IsCommand command → text.old ≡ command_text command
+        // The encoding of a command of the profile decodes to that command.
+        ensures only { (command : Whole) → IsCommand command
+            → serves Symmetric command.code ≡ true → text.old ≡ command_text command
             → Reads whole_command (Ok (command, [])) text.old result text.new }
     {
-        Command::read_fields(text)
+        Command::read_for(Profile::Symmetric, text)
     }
 
-    #[tactic(auto, unfolding(crate::specs::Command::command_at))]
-    fn read_fields(text: &mut Cursor<'a>) -> Result<Command<'a>, Rc>
-        ensures exact { Reads whole_command (command_at text.old) text.old result text.new }
+    /// Reads a command of this profile, which must fill the rest of the input and fit in a command
+    /// buffer. Fails with the first fault of the header, which is COMMAND_CODE for a command that a
+    /// device of this profile does not serve; with INSUFFICIENT for the first truncated handle; or
+    /// with AUTHSIZE for any fault in the authorization area.
+    pub fn read_for(profile: Profile, text: &mut Cursor<'a>) -> Result<Command<'a>, Rc>
+        // The result is the decoded command, or the first fault.
+        ensures exact { Reads whole_command (served_command_at profile text.old) text.old result
+            text.new }
+        // If decoding succeeds, the input is exactly the encoding of the returned command.
+        ensures found { IfOk result (λ command. IsCommand (whole_command command)
+            × (text.old ≡ command_text (whole_command command)) × (text.new ≡ [])) }
+        // The encoding of a command of the profile decodes to that command.
+        ensures only { (command : Whole) → IsCommand command
+            → serves profile command.code ≡ true → text.old ≡ command_text command
+            → Reads whole_command (Ok (command, [])) text.old result text.new }
+    {
+        Command::read_fields(profile, text)
+    }
+
+    #[tactic(auto, unfolding(crate::specs::Command::served_command_at))]
+    fn read_fields(profile: Profile, text: &mut Cursor<'a>) -> Result<Command<'a>, Rc>
+        ensures exact { Reads whole_command (served_command_at profile text.old) text.old result
+            text.new }
         ensures bytes { AreBytes text.old }
     {
         let mut ahead = Cursor::new(text.rest());
@@ -42,6 +65,9 @@ impl<'a> Command<'a> {
             Ok(header) => header,
             Err(fault) => return Err(fault.rc()),
         };
+        if !profile.serves(header.code) {
+            return Err(HeaderFault::Code.rc());
+        }
         let handles = read_handles(&mut ahead, header.code.handle_count())?;
         let mut entries = ArrayVec::new();
         read_sessions(&mut ahead, header.tag, &mut entries)?;

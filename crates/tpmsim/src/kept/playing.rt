@@ -1,6 +1,6 @@
 //! Plays a script on a kept device. Lines of the script set the locality, the time and the random
-//! bytes of its commands. Other processes may execute commands on the device between two commands
-//! of the script.
+//! bytes of its commands. Commands in words are those of the symmetric profile. Other processes may
+//! execute commands on the device between two commands of the script.
 
 ghost use Rattle.std.specs.Prelude.{◌≡◌, ◌≤◌, [], length};
 ghost use Rattle.tpmsim_script.specs.Answers.{backlog};
@@ -11,6 +11,7 @@ use crate::kept::tracing::traced_row;
 use std::alloc::Global;
 use std::io::{Read, Write};
 use tpm_bytes::Tap;
+use tpm_commands::Profile;
 use tpm_keeping::holder::Fault;
 use tpm_kept_device::answer::Answer;
 use tpm_step::Event;
@@ -113,7 +114,10 @@ impl Player {
     {
         match Line::parse(line)? {
             Line::Command(digits) => return self.execute(kept, room.decode(digits)?, writer),
-            Line::Words(words) => return self.execute(kept, room.assemble(words)?, writer),
+            Line::Words(words) => {
+                let buffer = room.assemble(Profile::Symmetric, words)?;
+                return self.execute(kept, buffer, writer);
+            }
             Line::PowerCycle => return self.cycle_power(kept, writer),
             Line::Locality(locality) => self.script.set_locality(locality),
             Line::Wait(milliseconds) => self.script.wait(milliseconds)?,

@@ -9,7 +9,12 @@ returns g c =
     let persistent = g.K.PersistentMap.PersistentObjects.entries c.read_objects.new.objects in
     let nv = g.K.Nv.Indices.contents c.read_indices.new.indices in
     let kept : NonVolatile =
-    record { state = state.0; persistent = persistent; indices = nv.indices } in
+    record {
+      profile = c.in-Ok.profile;
+      state = state.0;
+      persistent = persistent;
+      indices = nv.indices;
+    } in
     let r = g.K.Keep.record_of c.args.keep.now in
     let written : g.K.Keep.record_of
     (g.K.Keep.with_nv
@@ -19,8 +24,8 @@ returns g c =
     ≡ record r { fixed = c.read_state.new.fixed; persistent = persistent; nv = nv } =
     search rules in (
       kept,
-      kept_read c.args.version c.args.text.now _ _ _ _ state.0 persistent nv.indices c.in-Ok.ensures
+      kept_read c.args.version _ c.args.text.now _ _ _ _ state.0 persistent nv.indices c.in-Ok.ensures
           state.1 c.in_ok-read_objects.ensures c.in_ok-read_indices.ensures.filled,
-      written ∙ powered r c.fixed_mut.result.now c.read_state.new.fixed state.0 persistent nv
+      written ∙ powered r _ c.fixed_mut.result.now c.read_state.new.fixed state.0 persistent nv
           c.requires c.fixed_mut.ensures.value state.2 (search rules),
     )

@@ -12,18 +12,18 @@ use Rattle.tpm_text.proofs.line.write_command.Goals as goal
 pub returns-in_err-code : goal.returns-in_err-code
 returns-in_err-code c =
     let p = err_from_is_err_and c.from_residual.result c.from_residual.ensures.1 in
-    let n = ap name_in (sym c.of-tokens.ensures)
-    ∙ reads_tokens_err (name_in (tokens_left c.of-tokens.result)) c.read_name.result
+    let n = ap (name_in c.args.profile) (sym c.of-tokens.ensures)
+    ∙ reads_tokens_err (name_in c.args.profile (tokens_left c.of-tokens.result)) c.read_name.result
     c.in_err-code.field-0.0 (tokens_left c.read_name.new.tokens) c.in_err-code.was
     c.read_name.ensures in
-    rw (p.1, p.2, name_fault c.args.line.now c.in_err-code.field-0.0 n) refl
+    rw (p.1, p.2, name_fault c.args.profile c.args.line.now c.in_err-code.field-0.0 n) refl
 
 pub returns-in_err-put_handles : goal.returns-in_err-put_handles
 returns-in_err-put_handles c =
     let p = err_from_is_err_and c.from_residual-in_err-put_handles.result
     c.from_residual-in_err-put_handles.ensures.1 in
-    let n = ap name_in (sym c.of-tokens.ensures)
-    ∙ reads_tokens_ok (name_in (tokens_left c.of-tokens.result)) c.read_name.result
+    let n = ap (name_in c.args.profile) (sym c.of-tokens.ensures)
+    ∙ reads_tokens_ok (name_in c.args.profile (tokens_left c.of-tokens.result)) c.read_name.result
     c.in_ok-code.code (tokens_left c.read_name.new.tokens) c.in_ok-code.was
     c.read_name.ensures in
     let count = ap (λ f. length f.handles) c.shape-shape.ensures.value in
@@ -33,7 +33,7 @@ returns-in_err-put_handles c =
     rw (
       p.1,
       p.2,
-      handles_fault c.args.line.now c.in_ok-code.code
+      handles_fault c.args.profile c.args.line.now c.in_ok-code.code
           (tokens_left c.read_name.new.tokens) n c.in_err-put_handles.field-0.0 h,
     ) refl
 
@@ -41,8 +41,8 @@ pub returns-in_err-tag : goal.returns-in_err-tag
 returns-in_err-tag c =
     let p = err_from_is_err_and c.from_residual-in_err-tag.result
     c.from_residual-in_err-tag.ensures.1 in
-    let n = ap name_in (sym c.of-tokens.ensures)
-    ∙ reads_tokens_ok (name_in (tokens_left c.of-tokens.result)) c.read_name.result
+    let n = ap (name_in c.args.profile) (sym c.of-tokens.ensures)
+    ∙ reads_tokens_ok (name_in c.args.profile (tokens_left c.of-tokens.result)) c.read_name.result
     c.in_ok-code.code (tokens_left c.read_name.new.tokens) c.in_ok-code.was
     c.read_name.ensures in
     let count = ap (λ f. length f.handles) c.shape-shape.ensures.value in
@@ -53,7 +53,7 @@ returns-in_err-tag c =
     rw (
       p.1,
       p.2,
-      entries_fault c.args.line.now c.in_ok-code.code
+      entries_fault c.args.profile c.args.line.now c.in_ok-code.code
           (tokens_left c.read_name.new.tokens) n h.0 (tokens_left c.put_handles.new.tokens)
           (ap (λ k. handles_in k (tokens_left c.read_name.new.tokens)) (sym count) ∙ h.1)
           c.in_err-tag.field-0.0 s,
@@ -63,8 +63,8 @@ pub returns-in_err-put_parameters : goal.returns-in_err-put_parameters
 returns-in_err-put_parameters c =
     let p = err_from_is_err_and c.from_residual-in_err-put_parameters.result
     c.from_residual-in_err-put_parameters.ensures.1 in
-    let n = ap name_in (sym c.of-tokens.ensures)
-    ∙ reads_tokens_ok (name_in (tokens_left c.of-tokens.result)) c.read_name.result
+    let n = ap (name_in c.args.profile) (sym c.of-tokens.ensures)
+    ∙ reads_tokens_ok (name_in c.args.profile (tokens_left c.of-tokens.result)) c.read_name.result
     c.in_ok-code.code (tokens_left c.read_name.new.tokens) c.in_ok-code.was
     c.read_name.ensures in
     let count = ap (λ f. length f.handles) c.shape-shape.ensures.value in
@@ -79,7 +79,7 @@ returns-in_err-put_parameters c =
     rw (
       p.1,
       p.2,
-      parameters_fault c.args.line.now c.in_ok-code.code
+      parameters_fault c.args.profile c.args.line.now c.in_ok-code.code
           (tokens_left c.read_name.new.tokens) n h.0 (tokens_left c.put_handles.new.tokens)
           (ap (λ k. handles_in k (tokens_left c.read_name.new.tokens)) (sym count) ∙ h.1) s.0
           (tokens_left c.put_authorization.new.tokens) s.1 c.in_err-put_parameters.field-0.0 q,
@@ -89,8 +89,8 @@ pub returns-in_err-check_end : goal.returns-in_err-check_end
 returns-in_err-check_end c =
     let p = err_from_is_err_and c.from_residual-in_err-check_end.result
     c.from_residual-in_err-check_end.ensures.1 in
-    let n = ap name_in (sym c.of-tokens.ensures)
-    ∙ reads_tokens_ok (name_in (tokens_left c.of-tokens.result)) c.read_name.result
+    let n = ap (name_in c.args.profile) (sym c.of-tokens.ensures)
+    ∙ reads_tokens_ok (name_in c.args.profile (tokens_left c.of-tokens.result)) c.read_name.result
     c.in_ok-code.code (tokens_left c.read_name.new.tokens) c.in_ok-code.was
     c.read_name.ensures in
     let count = ap (λ f. length f.handles) c.shape-shape.ensures.value in
@@ -107,7 +107,7 @@ returns-in_err-check_end c =
     rw (
       p.1,
       p.2,
-      end_fault c.args.line.now c.in_ok-code.code (tokens_left c.read_name.new.tokens) n
+      end_fault c.args.profile c.args.line.now c.in_ok-code.code (tokens_left c.read_name.new.tokens) n
           h.0 (tokens_left c.put_handles.new.tokens)
           (ap (λ k. handles_in k (tokens_left c.read_name.new.tokens)) (sym count) ∙ h.1) s.0
           (tokens_left c.put_authorization.new.tokens) s.1 q.0
@@ -136,8 +136,8 @@ finish-requires c =
 pub returns : goal.returns
 returns c =
     let ten = begun (drafted_bytes c.begin.new.self) c.begin.ensures.some c.begin.ensures.ten in
-    let n = ap name_in (sym c.of-tokens.ensures)
-    ∙ reads_tokens_ok (name_in (tokens_left c.of-tokens.result)) c.read_name.result
+    let n = ap (name_in c.args.profile) (sym c.of-tokens.ensures)
+    ∙ reads_tokens_ok (name_in c.args.profile (tokens_left c.of-tokens.result)) c.read_name.result
     c.in_ok-code.code (tokens_left c.read_name.new.tokens) c.in_ok-code.was
     c.read_name.ensures in
     let count = ap (λ f. length f.handles) c.shape-shape.ensures.value in
@@ -151,7 +151,7 @@ returns c =
     c.put_parameters.ensures in
     let e = gives_is (end_of_line (tokens_left c.put_parameters.new.tokens)) c.check_end.result
     c.check_end.ensures ∙ c.in_ok-check_end.was in
-    command_finished c.args.line.now c.in_ok-code.code (tokens_left c.read_name.new.tokens) n h.0
+    command_finished c.args.profile c.args.line.now c.in_ok-code.code (tokens_left c.read_name.new.tokens) n h.0
     (tokens_left c.put_handles.new.tokens)
     (ap (λ k. handles_in k (tokens_left c.read_name.new.tokens)) (sym count) ∙ h.1) s.0
     (tokens_left c.put_authorization.new.tokens) s.1 q.0

@@ -1,0 +1,3 @@
+// Package amd64 is the folder that contains libtpmsim.a for amd64 in the packed module. It is a package so that
+// go mod vendor copies it.
+package amd64

@@ -1,0 +1,6 @@
+"""Runs tpmsim-refusals: python3 -m tpmsim.refusals."""
+
+from tpmsim.refusals.main import run
+
+if __name__ == "__main__":
+    run()
