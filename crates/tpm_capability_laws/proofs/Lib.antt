@@ -1,0 +1,4 @@
+pub mod Algorithms
+pub mod Attributes
+pub mod Counts
+pub mod Free

@@ -1,0 +1,5 @@
+pub mod Algorithms
+pub mod Listed
+pub mod Attributes
+pub mod Counts
+pub mod Free
