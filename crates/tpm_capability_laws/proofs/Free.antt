@@ -62,8 +62,13 @@ module _ {X : Type 0} (places : List (Option X)) (listed : ℕ → List Element)
   few_listed zero within = omega arith
   few_listed (suc n) within =
       let here = lists n (omega (arith, within)) in
-      omega (arith, one_more n, few_listed n (omega (arith, within)), here,
-      few (at_place places n))
+      omega (
+        arith,
+        one_more n,
+        few_listed n (omega (arith, within)),
+        here,
+        few (at_place places n),
+      )
 
   all_listed : (n : ℕ) → n ≤ length places
       → ((place : ℕ) → place < length places → at_place places place ≢ None) → count n ≡ n
