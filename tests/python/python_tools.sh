@@ -5,12 +5,13 @@ tests=$(cd "$(dirname "$0")/.." && pwd -P)
 needs pytest-3 cryptography openssl
 
 cd "${tests%/*}/clients/python" || exit 1
-TPMSIM=$program PYTHONDONTWRITEBYTECODE=1 pytest-3 -q -rs -p no:cacheprovider tests/test_plugin.py tests/test_aes.py \
+TPMSIM=$program PYTHONDONTWRITEBYTECODE=1 pytest-3 -q -rfEs -p no:cacheprovider tests/test_plugin.py tests/test_aes.py \
     >"$room/said" 2>&1
 status=$?
 if [ "$status" -eq 0 ] && tail -n 1 "$room/said" | grep -q '^[0-9]* passed in '; then
     echo 'all pass, and none is skipped'
 else
-    cat "$room/said"
+    grep -E '^(FAILED|ERROR|SKIPPED) ' "$room/said"
+    cat "$room/said" >&2
 fi
 exit "$status"
