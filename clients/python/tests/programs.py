@@ -7,7 +7,14 @@ import signal
 import subprocess
 import shutil
 import tempfile
+import time
 import unittest
+
+from tpmsim.device.child import program_found
+
+# How long a client waits for a response, in seconds. A busy machine delays responses, and must not fail
+# a test.
+PATIENCE = 3600
 
 # The path of tpmsim-simulator: the program that tests/python/python.sh has built, or else the
 # installed program.
@@ -42,6 +49,21 @@ def running(*words, ready):
         finally:
             process.terminate()
             check_ending(process.wait(600), words)
+
+
+def served(folder, connections=1):
+    """Runs `tpmsim serve` with the image in a folder, and yields the path of its socket."""
+    path = f"{folder}/socket"
+    words = f"serve --socket {path} --image {folder}/image --entropy /dev/urandom --locality 0"
+    words += f" --connections {connections}"
+
+    def ready(process):
+        while not os.path.exists(path):
+            assert process.poll() is None, f"{words} ends before it serves"
+            time.sleep(0.001)
+        return path
+
+    return running(program_found(), *words.split(), ready=ready)
 
 
 def check_ending(status, words):

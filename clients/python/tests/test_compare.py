@@ -23,6 +23,7 @@ from tpmsim.standard import TRANSIENT
 import completed_scripts
 from completed_model import CompletedModel, RecordedModel
 from journals import Journal
+from programs import PATIENCE
 from tests.common import places
 
 # Scripts with sessions of all kinds, policies, objects, guesses and waits.
@@ -285,7 +286,7 @@ class Others(unittest.TestCase):
     @unittest.skipUnless(shutil.which("swtpm"), "there is no swtpm")
     def test_swtpm(self):
         """Each difference between swtpm and this device has a known cause."""
-        with StartedSwtpm() as other:
+        with StartedSwtpm(seconds=PATIENCE) as other:
             report = Comparison(other).play(script("passwords"))
         own = [it for it in report.differences if it.follows is None]
         self.assertTrue(own)
@@ -299,7 +300,7 @@ class Others(unittest.TestCase):
         with RecordedModel() as device:
             device.journal.go_on(device.completion.numbers)
             contexts_that_move(device)
-        with StartedSwtpm() as other:
+        with StartedSwtpm(seconds=PATIENCE) as other:
             report = Comparison(other).play(device.journal.text)
         found = [(it.command, it.what) for it in report.differences]
         self.assertEqual(found, [("CreatePrimary", "creationTicket")] * 2)

@@ -2,23 +2,17 @@
 responses, whether the device is in this process or elsewhere.
 """
 
-import os
 import pathlib
 import shutil
-import subprocess
 import tempfile
-import time
 import unittest
 
-from programs import NEEDS_SIMULATOR, simulator
+from programs import NEEDS_SIMULATOR, PATIENCE, served, simulator
 from tpmsim.caller import area, BY_VALUE, Caller, Refused
 from tpmsim.device import ChildDevice, KeptDevice, library, LibraryDevice, ModelDevice, ServedDevice
 from tpmsim.device import SimulatorDevice, StartedSwtpm
-from tpmsim.device.child import program_found
 from tpmsim.explain.of_device import log_of, why_refused
 from tpmsim.standard import AES
-
-SERVE = "serve --socket socket --image image --entropy /dev/urandom --locality 0 --connections 1"
 
 
 def use(device):
@@ -92,15 +86,7 @@ class Reasons(unittest.TestCase):
 
     def served(self):
         """Returns a device on a socket. Its random bytes are unknown."""
-        process = subprocess.Popen([program_found(), *SERVE.split()], cwd=self.folder)
-        self.addCleanup(process.wait)
-        self.addCleanup(process.kill)
-        here = os.getcwd()
-        self.addCleanup(os.chdir, here)
-        os.chdir(self.folder)  # the path of a socket must be short
-        while not os.path.exists("socket"):
-            time.sleep(0.01)
-        return ServedDevice("socket")
+        return ServedDevice(self.enterContext(served(self.folder)), PATIENCE)
 
     def test_on_a_socket(self):
         self.assert_explained(self.served())
@@ -108,14 +94,15 @@ class Reasons(unittest.TestCase):
     @NEEDS_SIMULATOR
     def test_at_a_simulator(self):
         image = str(pathlib.Path(self.folder) / "image")
-        self.assert_explained(SimulatorDevice(*self.enterContext(simulator("--image", image))))
+        address = self.enterContext(simulator("--image", image))
+        self.assert_explained(SimulatorDevice(*address, PATIENCE))
 
     @unittest.skipUnless(shutil.which("swtpm"), "there is no swtpm")
     def test_of_another_maker(self):
         """Refusals by another vendor's TPM are explained as long as its responses match this
         device's.
         """
-        with StartedSwtpm() as device:
+        with StartedSwtpm(seconds=PATIENCE) as device:
             tpm = Caller(device)
             tpm.start_up()
             index = tpm.define(area(attributes=BY_VALUE), auth=b"right")

@@ -10,7 +10,6 @@ import shutil
 import subprocess
 import sys
 import tempfile
-import time
 import unittest
 import unittest.mock
 
@@ -27,7 +26,7 @@ from tpmsim.model.machine import Model
 from tpmsim.model.player import played
 from tpmsim.model.protection import Lockout
 from tpmsim.standard import RH_OWNER
-from programs import NEEDS_SIMULATOR, running, simulator
+from programs import NEEDS_SIMULATOR, PATIENCE, served, simulator
 from states import without_start
 from twenty import TwentyTests
 
@@ -105,17 +104,7 @@ class OverSocket(TwentyTests, unittest.TestCase):
 
     def device(self):
         folder = self.enterContext(tempfile.TemporaryDirectory())
-        words = f"serve --socket {folder}/socket --image {folder}/image --entropy /dev/urandom"
-        words += " --locality 0 --connections 1"
-
-        def ready(process):
-            until = time.monotonic() + 60
-            while not os.path.exists(f"{folder}/socket") and time.monotonic() < until:
-                time.sleep(0.001)
-            return f"{folder}/socket"
-
-        served = running(program_found(), *words.split(), ready=ready)
-        return ServedDevice(self.enterContext(served))
+        return ServedDevice(self.enterContext(served(folder)), PATIENCE)
 
 
 @NEEDS_LIBRARY
@@ -131,7 +120,7 @@ class OverSimulator(TwentyTests, unittest.TestCase):
     lacks = {"test_lockout": HOSTS_TIME, "test_snapshot": NO_SNAPSHOTS}
 
     def device(self):
-        return SimulatorDevice(*self.enterContext(simulator()))
+        return SimulatorDevice(*self.enterContext(simulator()), PATIENCE)
 
 
 def differs(test):
@@ -146,7 +135,7 @@ class OverSwtpm(TwentyTests, unittest.TestCase):
     """
 
     lacks = {"test_lockout": HOSTS_TIME}
-    device = StartedSwtpm
+    device = functools.partial(StartedSwtpm, seconds=PATIENCE)
 
     # swtpm refuses a session that neither authorizes nor encrypts, with ATTRIBUTES/s1.
     test_end_of_a_session = differs(TwentyTests.test_end_of_a_session)
@@ -170,7 +159,9 @@ class Devices(unittest.TestCase):
         tpm = Caller(ModelDevice())
         with self.assertRaisesRegex(TypeError, r"^Quote \(158\): tpmsim has no such command$"):
             tpm.call("Quote")
-        with self.assertRaisesRegex(TypeError, r"^StirRandom \(146\): only a device of the complete"):
+        with self.assertRaisesRegex(
+            TypeError, r"^StirRandom \(146\): only a device of the complete"
+        ):
             tpm.call("StirRandom")
         with self.assertRaisesRegex(TypeError, "^Qoute is not a command that the device serves"):
             tpm.call("Qoute")

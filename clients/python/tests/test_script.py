@@ -1,19 +1,16 @@
 """Tests layered scripts: the plain scripts that they produce, their errors, and served devices."""
 
 import dataclasses
-import os
 import pathlib
 import tempfile
-import time
 import unittest
 
 from tpmsim.device import ServedDevice
-from tpmsim.device.shipped import shipped
 from tpmsim.model.player import Player
 from tpmsim.script import BadScript, Layer, own_device
 from tpmsim.script.own_device import OwnModelDevice
 from tpmsim.standard import CC
-from programs import running
+from programs import PATIENCE, served
 
 EXAMPLES = sorted((pathlib.Path(__file__).resolve().parents[3] / "examples/words").glob("*.tpms"))
 
@@ -248,30 +245,18 @@ class Served(unittest.TestCase):
     """
 
     def test_a_served_device(self):
-        program = os.environ.get("TPMSIM") or shipped("tpmsim")
-        with tempfile.TemporaryDirectory() as folder:
-            path = f"{folder}/tpm.sock"
-            device = "--socket", path, "--image", f"{folder}/image", "--entropy", "/dev/urandom"
-            counted = "--locality", "0", "--connections", "100"
-            with running(program, "serve", *device, *counted, ready=lambda _: wait_for(path)):
-                self.play(path)
+        with tempfile.TemporaryDirectory() as folder, served(folder, connections=100) as path:
+            self.play(path)
 
     def play(self, path):
-        codes = played(START + "do GetRandom s:$session 8\n", ServedDevice(path), traces=True)
+        codes = played(
+            START + "do GetRandom s:$session 8\n", ServedDevice(path, PATIENCE), traces=True
+        )
         self.assertEqual(codes[-1], "# 00000000")
         self.assertFalse([it for it in codes if it.startswith("entropy")])
         for line, words in (("entropy 00", "random bytes"), ("wait 1", "time"), ("power", "power")):
             with self.subTest(line), self.assertRaisesRegex(BadScript, f"line 1, .*{words}"):
-                played(line, ServedDevice(path))
-
-
-def wait_for(path):
-    """Waits until a program listens on the socket."""
-    for _ in range(500):
-        if os.path.exists(path):
-            return
-        time.sleep(0.02)
-    raise TimeoutError(path)
+                played(line, ServedDevice(path, PATIENCE))
 
 
 if __name__ == "__main__":

@@ -9,6 +9,7 @@ import shutil
 import unittest
 
 from completed_model import CompletedModel, RecordedModel
+from programs import PATIENCE
 from recorded_case import RecordedCase
 from tpmsim.audit.auditor import report
 from tpmsim.compare.play import Comparison
@@ -360,7 +361,7 @@ class Logs(unittest.TestCase):
     @unittest.skipUnless(shutil.which("swtpm"), "there is no swtpm")
     def test_swtpm(self):
         """swtpm returns the same codes, and its HMACs are right too."""
-        with CompletedModel() as device, StartedSwtpm() as other:
+        with CompletedModel() as device, StartedSwtpm(seconds=PATIENCE) as other:
             codes = by_sessions(device)
             self.assertEqual(by_sessions(other), codes)
 

@@ -11,9 +11,10 @@ import socket
 import subprocess
 import sys
 import tempfile
-import time
 import unittest
+from unittest import mock
 
+from programs import PATIENCE
 from tpmsim.caller import area, Caller
 from tpmsim.device import Device, DeviceEnded, KeptDevice, library, ServedDevice
 from tpmsim.device import SimulatorDevice, SwtpmDevice
@@ -22,7 +23,7 @@ from tpmsim.standard import RH_OWNER
 from tpmsim.sweep import main
 from tpmsim.sweep.findings import Finding
 from tpmsim.sweep.refusals import FAKED, Only, planned, Refusal, refusals_of
-from tpmsim.sweep.runs import run, Settings
+from tpmsim.sweep.runs import has_ended, run, Settings
 from tpmsim.sweep.server import Server
 from tpmsim.sweep.tpm import SweptTpm
 
@@ -31,7 +32,7 @@ BEGIN = """
 import os, signal, sys, time
 from tpmsim.caller import Caller, Refused
 from tpmsim.device import ServedDevice
-tpm = Caller(ServedDevice(os.environ["TPMSIM_SOCKET"]))
+tpm = Caller(ServedDevice(os.environ["TPMSIM_SOCKET"], 3600))
 def read():
     return tpm.send(tpm.reading(0x01000001, 4, by=0x40000001))["data"]
 try:
@@ -55,7 +56,7 @@ CLIENTS = {
         "        os.kill(os.getpid(), signal.SIGABRT)",
         [Finding.DIES, Finding.LEAVES_SESSION],
     ),
-    "hangs": ("        time.sleep(3600)", [Finding.HANGS]),
+    "hangs": ("        open(os.environ['HANGS'], 'w').close(); time.sleep(3600)", [Finding.HANGS]),
     "succeeds": (
         "        tpm.call('FlushContext', flushHandle=session.handle); sys.exit(0)",
         [Finding.SUCCEEDS],
@@ -101,8 +102,8 @@ def told(place, *numbers):
     return said(place, b"".join(it.to_bytes(4, "big") for it in numbers))
 
 
-def settings(words, seconds=3600):
-    return Settings(tuple(words), state(), seconds)
+def settings(words):
+    return Settings(tuple(words), state(), PATIENCE)
 
 
 def main_of(*words):
@@ -110,7 +111,7 @@ def main_of(*words):
     output and its errors.
     """
     if "--" in words and "--timeout" not in words:
-        words = "--timeout", 3600, *words
+        words = "--timeout", PATIENCE, *words
     output, errors = io.StringIO(), io.StringIO()
     with contextlib.redirect_stdout(output), contextlib.redirect_stderr(errors):
         status = main.main(*map(str, words))
@@ -123,17 +124,10 @@ class Sweeps(unittest.TestCase):
         self.folder = pathlib.Path(self.enterContext(tempfile.TemporaryDirectory()))
         self.text = self.folder / "state"
         self.text.write_bytes(state())
-        package = str(pathlib.Path(main.__file__).parents[2])
-        old = os.environ.get("PYTHONPATH")
-        os.environ["PYTHONPATH"] = package
-        self.addCleanup(self.put_back, old)
-
-    @staticmethod
-    def put_back(old):
-        if old is None:
-            del os.environ["PYTHONPATH"]
-        else:
-            os.environ["PYTHONPATH"] = old
+        self.hangs = self.folder / "hangs"
+        package = pathlib.Path(main.__file__).parents[2]
+        environment = {"PYTHONPATH": str(package), "HANGS": str(self.hangs)}
+        self.enterContext(mock.patch.dict(os.environ, environment))
 
     def swept(self, name, *more):
         """Returns the status of a sweep of a client whose TPM2_NV_Read is refused by A2, and the
@@ -144,15 +138,31 @@ class Sweeps(unittest.TestCase):
         self.assertEqual(errors, "")
         return status, json.loads(output)
 
+    def has_ended(self, process, seconds):
+        """Waits until a client ends or says that it hangs, however busy the machine is."""
+        self.assertEqual(seconds, 45)
+        while not (ended := has_ended(process, 0.01)) and not self.hangs.exists():
+            pass
+        return ended
+
     def test_each_fault_of_a_client_is_found_by_name(self):
+        self.enterContext(mock.patch("tpmsim.sweep.runs.has_ended", self.has_ended))
         for name, (_, wanted) in CLIENTS.items():
             with self.subTest(name):
-                more = ("--timeout", 45) if name == "hangs" else ()
-                status, found = self.swept(name, *more)
+                self.hangs.unlink(missing_ok=True)
+                status, found = self.swept(name, "--timeout", 45)
                 self.assertEqual([it["check"] for it in found["runs"]], ["A2"])
                 self.assertEqual(found["runs"][0]["findings"], [it.value for it in wanted])
                 self.assertEqual(found["unrefused"]["findings"], [])
                 self.assertEqual(status, 1 if wanted else 0)
+
+    def test_the_time_after_which_a_client_hangs(self):
+        words = sys.executable, "-c", "input()"
+        with subprocess.Popen(words, stdin=subprocess.PIPE) as process:
+            self.assertFalse(has_ended(process.pid, 0.01))
+            process.stdin.write(b"\n")
+            process.stdin.close()
+            self.assertTrue(has_ended(process.pid, PATIENCE))
 
     def test_the_run_without_a_refusal_is_unchanged(self):
         words = sys.executable, "-c", BEGIN.replace("pass", "raise") + "    print(read())" + END
@@ -241,19 +251,21 @@ class Sweeps(unittest.TestCase):
         self.assertEqual(os.listdir(self.folder / "work"), ["given"])
 
     def test_what_a_client_leaves_running_is_ended(self):
-        text = "import os, time\nchild = os.fork()\nif not child: time.sleep(3600)\nprint(child)"
-        ran = run(settings((sys.executable, "-c", text)))
-        stat = pathlib.Path("/proc", ran.output.decode().strip(), "stat")
-        until = time.monotonic() + 60
-        while stat.exists() and ") Z " not in stat.read_text():
-            self.assertLess(time.monotonic(), until)
-            time.sleep(0.01)
+        path = str(self.folder / "open")
+        os.mkfifo(path)
+        reader = os.open(path, os.O_RDONLY | os.O_NONBLOCK)
+        self.addCleanup(os.close, reader)
+        text = f"import os, signal\nos.open({path!r}, os.O_WRONLY)\nchild = os.fork()\n"
+        text += "if not child: signal.pause()\nprint(child)"
+        self.assertGreater(int(run(settings((sys.executable, "-c", text))).output), 0)
+        os.set_blocking(reader, True)
+        self.assertEqual(os.read(reader, 1), b"", "no process has the file open any more")
 
     def test_an_interrupt_ends_the_sweep(self):
-        # A run with a refusal lasts longer than the time until the interrupt; the sweep then awaits
-        # it. A shell's background job ignores interrupts, so that the test might ignore them too.
+        # The sweep awaits a client that hangs. A shell's background job ignores interrupts, so that
+        # the test might ignore them too.
         words = sys.executable, "-m", "tpmsim.sweep.main", "--from", str(self.text)
-        words = *words, "--only", "NV_Read", "--timeout", "45", "--", *client("hangs")
+        words = *words, "--only", "NV_Read", "--timeout", str(PATIENCE), "--", *client("hangs")
         heed = functools.partial(signal.signal, signal.SIGINT, signal.SIG_DFL)
         with subprocess.Popen(words, stdout=subprocess.PIPE, preexec_fn=heed) as process:
             first = process.stdout.readline()
@@ -303,7 +315,7 @@ READS_TWICE = """
 import os, signal, sys
 from tpmsim.caller import Caller, Refused
 from tpmsim.device import ServedDevice
-tpm = Caller(ServedDevice(os.environ["TPMSIM_SOCKET"]))
+tpm = Caller(ServedDevice(os.environ["TPMSIM_SOCKET"], 3600))
 print(tpm.call("NV_ReadPublic", 0x01000001).nvPublic.words)
 tpm.auth_values[0x01000001] = b"pin"
 session = tpm.session()
@@ -333,6 +345,7 @@ class Demands(unittest.TestCase):
     def ran(self, *words, client=READS_TWICE, more=()):
         """Runs the program; returns its status, its output and its errors."""
         program = sys.executable, "-m", "tpmsim.sweep.main", "--from", str(self.text)
+        words = "--timeout", PATIENCE, *words
         environment = {**os.environ, "PYTHONPATH": str(pathlib.Path(main.__file__).parents[2])}
         words = *program, *map(str, words), "--", sys.executable, "-c", client, *more
         done = subprocess.run(words, env=environment, capture_output=True, text=True, check=False)
@@ -442,7 +455,9 @@ class Served(unittest.TestCase):
         self.addCleanup(tpm.close)
         with Server(tpm.execute, tpm.power_cycle) as server:
             places = ("127.0.0.1", server.port), ("127.0.0.1", server.port + 1)
-            with ServedDevice(server.path) as one, SwtpmDevice(*places) as other:
+            with ServedDevice(server.path, PATIENCE) as one, SwtpmDevice(
+                *places, PATIENCE
+            ) as other:
                 Caller(one).call("GetRandom", bytesRequested=2)
                 other.locality = 3
                 Caller(other).call("PCR_Extend", 17, digests="sha256:" + "00" * 32)
@@ -451,7 +466,7 @@ class Served(unittest.TestCase):
             cut = socket.create_connection(places[0])
             cut.sendall(b"\x80\x01\x00\x00")
             cut.close()
-            with ServedDevice(server.path) as one:
+            with ServedDevice(server.path, PATIENCE) as one:
                 Caller(one).call("ReadClock")
         self.assertEqual(
             [it.name for it in tpm.sent], ["GetRandom", "PCR_Extend", "Startup", "ReadClock"]
@@ -463,7 +478,7 @@ class Served(unittest.TestCase):
         self.addCleanup(tpm.close)
         with Server(tpm.execute, tpm.power_cycle) as server:
             places = [("127.0.0.1", server.simulator_port + it) for it in (0, 1)]
-            with SimulatorDevice("127.0.0.1", server.simulator_port) as device:
+            with SimulatorDevice("127.0.0.1", server.simulator_port, PATIENCE) as device:
                 caller = Caller(device)
                 caller.call("GetRandom", bytesRequested=2)
                 device.locality = 3
@@ -488,7 +503,7 @@ class Served(unittest.TestCase):
             raise ZeroDivisionError
 
         with self.assertRaises(ZeroDivisionError), Server(fails, lambda: None) as server:
-            with ServedDevice(server.path) as device, self.assertRaises(DeviceEnded):
+            with ServedDevice(server.path, PATIENCE) as device, self.assertRaises(DeviceEnded):
                 device.execute(bytes(10))
 
 
