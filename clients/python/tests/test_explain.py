@@ -225,11 +225,13 @@ class CommandLine(unittest.TestCase):
             os.environ, {"TPM2TOOLS_TCTI": f"tpmsim:rm,state={kept},keep=3"}
         ):
             self.assertEqual(told()[0], output)
-        boots = self.folder / "boots"
+        boots = self.folder / ("boots" * 30)  # longer than a line, which must not break it
         boots.mkdir()
         (boots / "boot-10.tpm").write_bytes(current)
         (boots / "boot-9.tpm").write_bytes(first)
-        self.assertIn("boot-9.tpm from line 1 on, boot-10.tpm from", told(boots)[0])
+        said = f"{boots} has 2 logs: boot-9.tpm from line 1 on, boot-10.tpm from line {lines + 1} on."
+        output = told(boots)[0]
+        self.assertEqual(" ".join(output.split("\n\n")[0].split()), said)
         error = told(self.folder)[1]
         self.assertIn(f"{self.folder} has 2 devices; name one of {boots}, {kept}", error)
         empty = self.folder / "empty"

@@ -70,7 +70,7 @@ def of_log(events: list[Event], play: Play) -> Iterator[str]:
     them is unreliable.
     """
     for words in play.remarks:
-        yield from textwrap.wrap(words, WIDTH, break_on_hyphens=False)
+        yield from textwrap.wrap(words, WIDTH, break_long_words=False, break_on_hyphens=False)
     if play.remarks:
         yield ""
     for words in play.damages:
