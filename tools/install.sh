@@ -84,7 +84,7 @@ put_library() {
     # shellcheck disable=SC2016 # pkg-config expands the variables
     for file in tpmsim.pc tpmsim-kept.pc; do
         sed -e "1iprefix=$prefix\nincludedir=\${prefix}/include\nlibdir=\${prefix}/$libraries\n" \
-            -e 's/-I[$]{pcfiledir}/-I${includedir}/' -e 's/-L[$]{pcfiledir}/-L${libdir}/' \
+            -e 's/-I[$]{pcfiledir}/-I"${includedir}"/' -e 's/-L[$]{pcfiledir}/-L"${libdir}"/' \
             "clients/c/$file" >"$work/$file" && put 644 "$work/$file" "$libraries/pkgconfig/$file"
     done
     put_cmake
@@ -142,7 +142,15 @@ tell_loader() {
         ldconfig || fail 'ldconfig does not tell the loader of the libraries'
     fi
     ldconfig -p 2>"$work/told" | grep -qF "$prefix/$libraries/libtpmsim.so.0" ||
-        echo "The loader finds the libraries by LD_LIBRARY_PATH=$prefix/$libraries"
+        echo "The loader finds the libraries by LD_LIBRARY_PATH='$prefix/$libraries'"
+}
+
+# tell_compilers: prints the variables that the user has to set, if pkg-config does not find the library.
+tell_compilers() {
+    [ "$(pkg-config --variable=libdir tpmsim 2>"$work/told")" = "$prefix/$libraries" ] || {
+        echo "pkg-config finds the library by PKG_CONFIG_PATH='$prefix/$libraries/pkgconfig'"
+        echo "CMake finds the library by CMAKE_PREFIX_PATH='$prefix'"
+    }
 }
 
 # tell_python: prints the variable that the user has to set, if python3 does not find the package.
@@ -151,7 +159,7 @@ tell_python() {
 import sys, tpmsim
 sys.exit(not tpmsim.__file__.startswith(sys.argv[1]))
 ' "$prefix/$packages/" 2>"$work/told") ||
-        echo "python3 finds tpmsim by PYTHONPATH=$prefix/$packages"
+        echo "python3 finds tpmsim by PYTHONPATH='$prefix/$packages'"
 }
 
 put_documents() {
@@ -187,5 +195,6 @@ put_modules
 put_documents
 if [ -z "${DESTDIR:-}" ]; then
     tell_loader
+    tell_compilers
     tell_python
 fi

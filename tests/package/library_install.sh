@@ -36,7 +36,7 @@ import() {
 echo '== root, and a prefix where neither looks'
 : >known
 install_as 0 "$room/opt"
-path=$(sed -n 's/^python3 finds tpmsim by PYTHONPATH=//p' said)
+path=$(sed -n "s/^python3 finds tpmsim by PYTHONPATH='\(.*\)'/\1/p" said)
 (PYTHONPATH=$path && export PYTHONPATH && import)
 
 echo '== a user, and a prefix where both look'

@@ -38,7 +38,17 @@ export function kindWords(handle) {
   if (handle < facts.pcrs) return "a PCR";
   if (handle === PASSWORD_HANDLE) return "the handle of a password";
   if (Object.values(facts.handleNames).includes(handle)) return handleWords(handle);
-  return facts.ofFirstByte[handle >>> 24] ?? "of no kind that is served";
+  return facts.ofFirstByte[handle >>> 24] ?? `of no kind that is served${decimalWords(handle)}`;
+}
+
+/**
+ * Says what to write if the handle is a served one whose hex digits were read in decimal.
+ * @param {number} handle
+ */
+function decimalWords(handle) {
+  const meant = Number.parseInt(String(handle >>> 0), 16);
+  if (!(Math.floor(meant / 2 ** 24) in facts.ofFirstByte)) return "";
+  return ` (it is ${handle >>> 0} in decimal; in words, write 0x${meant.toString(16).padStart(8, "0")})`;
 }
 
 /**

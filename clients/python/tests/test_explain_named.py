@@ -174,9 +174,19 @@ class Values(unittest.TestCase):
             sent = PIN.ljust(size).hex()
             found = self.slips(define, f"do NV_Write 01000001 01000001 pw:{sent} 00 0")
             self.assertIn(f"padded with blanks to {size}", " ".join(found))
+        for count in (2, 3, 7, 19):
+            sent = (PIN + b" " * count).hex()
+            found = self.slips(define, f"do NV_Write 01000001 01000001 pw:{sent} 00 0")
+            self.assertIn(f"with {count} spaces", " ".join(found))
         define = f"do NV_DefineSpace OWNER pw:- {PIN.ljust(16).hex()} {AREA}"
         found = self.slips(define, f"do NV_Write 01000001 01000001 pw:{PIN.hex()} 00 0")
         self.assertIn("without its blanks", " ".join(found))
+
+    def test_a_handle_in_hex_read_in_decimal(self):
+        event = events_of("do Startup 0", "do FlushContext 03000000")[-1]
+        self.assertIn("it is 3000000 in decimal; in words, write 0x03000000", event.reason.words)
+        event = events_of("do Startup 0", "do FlushContext 0x07000000")[-1]
+        self.assertIn("07000000, of no kind that is served;", event.reason.words)
 
     def test_an_offset_left_out_of_cp_hash(self):
         define = f"do NV_DefineSpace OWNER pw:- {PIN.hex()} {AREA}"

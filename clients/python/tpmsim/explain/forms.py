@@ -79,9 +79,16 @@ def padded(size: int) -> Form:
     return Form(words, f"{words} bytes", lambda it: it.ljust(size) if b" " not in it else b"")
 
 
-# Forms with blanks after the value, as in a field of fixed size, which are not combined either.
+def spaced(count: int) -> Form:
+    words = f"with {count} spaces"
+    return Form(words, f"{words} after it", lambda it: it + b" " * count if b" " not in it else b"")
+
+
+# Forms with blanks after the value, as in a field of fixed size, which are not combined either. An
+# authorization value has at most 32 bytes.
 PADDED = (
     *map(padded, (8, 16, 20, 32)),
+    *map(spaced, range(2, 32)),
     Form("without its blanks", "without the blanks after it", lambda it: it.rstrip(b" ")),
 )
 

@@ -68,7 +68,15 @@ def kind_words(handle: int) -> str:
         return "the handle of a password"
     if handle in lines.HANDLE_NAMES.values():
         return handle_words(handle)
-    return OF_FIRST_BYTE.get(handle >> 24, "of no kind that is served")
+    return OF_FIRST_BYTE.get(handle >> 24) or f"of no kind that is served{decimal_words(handle)}"
+
+
+def decimal_words(handle: int) -> str:
+    """Returns what to write if the handle is a served one whose hex digits were read in decimal."""
+    meant = int(str(handle), 16)
+    if meant >> 24 not in OF_FIRST_BYTE:
+        return ""
+    return f" (it is {handle} in decimal; in words, write 0x{meant:08x})"
 
 
 def command_words(code: int) -> str:
