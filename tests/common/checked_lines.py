@@ -74,6 +74,8 @@ def checked(program: str, script: bytes) -> dict[int, str]:
         output = ran(program, "check", file.name).output.decode("ascii")
     told = {}
     for line in output.splitlines():
+        if line.startswith("    "):
+            continue  # a hint
         number, _, fault = line.removeprefix("line ").partition(": ")
         told[int(number)] = fault
     return told

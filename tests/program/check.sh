@@ -91,6 +91,44 @@ second 'do PolicyPCR 03000000 - sha256'
 second 'do PCR_Extend 0000000a pw:- sha256:00'
 second 'do PolicyOR 03000000 00+'
 
+# A hint follows if the program knows what is probably meant. Names of commands: in another case, with the prefix
+# of the standard, or without `do`. Only the names of the symmetric profile count.
+second 'do startup 0'
+second 'do TPM2_Startup 0'
+second 'do tpm2_getrandom 4'
+second 'do NV_WRITE'
+second 'Startup 0'
+second 'tpm2_pcr_read sha256:0'
+second 'do TPM2_'
+second 'do TPM_Startup 0'
+second 'do stirrandom 00'
+
+# Passwords that are texts, and an empty one.
+second 'do Clear LOCKOUT pw:secret'
+second 'do Clear LOCKOUT pw:7'
+second 'do Clear LOCKOUT pw:'
+second 'do Clear LOCKOUT pw:\303\274'
+second 'do Clear LOCKOUT secret'
+second 'do NV_Write OWNER 01000000 pw:- s:02000000:pw 616263 0'
+
+# Handles in decimal, and with 0x.
+second 'do Clear 1073741834 pw:-'
+second 'do Clear 0x4000000A pw:-'
+second 'do PCR_Reset 16 pw:-'
+second 'do PCR_Reset 24 pw:-'
+second 'do NV_Read OWNER 0x1000001 pw:- 8 0'
+second 'do NV_Read OWNER 16777215 pw:- 8 0'
+second 'do NV_Read OWNER 0xffffff pw:- 8 0'
+second 'do Unseal 4294967295 pw:-'
+second 'do Unseal 4294967296 pw:-'
+second 'do PCR_Event NULL pw:- 123'
+
+# Lines that end with CR LF.
+second 'do startup 0\r'
+second 'power\r'
+second '\r'
+second '#\r'
+
 # Valid lines that resemble invalid ones.
 second 'cmd'
 second 'cmd '
@@ -128,6 +166,21 @@ run 'waits' check script
 run 'several' check script
 run 'several on standard input' check - <script
 run 'several, run' run script
+
+# A text without any line of a script has a report of one line.
+foreign() {
+    # shellcheck disable=SC2059 # the text contains printf escapes
+    printf "$2" >script
+    run "$1" check script
+}
+foreign 'a dump' '00000000: 8001 0000 000c 0000 017b 0004            .........{..\n'
+foreign 'an array' 'unsigned char command[] = {\n  0x80, 0x01, 0x00, 0x00,\n};\n'
+foreign 'a trace' 'trace:tcti:src/tss2-tcti/tcti-device.c:88:tcti_device_transmit() sending 12 byte\n0000: 8001'
+foreign 'a capture' '\324\303\262\241\002\000\004\000\000\000\n\200\001\000'
+foreign 'comments before a dump' '# of a device\n\n80 01 00 00\n80 02 00 00\n'
+foreign 'a dump with a line of a script' '80 01 00 00\npower now\n'
+foreign 'a dump after a name' 'startup\n80 01 00 00\n'
+foreign 'only comments' '# one\n\n#two\n'
 
 # Good scripts: one without lines, one whose last line has no line break, and one whose commands the device
 # refuses.

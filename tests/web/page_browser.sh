@@ -19,6 +19,6 @@ node "$tests/web/page_browser.mjs" "file://$top/dist/tpmsim.html" "file://$PWD/e
 "$top/dist/tpmsim" run taken/script >played || status=1
 sed -n 's/^# \(80.*\)/\1/p' taken/log >logged
 test -s logged && cmp logged played && echo 'the log has the answers of the program'
-"$top/dist/tpmsim" check taken/faulty >checked 2>/dev/null
+"$top/dist/tpmsim" check taken/faulty 2>/dev/null | grep -v '^    ' >checked
 test -s checked && cmp checked taken/report && echo 'the report is that of tpmsim check'
 exit "$status"

@@ -5,7 +5,7 @@ use Rattle.std.specs.List.{flat_map, onto_first}
 use Rattle.std.specs.Option.{option_or}
 use Rattle.std.proofs.lemmas.Bool.{eq-eqb, le-ltb, lt-ltb, ne_eqb}
 use Rattle.std.proofs.lemmas.Grind.{flat_map-append}
-use Rattle.tpmsim_script.specs.Report.{report_line, report_text, script_faults}
+use Rattle.tpmsim_script.specs.Report.{hinted_line, faults_text, script_faults}
 use Rattle.tpmsim_script.specs.Checking.{Fault, fault_at, faults_of, first_number, line_check, waited_behind}
 use Rattle.tpmsim_script.specs.Line.{lines_of}
 
@@ -31,13 +31,13 @@ left_none waited number [] e = ap (faults_of waited number) (take_none (1048577 
 left_none waited number (byte ∷ text) e = absurd cc
 
 pub text_more : (old new : List ℕ) (faults others whole : List Fault) → whole ≡ faults ++ others
-    → new ≡ old ++ flat_map report_line faults
-    → new ++ flat_map report_line others ≡ old ++ flat_map report_line whole
+    → new ≡ old ++ flat_map hinted_line faults
+    → new ++ flat_map hinted_line others ≡ old ++ flat_map hinted_line whole
 text_more old new faults others whole e f =
-    ap (λ (l : List ℕ). l ++ flat_map report_line others) f
-    ∙ append_assoc old (flat_map report_line faults) (flat_map report_line others)
-    ∙ ap (λ (l : List ℕ). old ++ l) (sym (flat_map-append report_line faults others)
-    ∙ ap (flat_map report_line) (sym e))
+    ap (λ (l : List ℕ). l ++ flat_map hinted_line others) f
+    ∙ append_assoc old (flat_map hinted_line faults) (flat_map hinted_line others)
+    ∙ ap (λ (l : List ℕ). old ++ l) (sym (flat_map-append hinted_line faults others)
+    ∙ ap (flat_map hinted_line) (sym e))
 
 first_of : (faults others : List Fault) → first_number (faults ++ others)
     ≡ option_or (first_number faults) (first_number others)
@@ -81,15 +81,15 @@ some_lines (byte ∷ text) some = by_break (byte == 10)
 -- far and the remaining lines are all lines of the script.
 pub record SoFar (text : List ℕ) (first : Option ℕ) (waited number : ℕ) (rest whole : List ℕ)
     (whole_first : Option ℕ) (lines : ℕ) : Type 0 where
-  pub text_is : text ++ flat_map report_line (left waited number rest) ≡ whole
+  pub text_is : text ++ flat_map hinted_line (left waited number rest) ≡ whole
   pub first_is : option_or first (first_number (left waited number rest)) ≡ whole_first
   pub count_is : length (lines_of rest) + number ≡ lines + 1
 
 pub begun : (text : List ℕ) (first : Option ℕ) (waited : ℕ) (rest : List ℕ) → waited ≡ 0
-    → SoFar text first waited 1 rest (text ++ report_text rest)
+    → SoFar text first waited 1 rest (text ++ faults_text rest)
     (option_or first (first_number (script_faults rest))) (length (lines_of rest))
 begun text first waited rest e = record {
-  text_is = ap (λ w. text ++ flat_map report_line (left w 1 rest)) e;
+  text_is = ap (λ w. text ++ flat_map hinted_line (left w 1 rest)) e;
   first_is = ap (λ w. option_or first (first_number (left w 1 rest))) e;
   count_is = refl;
 }
@@ -104,7 +104,7 @@ count_more text line others number lines e count =
 pub turned : (old new : List ℕ) (first next : Option ℕ) (waited after number : ℕ)
     (rest line others whole : List ℕ) (whole_first : Option ℕ) (lines : ℕ)
     → number ≤ 1048576 → lines_of rest ≡ line ∷ lines_of others
-    → new ≡ old ++ flat_map report_line (fault_at (line_check waited line) number line)
+    → new ≡ old ++ flat_map hinted_line (fault_at (line_check waited line) number line)
     → next ≡ option_or first (first_number (fault_at (line_check waited line) number line))
     → after ≡ waited_behind (line_check waited line) waited
     → SoFar old first waited number rest whole whole_first lines
@@ -115,7 +115,7 @@ turned old new first next waited after number rest line others whole whole_first
     let found = fault_at (line_check waited line) number line in
     let behind = waited_behind (line_check waited line) waited in
     record {
-      text_is = ap (λ w. new ++ flat_map report_line (left w (number + 1) others)) after_is
+      text_is = ap (λ w. new ++ flat_map hinted_line (left w (number + 1) others)) after_is
           ∙ text_more old new found (left behind (number + 1) others) (left waited number rest) more
           new_is ∙ sofar.text_is;
       first_is = ap (λ w. option_or next (first_number (left w (number + 1) others))) after_is
@@ -130,7 +130,7 @@ all_told : (text : List ℕ) (first : Option ℕ) (waited number : ℕ) (rest wh
     → left waited number rest ≡ [] → SoFar text first waited number rest whole whole_first lines
     → (text ≡ whole) × (first ≡ whole_first)
 all_told text first waited number rest whole whole_first lines none sofar = (
-  sym (append-nil text) ∙ ap (λ faults. text ++ flat_map report_line faults) (sym none)
+  sym (append-nil text) ∙ ap (λ faults. text ++ flat_map hinted_line faults) (sym none)
       ∙ sofar.text_is,
   sym (or_none first) ∙ ap (λ faults. option_or first (first_number faults)) (sym none)
       ∙ sofar.first_is,

@@ -10,4 +10,6 @@ pub mod ScriptFault
 pub mod Keeping
 pub mod Checking
 pub mod Checker
+pub mod Hint
+pub mod Foreign
 pub mod Report

@@ -1,12 +1,14 @@
 -- The report of the bad lines of a script.
 use Rattle.std.specs.Prelude.{ℕ, nat_lt, Bool, true, false, List, [], ◌∷◌, ◌++◌, length, take}
-use Rattle.std.specs.Prelude.{drop, codes, Option, Some, None, Result, Ok, Err}
+use Rattle.std.specs.Prelude.{drop, codes, Option, Some, None, Result, Ok, Err, if◌then◌else◌}
 use Rattle.std.specs.Fmt.{decimal}
 use Rattle.std.specs.List.{flat_map}
 use Rattle.tpm_help.specs.Wanted.{word_at}
 use Rattle.tpm_text.specs.declared.fault.AsmFault.{AsmFault}
 use Rattle.tpm_text.specs.declared.fault.AsmFault.TheVariants as fault
 use Rattle.tpmsim_script.specs.Checking.{Fault, faults_of, first_number}
+use Rattle.tpmsim_script.specs.Foreign.{is_foreign}
+use Rattle.tpmsim_script.specs.Hint.{hint_text}
 use Rattle.tpmsim_script.specs.Line.{lines_of}
 use Rattle.tpmsim_script.specs.declared.bad_line.Wanted.{Wanted}
 use Rattle.tpmsim_script.specs.declared.bad_line.Wanted.TheVariants as wanted
@@ -56,9 +58,22 @@ end_of (Some number) more = Err (script.Line number)
 end_of None true = Err script.TooManyLines
 end_of None false = Ok tt
 
--- the report of a script: the reports of its bad lines, in order
+-- the line of text that reports a bad line, followed by the hint, if there is one
+abbrev pub hinted_line : Fault → List ℕ
+hinted_line f = report_line f ++ hint_text f.line f.bad
+
+-- the reports of the bad lines of a script, in order
+abbrev pub faults_text : List ℕ → List ℕ
+faults_text text = flat_map hinted_line (script_faults text)
+
+-- the report of a text that is not a script
+abbrev pub foreign_text : List ℕ
+foreign_text = codes "not a script: no line begins with do, cmd, loc, wait, entropy or power; tpmsim-explain FILE explains traces, dumps and arrays"
+    ++ 10 ∷ []
+
+-- the report of a script
 abbrev pub report_text : List ℕ → List ℕ
-report_text text = flat_map report_line (script_faults text)
+report_text text = if is_foreign text then foreign_text else faults_text text
 
 abbrev pub report_end : List ℕ → Result (Unit {0}) RunFault
 report_end text =

@@ -6,9 +6,11 @@ ghost use Rattle.std.specs.Option.{option_or};
 ghost use Rattle.tpmsim_script.specs.Checker.{waited_of};
 ghost use Rattle.tpmsim_script.specs.Checking.{fault_at, first_number, line_check, waited_behind};
 ghost use Rattle.tpmsim_script.specs.Line.{lines_of};
-ghost use Rattle.tpmsim_script.specs.Report.{fault_text, report_line, report_text, script_faults};
+ghost use Rattle.tpmsim_script.specs.Report.{faults_text, hinted_line, script_faults};
 
+use crate::bad_line::BadLine;
 use crate::checker::Checker;
+use crate::hint::put_hint;
 use crate::run::SCRIPT_LINES;
 use crate::told_fault::ToldFault;
 use std::alloc::{AllocError, Global};
@@ -17,7 +19,8 @@ use tpm_text::position_of;
 /// The bad lines found in a script.
 #[derive(Drop)]
 pub struct Findings {
-    /// The text of the report so far, with one line for each bad line.
+    alloc: Global,
+    /// The text of the report so far, with one line for each bad line, and the hints.
     pub text: String,
     /// The number of the first bad line.
     pub first: Option<u32>,
@@ -30,6 +33,7 @@ impl Findings {
         ensures first { result.first ≡ None }
     {
         Findings {
+            alloc,
             text: String::new(alloc),
             first: None,
         }
@@ -43,7 +47,7 @@ impl Findings {
     ) -> Result<&'t [u8], AllocError>
         requires { waited_of checker.old ≡ 0 }
         ensures text { OnOk result
-            (self.new.text.bytes.items ≡ self.old.text.bytes.items ++ report_text text.now) }
+            (self.new.text.bytes.items ≡ self.old.text.bytes.items ++ faults_text text.now) }
         ensures first { OnOk result (self.new.first
             ≡ option_or self.old.first (first_number (script_faults text.now))) }
         ensures more { IfOk result (λ rest. nat_lt 1048576 (length (lines_of text.now))
@@ -69,7 +73,7 @@ impl Findings {
         line: &[u8],
     ) -> Result<(), AllocError>
         ensures text { OnOk result (self.new.text.bytes.items ≡ self.old.text.bytes.items
-            ++ flat_map report_line
+            ++ flat_map hinted_line
             (fault_at (line_check (waited_of checker.old) line.now) number line.now)) }
         ensures first { OnOk result (self.new.first ≡ option_or self.old.first
             (first_number
@@ -79,19 +83,21 @@ impl Findings {
     {
         match checker.check(line) {
             Ok(()) => Ok(()),
-            Err(bad) => self.put(ToldFault::new(number, line, bad)),
+            Err(bad) => self.put(number, line, bad),
         }
     }
 
-    /// Adds the report of a bad line.
-    fn put(&mut self, fault: ToldFault) -> Result<(), AllocError>
+    /// Adds the report of the bad line with this number.
+    fn put(&mut self, number: u32, line: &[u8], bad: BadLine) -> Result<(), AllocError>
         ensures text { OnOk result (self.new.text.bytes.items ≡ self.old.text.bytes.items
-            ++ (fault_text fault.number fault.fault fault.wanted.now ++ 10 ∷ [])) }
+            ++ hinted_line (record { number = number; line = line.now; bad = bad })) }
         ensures first { OnOk result
-            (self.new.first ≡ option_or self.old.first (Some fault.number)) }
+            (self.new.first ≡ option_or self.old.first (Some number)) }
     {
-        self.first = self.first.or(Some(fault.number));
-        writeln!(self.text, "{fault}")
+        self.first = self.first.or(Some(number));
+        let fault = ToldFault::new(number, line, bad);
+        writeln!(self.text, "{fault}")?;
+        put_hint(self.alloc, &mut self.text, line, bad)
     }
 }
 

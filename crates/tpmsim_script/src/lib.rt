@@ -3,7 +3,8 @@
 //! Scripts of commands: [`run::run_device`] plays a script on a device and writes the device's
 //! responses, and [`run::run_script`] does the same on a new device. [`checker::Checker`] checks
 //! the lines without running them, and [`report::report_of`] reports their faults, one line of text
-//! for each bad line.
+//! for each bad line, and what its author probably meant ([`hint`]). A text that is not a script has
+//! a report of one line ([`foreign`]).
 //!
 //! A script is a text whose lines are read one after another ([`lines`], [`line`]). A line sets
 //! values for the next command ([`script`]), or is performed on the device ([`player`]). The bytes
@@ -24,6 +25,8 @@ pub mod bad_line;
 pub mod checker;
 pub mod fault;
 mod findings;
+mod foreign;
+mod hint;
 pub mod laws;
 pub mod line;
 mod line_fault;

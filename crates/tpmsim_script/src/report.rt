@@ -1,17 +1,20 @@
 //! Reports the bad lines of a script, and how a run of the script would end.
 
-ghost use Rattle.std.specs.Prelude.{◌≡◌, IfOk};
-ghost use Rattle.tpmsim_script.specs.Report.{end_of, report_end, report_text};
+ghost use Rattle.std.specs.Prelude.{◌≡◌, if◌then◌else◌, IfOk};
+ghost use Rattle.tpmsim_script.specs.Foreign.{is_foreign};
+ghost use Rattle.tpmsim_script.specs.Report.{end_of, foreign_text, report_end, report_text};
 
 use crate::checker::Checker;
 use crate::fault::RunFault;
 use crate::findings::Findings;
+use crate::foreign::is_foreign;
 use std::alloc::{AllocError, Global};
 
 /// The faults in the lines of a script.
 #[derive(Drop)]
 pub struct Report {
-    /// One line of text for each bad line.
+    /// One line of text for each bad line, followed by a hint, if there is one. If the text is not
+    /// a script, one line that says so.
     pub text: String,
     /// How a run of the script would end: with success, at its first bad line, or because the
     /// script contains more lines than the limit.
@@ -28,9 +31,26 @@ pub fn report_of(alloc: Global, text: &[u8]) -> Result<Report, AllocError>
     let rest = findings.check_lines(text, &mut checker)?;
     let end = end_of(findings.first, !rest.is_empty());
     Ok(Report {
-        text: findings.text,
+        text: unless_foreign(alloc, text, findings.text)?,
         end,
     })
+}
+
+/// What the report says about a text that is not a script.
+const FOREIGN: &str =
+    "not a script: no line begins with do, cmd, loc, wait, entropy or power; tpmsim-explain FILE \
+     explains traces, dumps and arrays\n";
+
+/// The reports of a text's bad lines, unless the text is not a script.
+fn unless_foreign(alloc: Global, text: &[u8], faults: String) -> Result<String, AllocError>
+    ensures { IfOk result (λ report. report.bytes.items
+        ≡ (if is_foreign text.now then foreign_text else faults.entry.bytes.items)) }
+{
+    if is_foreign(text) {
+        String::from_str(alloc, FOREIGN)
+    } else {
+        Ok(faults)
+    }
 }
 
 /// How a run of the script ends, given the number of its first bad line, if any. `more` says
