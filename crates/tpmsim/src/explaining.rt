@@ -1,9 +1,10 @@
 //! If the environment requests it, explains a fault: prints the path that the fault concerns, and
-//! the system's reason. The line that reports the fault itself does not change.
+//! the system's reason; or what is wrong with the words of the command line. The line that reports
+//! the fault itself does not change.
 
 use crate::fault::Fault;
 use std::io;
-use tpmsim_arguments::{Arguments, Place};
+use tpmsim_arguments::{ArgumentFault, Arguments, Place, Usage};
 use tpmsim_image::{Cause, Subject, is_verbose};
 
 /// A path in two parts, which are printed one after the other.
@@ -13,9 +14,47 @@ struct Path<'a> {
     back: &'static str,
 }
 
-/// Prints the path that a fault concerns, and the system's reason, if the environment requests it.
+/// Says that a word of the command line is not UTF-8, if the environment requests it.
+pub(crate) fn explain_encoding(rt: &HostRuntime, fault: Fault) {
+    if fault == Fault::Usage && is_verbose(rt) {
+        let _ = eprintln!(rt; "tpmsim: a word is not UTF-8; see tpmsim help");
+    }
+}
+
+/// Says what is wrong with the words of a command line that was refused, and where the right words
+/// are explained, if the environment requests it.
+pub(crate) fn explain_usage(rt: &HostRuntime, words: &[String], fault: ArgumentFault) {
+    if fault == ArgumentFault::Usage && is_verbose(rt) {
+        if let Ok(usage) = Usage::new(rt.alloc(), words) {
+            let _ = eprintln!(rt; "tpmsim: {usage}");
+        }
+    }
+}
+
+/// Says what is wrong with the argument of a command that was refused.
+fn explain_argument(rt: &HostRuntime, arguments: &Arguments<'_>) {
+    let _ = match arguments {
+        Arguments::Forms { name: Some(name) } => {
+            eprintln!(rt; "tpmsim: no command is named {name}; see tpmsim lines")
+        }
+        Arguments::Code { digits } => {
+            eprintln!(rt; "tpmsim: no response code is {digits}; see tpmsim help code")
+        }
+        Arguments::Spell { digits } => {
+            eprintln!(rt; "tpmsim: {digits} is not hex; see tpmsim help line")
+        }
+        _ => Ok(()),
+    };
+}
+
+/// Prints the path that a fault concerns, and the system's reason; or what is wrong with an
+/// argument. Prints nothing unless the environment requests it.
 pub(crate) fn explain(rt: &HostRuntime, arguments: &Arguments<'_>, fault: Fault) {
     if !is_verbose(rt) {
+        return;
+    }
+    if fault == Fault::Usage {
+        explain_argument(rt, arguments);
         return;
     }
     if let Fault::Kept(fault) = fault {

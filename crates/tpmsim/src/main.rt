@@ -13,7 +13,7 @@
 //! line that traces the command precedes it. For `check`, there is a line for each bad line. A run
 //! that fails prints one line with the reason on standard error, and its exit status says which
 //! kind of fault it is ([`fault`]). If the environment requests it, a second line contains the path
-//! and the system's reason ([`explaining`]).
+//! and the system's reason, or says what is wrong with the words ([`explaining`]).
 //!
 //! The program uses tpmsim_arguments for the command line, tpmsim_script for scripts and their
 //! check, `tpm_text` and `tpm_line` for lines, and `tpm_help` for their forms and examples. It uses
@@ -34,7 +34,7 @@ mod running;
 mod telling;
 
 use checking::check_script;
-use explaining::explain;
+use explaining::{explain, explain_encoding, explain_usage};
 use fault::Fault;
 use kept_playing::{cycle_power, play_script, print_script};
 use kept_serving::serve_kept;
@@ -58,11 +58,19 @@ fn main(rt: HostRuntime) -> ExitCode {
 fn try_main(rt: &HostRuntime) -> Result<(), Fault> {
     let words = match words_of(rt) {
         Ok(words) => words,
-        Err(fault) => return report(rt, fault),
+        Err(fault) => {
+            let failed = report(rt, fault);
+            explain_encoding(rt, fault);
+            return failed;
+        }
     };
     let arguments = match Arguments::parse(rt.alloc(), words.as_slice()) {
         Ok(arguments) => arguments,
-        Err(fault) => return report(rt, Fault::from(fault)),
+        Err(fault) => {
+            let failed = report(rt, Fault::from(fault));
+            explain_usage(rt, words.as_slice(), fault);
+            return failed;
+        }
     };
     match perform(rt, &arguments) {
         Ok(()) => Ok(()),

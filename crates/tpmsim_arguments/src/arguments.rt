@@ -167,7 +167,7 @@ fn entered<'m, 'a>(matches: &'m ArgMatches<'a>) -> Option<(&'a str, &'m ArgMatch
 }
 
 /// The value of an argument.
-fn value<'a>(options: &ArgMatches<'a>, name: &str) -> Option<&'a str>
+pub(crate) fn value<'a>(options: &ArgMatches<'a>, name: &str) -> Option<&'a str>
     ensures { option_map (λ text. text.now) result
         ≡ first_of name.now (rows_of (found_of options.now)) }
 {
@@ -176,7 +176,7 @@ fn value<'a>(options: &ArgMatches<'a>, name: &str) -> Option<&'a str>
 
 /// Whether a flag was given. If it was, its text in clap is "true", and otherwise "false". The
 /// contract of clap's `get_flag` covers no other texts.
-fn is_set(options: &ArgMatches<'_>, flag: &str) -> bool
+pub(crate) fn is_set(options: &ArgMatches<'_>, flag: &str) -> bool
     ensures { result ≡ is_set flag.now (rows_of (found_of options.now)) }
 {
     match value(options, flag) {
@@ -204,7 +204,7 @@ fn run_of<'a>(options: &ArgMatches<'a>) -> Option<Arguments<'a>>
 }
 
 /// Returns the profile that the matches request: complete if the flag for it was given.
-fn profile_of(options: &ArgMatches<'_>) -> Profile
+pub(crate) fn profile_of(options: &ArgMatches<'_>) -> Profile
     ensures { result ≡ profile_in (rows_of (found_of options.now)) }
 {
     if is_set(options, "complete") {
@@ -216,7 +216,7 @@ fn profile_of(options: &ArgMatches<'_>) -> Profile
 
 /// Returns the script that the matches of `run` name. If they name no script and the device's state
 /// is in a folder, the script is standard input.
-fn script_of<'a>(options: &ArgMatches<'a>) -> Option<&'a str>
+pub(crate) fn script_of<'a>(options: &ArgMatches<'a>) -> Option<&'a str>
     ensures { option_map (λ text. text.now) result ≡ script_in (rows_of (found_of options.now)) }
 {
     match (value(options, "script"), value(options, "state")) {
@@ -251,7 +251,7 @@ fn restore_of<'a>(options: &ArgMatches<'a>) -> Option<Arguments<'a>>
 /// Returns, from the matches, where the device that `run` uses is kept, if it is kept. Without an
 /// image or a folder, it is an error to name a file of random bytes, or to say how many journals to
 /// keep.
-fn storage_of<'a>(options: &ArgMatches<'a>) -> Option<Option<Storage<'a>>>
+pub(crate) fn storage_of<'a>(options: &ArgMatches<'a>) -> Option<Option<Storage<'a>>>
     ensures { option_map (option_map stored_of) result
         ≡ storage_in (rows_of (found_of options.now)) }
 {
@@ -294,7 +294,7 @@ fn place_by<'a>(
 
 /// Returns the number of finished journals that stay in a folder, from the digits of `--keep`, or 0
 /// without `--keep`.
-fn past_by(keep: Option<&str>) -> Option<u32>
+pub(crate) fn past_by(keep: Option<&str>) -> Option<u32>
     ensures { result ≡ past_by (option_map (λ text. text.now) keep.entry) }
 {
     match keep {
@@ -311,7 +311,7 @@ fn past_of(number: u32) -> Option<u32>
 }
 
 /// Returns, from the matches, the place where the device that `serve` uses is kept.
-fn place_of<'a>(options: &ArgMatches<'a>) -> Option<Place<'a>>
+pub(crate) fn place_of<'a>(options: &ArgMatches<'a>) -> Option<Place<'a>>
     ensures { option_map kept_of result ≡ place_in (rows_of (found_of options.now)) }
 {
     place_by(
@@ -323,7 +323,7 @@ fn place_of<'a>(options: &ArgMatches<'a>) -> Option<Place<'a>>
 
 /// Returns the log of a device in this place, if a log is requested. Only a device in an image can
 /// have a log.
-fn log_by<'a>(place: Place<'_>, log: Option<&'a str>) -> Option<Option<&'a str>>
+pub(crate) fn log_by<'a>(place: Place<'_>, log: Option<&'a str>) -> Option<Option<&'a str>>
     ensures { option_map (option_map (λ text. text.now)) result
         ≡ log_by (kept_of place.entry) (option_map (λ text. text.now) log.entry) }
 {
@@ -335,7 +335,7 @@ fn log_by<'a>(place: Place<'_>, log: Option<&'a str>) -> Option<Option<&'a str>>
 }
 
 /// Returns whether the completing layer is on. Only a device in a folder can have the layer.
-fn completes_by(place: Place<'_>, completes: bool) -> Option<bool>
+pub(crate) fn completes_by(place: Place<'_>, completes: bool) -> Option<bool>
     ensures { result ≡ completes_by (kept_of place.entry) completes }
 {
     match place {
@@ -347,7 +347,7 @@ fn completes_by(place: Place<'_>, completes: bool) -> Option<bool>
 
 /// Returns an option of `serve` that a device in an image needs. Only a device in a folder can be
 /// served without this option.
-fn needed_by<'a>(place: Place<'_>, option: Option<&'a str>) -> Option<Option<&'a str>>
+pub(crate) fn needed_by<'a>(place: Place<'_>, option: Option<&'a str>) -> Option<Option<&'a str>>
     ensures { option_map (option_map (λ text. text.now)) result
         ≡ needed_by (kept_of place.entry) (option_map (λ text. text.now) option.entry) }
 {
@@ -369,7 +369,7 @@ fn entropy_by<'a>(path: Option<&'a str>) -> &'a str
 }
 
 /// Returns the locality with these decimal digits, or 0 without digits.
-fn locality_by(digits: Option<&str>) -> Option<Locality>
+pub(crate) fn locality_by(digits: Option<&str>) -> Option<Locality>
     ensures { option_map locality_number result
         ≡ locality_by (option_map (λ text. text.now) digits.entry) }
 {
@@ -381,7 +381,7 @@ fn locality_by(digits: Option<&str>) -> Option<Locality>
 
 /// Returns the number of connections from these decimal digits. Without digits, the number is None,
 /// which means no limit.
-fn connections_by(digits: Option<&str>) -> Option<Option<u32>>
+pub(crate) fn connections_by(digits: Option<&str>) -> Option<Option<u32>>
     ensures { result ≡ connections_by (option_map (λ text. text.now) digits.entry) }
 {
     match digits {
