@@ -28,8 +28,8 @@ bare_name word =
 -- whether a word is the name of this command, which the symmetric profile has, apart from the case
 -- of its letters and the prefix TPM2_
 abbrev pub resembles : List ℕ → CommandCode → Bool
-resembles word code =
-    if serves Symmetric code then str_eq_ignore_ascii_case (bare_name word) (code_name code) else false
+resembles word code = if serves Symmetric code
+    then str_eq_ignore_ascii_case (bare_name word) (code_name code) else false
 
 -- the command that a word resembles
 abbrev pub command_like : List ℕ → Option CommandCode
@@ -60,8 +60,8 @@ password_digits password = if length password == 0 then codes "-" else encode_lo
 -- the hint at a token that is no entry: after `pw:`, a text is probably meant as a password
 abbrev pub password_hint : List ℕ → List ℕ
 password_hint token =
-    if bytes_eq (take 3 token) (codes "pw:") then hint (codes "pw:" ++ password_digits (drop 3 token))
-    else []
+    if bytes_eq (take 3 token) (codes "pw:")
+    then hint (codes "pw:" ++ password_digits (drop 3 token)) else []
 
 -- whether this is the number of a PCR, or at least that of the first NV index
 abbrev pub is_handle_number : ℕ → Bool
