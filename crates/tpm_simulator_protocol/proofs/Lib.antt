@@ -1,0 +1,4 @@
+pub mod Ends
+pub mod Sizes
+pub mod Cutting
+pub mod Serving

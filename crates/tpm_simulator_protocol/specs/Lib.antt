@@ -1,0 +1,5 @@
+pub mod Request
+pub mod Stream
+pub mod Answer
+pub mod Client
+pub mod Run
