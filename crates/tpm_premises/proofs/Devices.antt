@@ -1,6 +1,10 @@
--- Proves, by computation, the examples of two devices that differ in their seeds, and of two
--- devices that differ in the data of an index.
-use Rattle.std.proofs.Common.{◌≡◌, ◌≢◌, ℕ, [], ◌∷◌, List, get_or, refl, ap, arith}
+-- Proves, by computation, the examples of two devices that differ in their seeds, in the data of an
+-- index, or in the sealed data of an object.
+use Rattle.std.proofs.Common.{◌≡◌, ◌≢◌, ℕ, [], ◌∷◌, List, Option, None, Some, get_or, refl, ap, arith}
+use Rattle.tpm_containers.specs.Numbered.{at_number}
+use Rattle.tpm_object.specs.declared.object.Object.{Object}
+use Rattle.tpm_record.specs.Objects.{object_at}
+use Rattle.tpm_premises.specs.Placed.{first_transient}
 use Rattle.tpm_record.specs.Entity.{entity_at, object_of}
 use Rattle.tpm_record.specs.Hierarchy.{manufactured_hierarchies}
 use Rattle.std.specs.Prelude.{replicate}
@@ -9,7 +13,7 @@ use Rattle.tpm_record.specs.Record.{Record}
 use Rattle.tpm_nv.specs.Index.{NvIndex}
 use Rattle.tpm_step.proofs.history.Following.{manufactured_follows}
 use Rattle.tpm_step.specs.history.View.{view_of}
-use Rattle.tpm_premises.specs.Devices.{AreTwoDevices, AreTwoSecrets, holding_device, seeded_device}
+use Rattle.tpm_premises.specs.Devices.{AreTwoDevices, AreTwoSealed, AreTwoSecrets, holding_device, sealing_device, seeded_device}
 
 seeds_differ : seeded_device 0 ≢ seeded_device 1
 unfolding manufactured_hierarchies
@@ -44,3 +48,18 @@ bytes_differ e =
 
 pub are_two_secrets : AreTwoSecrets
 are_two_secrets = record { secrets = refl; differ = bytes_differ }
+
+first_sealed : Option Object → ℕ
+first_sealed None = 0
+first_sealed (Some object) = get_or object.sensitive 0 0
+
+sealed_differ : sealing_device 0 ≢ sealing_device 1
+unfolding first_sealed object_at at_number
+sealed_differ e =
+    let byte : 0 ≡ 1 =
+    ap (λ (r : Record). first_sealed (object_at r.objects first_transient)) e in
+    omega (arith, byte)
+
+pub are_two_sealed : AreTwoSealed
+unfolding object_at at_number
+are_two_sealed = record { found = refl; secrets = refl; differ = sealed_differ }

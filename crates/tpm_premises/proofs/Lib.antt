@@ -2,6 +2,8 @@ pub mod Policies
 pub mod Uses
 pub mod Replays
 pub mod Devices
+pub mod Guesses
 pub mod Journals
+pub mod Kept
 pub mod Placed
 pub mod Contexts

@@ -1,6 +1,8 @@
 pub mod Contexts
 pub mod Devices
+pub mod Guesses
 pub mod Journals
+pub mod Kept
 pub mod Placed
 pub mod Policies
 pub mod Replays

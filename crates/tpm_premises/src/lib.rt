@@ -1,15 +1,18 @@
 #![tactic(auto)]
 
 //! Examples that satisfy the premises of laws about policies, uses of objects, replays, two devices
-//! with one history, devices that differ in secrets, placed objects, contexts, and journals.
+//! with one history, devices that differ in secrets, wrong guesses, placed objects, contexts,
+//! journals, and folders of kept devices.
 //!
 //! A law whose premise can never be satisfied says nothing. Each example here satisfies one
 //! premise, by computation. Each law is the contract of a function that does nothing at run time.
 //! No crate depends on this crate.
 
 ghost use Rattle.tpm_premises.specs.Contexts.{HasSavedObject};
-ghost use Rattle.tpm_premises.specs.Devices.{AreTwoDevices, AreTwoSecrets};
+ghost use Rattle.tpm_premises.specs.Devices.{AreTwoDevices, AreTwoSealed, AreTwoSecrets};
+ghost use Rattle.tpm_premises.specs.Guesses.{HasWrongGuess};
 ghost use Rattle.tpm_premises.specs.Journals.{HasOneEntry};
+ghost use Rattle.tpm_premises.specs.Kept.{StartsEmpty, StartsWithJournal};
 ghost use Rattle.tpm_premises.specs.Placed.{IsPlaced};
 ghost use Rattle.tpm_premises.specs.Policies.{EachIsWritten};
 ghost use Rattle.tpm_premises.specs.Replays.{HasReplay};
@@ -41,12 +44,28 @@ pub fn replay_premise()
 {}
 
 /// Two devices with different seeds follow the same history and show the same views (`AreAlike`).
-/// Two devices with different data in an index differ only in secrets.
+/// Two devices with different data in an index, or with different sealed data in an object, differ
+/// only in secrets.
 #[inline(always)]
-#[tactic(auto, using(crate::proofs::Devices::are_two_devices, crate::proofs::Devices::are_two_secrets))]
 pub fn device_premises()
     ensures alike { AreTwoDevices }
     ensures secrets { AreTwoSecrets }
+    ensures sealed { AreTwoSealed }
+{}
+
+/// Two devices differ only in the authorization value of an index. A password for it is a wrong guess
+/// on both, and both refuse the TPM2_NV_Read, which reads no secret data.
+#[inline(always)]
+pub fn guess_premise()
+    ensures { HasWrongGuess }
+{}
+
+/// A folder without a journal, and a folder with any journal, are folders with which the theorems
+/// about kept devices begin.
+#[inline(always)]
+pub fn kept_premise()
+    ensures empty { StartsEmpty }
+    ensures journal { StartsWithJournal }
 {}
 
 /// An object from a saved context can be placed on a new device, and the device's history records
