@@ -1,0 +1,4 @@
+pub mod Commands
+pub mod Limits
+pub mod Salvaging
+pub mod Seeds
