@@ -307,5 +307,6 @@ class Others(unittest.TestCase):
         self.assertEqual(report.not_comparable, [])
 
     def test_wrong_words(self):
-        for words in ("", "tpm", "swtpm:port=1", "mssim:path=x", "device:"):
-            self.assertRaises(ValueError, other_tpm, words)
+        for words in ("", "tpm", "swtpm:port=1", "mssim:path=x", "device:", "mssim:host=a,port=b"):
+            with self.assertRaisesRegex(ValueError, f"^'{words}' names no TPM; give device:PATH, "):
+                other_tpm(words)

@@ -61,10 +61,11 @@ class Told(TwentyTests):
 
     def test_wrong_numbers(self):
         for number in (-1, 5):
-            with self.assertRaises(ValueError):
+            with self.assertRaisesRegex(ValueError, f"^a locality is 0 to 4, and not {number}$"):
                 self.tpm.device.locality = number
         self.tpm.device.wait(2**32 - 1)
-        self.assertRaises(ValueError, self.tpm.device.wait, 1)
+        words = "^at most 4294967295 milliseconds pass before a command$"
+        self.assertRaisesRegex(ValueError, words, self.tpm.device.wait, 1)
 
 
 class Shipped(unittest.TestCase):
@@ -90,6 +91,10 @@ class OverChild(Told, unittest.TestCase):
 @NEEDS_LIBRARY
 class InProcess(Told, unittest.TestCase):
     device = functools.partial(LibraryDevice, seed=SEED, manufactured=bytes(range(256)))
+
+    def test_wrong_bytes_of_a_manufacture(self):
+        words = "^a device is manufactured with 256 bytes$"
+        self.assertRaisesRegex(ValueError, words, LibraryDevice, manufactured=b"few")
 
 
 class OverSocket(TwentyTests, unittest.TestCase):
@@ -266,10 +271,12 @@ class Devices(unittest.TestCase):
     def test_another_kind_of_snapshot(self):
         with ModelDevice() as device:
             text, swtpm = device.snapshot(), SwtpmDevice.__new__(SwtpmDevice)
-        self.assertRaisesRegex(Unsupported, "swtpm restores its own snapshots", swtpm.restore, text)
+        words = "^swtpm restores its own snapshots, and no state text$"
+        self.assertRaisesRegex(Unsupported, words, swtpm.restore, text)
 
     def test_ended_child(self):
-        with ChildDevice() as device, self.assertRaises(Unsupported):
+        words = "^only a device with an image can be saved$"
+        with ChildDevice() as device, self.assertRaisesRegex(Unsupported, words):
             device.save()
         device = self.enterContext(ChildDevice())
         words = "status 2: tpmsim: script line"

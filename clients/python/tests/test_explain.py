@@ -229,14 +229,17 @@ class CommandLine(unittest.TestCase):
         boots.mkdir()
         (boots / "boot-10.tpm").write_bytes(current)
         (boots / "boot-9.tpm").write_bytes(first)
-        said = f"{boots} has 2 logs: boot-9.tpm from line 1 on, boot-10.tpm from line {lines + 1} on."
+        said = (
+            f"{boots} has 2 logs: boot-9.tpm from line 1 on, boot-10.tpm from line {lines + 1} on."
+        )
         output = told(boots)[0]
         self.assertEqual(" ".join(output.split("\n\n")[0].split()), said)
         error = told(self.folder)[1]
         self.assertIn(f"{self.folder} has 2 devices; name one of {boots}, {kept}", error)
         empty = self.folder / "empty"
         empty.mkdir()
-        self.assertIn(f"{empty} has no journal of a device", told(empty)[1])
+        said = "has no journal of a device, and no log boot-N.tpm of a virtual machine"
+        self.assertIn(f"{empty} {said}", told(empty)[1])
 
     def test_try(self):
         """--try accepts a text, bytes in hex, and several values of which one is right."""

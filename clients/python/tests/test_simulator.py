@@ -158,25 +158,47 @@ class Simulator(unittest.TestCase):
 @NEEDS_SIMULATOR
 class Words(unittest.TestCase):
     def test_wrong_words(self):
-        for *words, status in (
-            ("--bind", "", 2),
-            ("--bind", "localhost", 2),
-            ("--port", "65535", 2),
-            ("--devices", "0", 2),
-            ("--seed", "5", 2),
-            ("--clock", "none", 2),
-            ("--image", "one", "--devices", "2", 2),
-            ("--state", "one", "--image", "two", 2),
-            ("--force", "always", 2),
-            ("more", 2),
-            ("--image", "/nowhere/image", 3),
-            ("--state", "/nowhere/folder", 3),
-            ("--record", "/nowhere", 3),
-            ("--bind", "192.0.2.1", 3),
+        help_line = "see tpmsim-simulator --help"
+        for words, said in (
+            ("--bind=", f"--bind does not take ; {help_line}"),
+            ("--bind localhost", f"--bind does not take localhost; {help_line}"),
+            ("--port 65535", f"--port does not take 65535; {help_line}"),
+            ("--devices 0", f"--devices does not take 0; {help_line}"),
+            ("--seed 5", f"--seed does not take 5; {help_line}"),
+            ("--clock none", f"--clock does not take none; {help_line}"),
+            ("--image one --devices 2", "--image has the state of one device"),
+            (
+                "--port 65534 --devices 2",
+                "--port and --devices need ports above 65535; take a lower --port",
+            ),
+            (
+                "--state one --image two",
+                "--state goes without --image, --record and --clock commands",
+            ),
+            ("--force always", "--force is allowed only with --state"),
+            ("--keep 2", "--keep is allowed only with --state"),
+            ("more", "more belongs to no option; see tpmsim-simulator --help"),
         ):
-            with self.subTest(words=words):
-                done = subprocess.run(
-                    [SIMULATOR, *words], capture_output=True, text=True, timeout=600
-                )
-                self.assertEqual((done.returncode, done.stdout), (status, ""))
-                self.assertTrue(done.stderr)
+            self.check(words, 2, said)
+
+    def test_what_cannot_be_opened(self):
+        missing = "No such file or directory"
+        for words, said in (
+            (f"--image {'x' * 5000}", "the path of the image is too long"),
+            ("--image /nowhere/image", f"/nowhere/image.lock cannot be opened: {missing}"),
+            ("--state /nowhere/folder", f"/nowhere/folder cannot be made: {missing}"),
+            ("--record /nowhere", f"/nowhere cannot get another file boot-N.tpm: {missing}"),
+            (
+                "--bind 192.0.2.1",
+                "192.0.2.1 is not listened at, port 2321 or the next: "
+                "Cannot assign requested address",
+            ),
+        ):
+            self.check(words, 3, said)
+
+    def check(self, words, status, said):
+        with self.subTest(words):
+            given = SIMULATOR, *words.split()
+            done = subprocess.run(given, capture_output=True, text=True, timeout=600)
+            self.assertEqual((done.returncode, done.stdout), (status, ""))
+            self.assertEqual(done.stderr, f"tpmsim-simulator: {said}\n")

@@ -155,7 +155,8 @@ class Snapshots:
             self.assertRaisesRegex(BadState, f"^{fault}$", device.restore, text)
             self.assertEqual((device.snapshot(), device.events), (taken, before))
         for it in 5, "TPMS", None, (taken,):
-            self.assertRaises(TypeError, device.restore, it)
+            words = "^a snapshot is bytes, those of a state text$"
+            self.assertRaisesRegex(TypeError, words, device.restore, it)
 
 
 def device_image():

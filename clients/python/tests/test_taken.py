@@ -365,6 +365,8 @@ class Explained(unittest.TestCase):
     def test_pages(self):
         page = self.told(DUMPS["xxd"], "--html")[0]
         self.assertIn(BUFFERS[2], page)
+        words = f"{self.path} has no command, which a page could show; leave out --html"
+        self.assertEqual(self.told(TOOL, "--html"), ("", f"tpmsim-explain: {words}\n", 2))
 
 
 if __name__ == "__main__":

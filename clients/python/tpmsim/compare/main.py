@@ -22,6 +22,10 @@ from tpmsim.device import Transport, Unsupported
 from tpmsim.model.player import BadLine
 
 
+# The words that name a TPM.
+FORMS = "device:PATH, swtpm, swtpm:path=PATH, or swtpm: or mssim: and host=HOST,port=PORT"
+
+
 def other_tpm(words: str) -> Transport:
     """Returns the TPM that the words describe; raises ValueError if they describe none."""
     kind, _, rest = words.partition(":")
@@ -29,16 +33,16 @@ def other_tpm(words: str) -> Transport:
         return FileDevice(rest)
     if words == "swtpm":
         return StartedSwtpm()
-    given = dict(it.split("=", 1) for it in rest.split(","))
+    given = {name: value for name, _, value in (it.partition("=") for it in rest.split(","))}
     if kind == "swtpm" and set(given) == {"path"}:
         return SwtpmDevice(given["path"], f"{given['path']}.ctrl")
-    if set(given) == {"host", "port"}:
+    if set(given) == {"host", "port"} and given["port"].isdecimal():
         host, port = given["host"], int(given["port"])
         if kind == "swtpm":
             return SwtpmDevice((host, port), (host, port + 1))
         if kind == "mssim":
             return SimulatorDevice(host, port)
-    raise ValueError(f"{words} names no TPM")
+    raise ValueError(f"{words!r} names no TPM; give {FORMS}")
 
 
 def compared(script: pathlib.Path, words: str) -> Report:

@@ -181,7 +181,8 @@ def library() -> ctypes.CDLL:
     number = found.tpmsim_version()
     version = f"{number >> 16}.{number >> 8 & 0xFF}.{number & 0xFF}"
     if version != tpmsim.__version__:
-        raise OSError(f"{places()[0]} is of version {version}, and not {tpmsim.__version__}")
+        wanted = f"and not {tpmsim.__version__}, as this package"
+        raise OSError(f"{places()[0]} is of version {version}, {wanted}")
     handle, text, size = ctypes.c_void_p, ctypes.c_char_p, ctypes.c_size_t
     byte, milliseconds = ctypes.c_uint8, ctypes.c_uint32
     event = [byte, milliseconds, text, text, handle]
@@ -198,7 +199,9 @@ def library() -> ctypes.CDLL:
     ):
         call = getattr(found, f"tpmsim_{name}", None)
         if call is None:
-            raise OSError(f"{places()[0]} has no tpmsim_{name}")
+            raise OSError(
+                f"{places()[0]} has no tpmsim_{name}: it is not the library of this package"
+            )
         call.restype, call.argtypes = result, arguments
     return found
 
