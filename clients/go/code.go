@@ -3,6 +3,7 @@ package tpmsim
 import (
 	"encoding/binary"
 	"fmt"
+	"math/bits"
 )
 
 // headerBytes is the size of the header of a response: tag, size and code.
@@ -92,7 +93,15 @@ func (it *Refusal) Error() string {
 		name = "unknown command"
 	}
 	if it.check == noSuchCommand {
-		name = fmt.Sprintf("%s (%X): tpmsim has no such command", name, it.Command)
+		name = fmt.Sprintf("%s (%X): %s", name, it.Command, missing(it.Command))
 	}
 	return fmt.Sprintf("%s: %v, by %s", name, it.Code, it.Check())
+}
+
+// missing says that the TPM has no command with this code, or whose bytes are in the other order.
+func missing(command uint32) string {
+	if turned, known := commands[bits.ReverseBytes32(command)]; known {
+		return "its bytes in the other order are " + turned
+	}
+	return "tpmsim has no such command"
 }

@@ -157,6 +157,7 @@ func TestARefusalIsTold(t *testing.T) {
 		{command(0x17e, 0, 0, 0), "PCR_Read: INSUFFICIENT/p1 (1DA), by G11"},
 		{startup, "Startup: INITIALIZE (100), by G5"},
 		{command(0xbad), "unknown command (BAD): tpmsim has no such command: COMMAND_CODE (143), by G4"},
+		{command(0x7b010000), "unknown command (7B010000): its bytes in the other order are GetRandom: COMMAND_CODE (143), by G4"},
 		{flush(), "FlushContext: HANDLE/p1 (1CB), by A2"},
 	} {
 		_, err := tpm.Execute(it.buffer)

@@ -64,6 +64,18 @@ const NO_SUCH_COMMAND = "G4";
  */
 const codeOf = (buffer) => new DataView(buffer.buffer, buffer.byteOffset).getUint32(CODE_AT);
 
+/**
+ * Says that the device has no command with this code, or whose bytes are in the other order.
+ * @param {number} code
+ */
+function missingWords(code) {
+  const view = new DataView(new ArrayBuffer(4));
+  view.setUint32(0, code);
+  const turned = COMMANDS.get(view.getUint32(0, true));
+  const words = turned === undefined ? "tpmsim has no such command" : `its bytes in the other order are ${turned}`;
+  return ` (${code.toString(16).toUpperCase()}): ${words}`;
+}
+
 /** The key that the constructor requires. Only `Device.create` has access to it. */
 const KEY = Symbol("Device.create");
 
@@ -189,7 +201,7 @@ export class Device {
     if (code === 0) return answer;
     const number = answer.row.code || (buffer.length < HEADER_SIZE ? 0 : codeOf(buffer));
     const name = COMMANDS.get(number) ?? "unknown command";
-    const missing = answer.row.check === NO_SUCH_COMMAND ? ` (${number.toString(16).toUpperCase()}): tpmsim has no such command` : "";
+    const missing = answer.row.check === NO_SUCH_COMMAND ? missingWords(number) : "";
     throw new Refused(`${name}${missing}`, code, this.#words.meaning(code), answer);
   }
 

@@ -21,6 +21,8 @@ test("a refusal is thrown", async () => {
   assert.throws(() => tpm.accepted(decrypt), { message: "RSA_Decrypt (159): tpmsim has no such command: COMMAND_CODE (143), by G4" });
   const unknown = Uint8Array.of(0x80, 1, 0, 0, 0, 10, 0, 0, 0x0b, 0xad);
   assert.throws(() => tpm.accepted(unknown), { message: "unknown command (BAD): tpmsim has no such command: COMMAND_CODE (143), by G4" });
+  const turned = Uint8Array.of(0x80, 1, 0, 0, 0, 10, 0x7b, 1, 0, 0);
+  assert.throws(() => tpm.accepted(turned), { message: "unknown command (7B010000): its bytes in the other order are GetRandom: COMMAND_CODE (143), by G4" });
   const wrong = "Clear LOCKOUT pw:6e6f";
   assert.throws(() => tpm.accepted(wrong), { message: "Clear: AUTH_FAIL/s1 (98E), by G9" });
 });

@@ -131,7 +131,11 @@ impl fmt::Display for Refusal {
         let Refusal { command, code, check } = *self;
         write!(out, "{}", CommandName(command))?;
         if check == Check::General(4) {
-            write!(out, " ({command:X}): tpmsim has no such command")?;
+            write!(out, " ({command:X}): ")?;
+            match name_of(COMMANDS, command.swap_bytes()) {
+                Some(name) => write!(out, "its bytes in the other order are {name}")?,
+                None => out.write_str("tpmsim has no such command")?,
+            }
         }
         write!(out, ": {code}, by {check}")
     }

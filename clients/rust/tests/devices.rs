@@ -73,6 +73,11 @@ fn tells_who_refused() {
         unknown.to_string(),
         "unknown command (BAD): tpmsim has no such command: COMMAND_CODE (143), by G4"
     );
+    let turned = device.execute(&command(0x7b010000, &[])).accepted().unwrap_err();
+    assert_eq!(
+        turned.to_string(),
+        "unknown command (7B010000): its bytes in the other order are GetRandom: COMMAND_CODE (143), by G4"
+    );
     let decrypt = device.execute(&command(0x159, &[])).accepted().unwrap_err();
     assert_eq!(
         decrypt.to_string(),
