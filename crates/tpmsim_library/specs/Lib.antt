@@ -5,3 +5,4 @@ pub mod Journal
 pub mod Restoring
 pub mod Version
 pub mod Keeping
+pub mod Numbers

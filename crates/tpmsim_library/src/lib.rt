@@ -28,6 +28,7 @@ mod journal;
 mod keeper;
 mod keeper_holder;
 mod keeping;
+mod number_laws;
 mod owner;
 mod request;
 mod scratch;

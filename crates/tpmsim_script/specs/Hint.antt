@@ -44,14 +44,18 @@ token_by (Some offset) text = take offset text
 abbrev pub first_token : List ℕ → List ℕ
 first_token text = token_by (position (λ byte. byte == 32) text) text
 
--- a hint: a line with these words
-abbrev pub hint : List ℕ → List ℕ
-hint words = codes "    did you mean " ++ words ++ codes "?" ++ 10 ∷ []
+-- what suggests these words, one directly after the other
+abbrev pub suggestion : (front word : List ℕ) → List ℕ
+suggestion front word = codes "    did you mean " ++ front ++ word ++ codes "?"
+
+-- a hint: a line with a suggestion
+unfoldable pub hint : (front word : List ℕ) → List ℕ
+hint front word = suggestion front word ++ 10 ∷ []
 
 -- the hint at a word that resembles the name of a command; `front` precedes the name
 abbrev pub name_hint : (front word : List ℕ) → List ℕ
 name_hint front word =
-    option_map_or (λ code. hint (front ++ code_name code)) (command_like word) []
+    option_map_or (λ code. hint front (code_name code)) (command_like word) []
 
 -- the bytes of a password in hex, or `-` for an empty password
 abbrev pub password_digits : List ℕ → List ℕ
@@ -61,7 +65,7 @@ password_digits password = if length password == 0 then codes "-" else encode_lo
 abbrev pub password_hint : List ℕ → List ℕ
 password_hint token =
     if bytes_eq (take 3 token) (codes "pw:")
-    then hint (codes "pw:" ++ password_digits (drop 3 token)) else []
+    then hint (codes "pw:") (password_digits (drop 3 token)) else []
 
 -- whether this is the number of a PCR, or at least that of the first NV index
 abbrev pub is_handle_number : ℕ → Bool
@@ -70,7 +74,7 @@ is_handle_number number = nat_lt number 24 || nat_le 16777216 number
 -- the hint at a number that is not a handle: the number is probably meant as a handle
 abbrev pub number_hint : Result ℕ TokenFault → List ℕ
 number_hint (Ok number) =
-    if is_handle_number number then hint (encode_lower (to_be_bytes w32 number)) else []
+    if is_handle_number number then hint [] (encode_lower (to_be_bytes w32 number)) else []
 number_hint (Err fault) = []
 
 abbrev pub handle_hint : List ℕ → List ℕ
@@ -106,7 +110,7 @@ fault_hint wanted.Command line fault = words_hint (drop 3 line) fault
 fault_hint other line fault = []
 
 -- the line with which a hint says that lines end with a line feed alone
-abbrev pub return_hint : List ℕ
+unfoldable pub return_hint : List ℕ
 return_hint = codes "    the line ends with CR LF: end it with LF alone" ++ 10 ∷ []
 
 -- the hint at a bad line: a line of text, or nothing

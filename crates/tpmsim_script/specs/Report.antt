@@ -67,7 +67,7 @@ abbrev pub faults_text : List ℕ → List ℕ
 faults_text text = flat_map hinted_line (script_faults text)
 
 -- the report of a text that is not a script
-abbrev pub foreign_text : List ℕ
+unfoldable pub foreign_text : List ℕ
 foreign_text = codes "not a script: no line begins with do, cmd, loc, wait, entropy or power; tpmsim-explain FILE explains traces, dumps and arrays"
     ++ 10 ∷ []
 

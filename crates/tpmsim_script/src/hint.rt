@@ -3,13 +3,14 @@
 ghost use Rattle.std.specs.Prelude.{◌≡◌, ◌-◌, ◌++◌, drop, OnOk};
 ghost use Rattle.std.specs.Str.{str_eq_ignore_ascii_case};
 ghost use Rattle.tpmsim_script.specs.Hint.{bare_name, command_like, fault_hint, first_token};
-ghost use Rattle.tpmsim_script.specs.Hint.{handle_hint, hint_text, is_handle_number};
+ghost use Rattle.tpmsim_script.specs.Hint.{handle_hint, hint, hint_text, is_handle_number};
 ghost use Rattle.tpmsim_script.specs.Hint.{is_handle_word, name_hint};
-ghost use Rattle.tpmsim_script.specs.Hint.{password_hint, resembles, token_hint};
+ghost use Rattle.tpmsim_script.specs.Hint.{password_hint, resembles, return_hint, token_hint};
 ghost use Rattle.tpmsim_script.specs.Hint.{words_hint};
 
 use crate::bad_line::{BadLine, Wanted};
 use std::alloc::{AllocError, Global};
+use std::fmt;
 use tpm_commands::{CommandCode, Profile};
 use tpm_help::word_at;
 use tpm_number::number_in;
@@ -26,9 +27,47 @@ pub fn put_hint(
         (text.new.bytes.items ≡ text.old.bytes.items ++ hint_text line.now bad) }
 {
     if line.ends_with(b"\r") {
-        text.push_str("    the line ends with CR LF: end it with LF alone\n")
+        put_return(text)
     } else {
         put_fault_hint(alloc, text, line, bad)
+    }
+}
+
+/// Adds the hint at a line that ends with a carriage return.
+#[tactic(auto, unfolding(crate::specs::Hint::return_hint))]
+fn put_return(text: &mut String) -> Result<(), AllocError>
+    ensures { OnOk result (text.new.bytes.items ≡ text.old.bytes.items ++ return_hint) }
+{
+    writeln!(text, "    the line ends with CR LF: end it with LF alone")
+}
+
+/// Adds a hint: a line that suggests these words, one directly after the other.
+#[tactic(auto, unfolding(crate::specs::Hint::hint))]
+fn put_words(text: &mut String, front: &str, word: &str) -> Result<(), AllocError>
+    ensures { OnOk result (text.new.bytes.items
+        ≡ text.old.bytes.items ++ hint front.now word.now) }
+{
+    let suggestion = Suggestion { front, word };
+    writeln!(text, "{suggestion}")
+}
+
+/// Two words that are suggested, one directly after the other.
+#[derive(Clone, Copy)]
+struct Suggestion<'a> {
+    front: &'a str,
+    word: &'a str,
+}
+
+impl<'a> fmt::Display for Suggestion<'a> {
+    ghost use Rattle.std.specs.Prelude.{Some};
+    ghost use Rattle.tpmsim_script.specs.Hint.{suggestion};
+
+    ghost output = { λ it. Some (suggestion it.front.now it.word.now) };
+
+    fn fmt<W: fmt::Write>(&self, f: &mut fmt::Formatter<W>) -> fmt::Result {
+        let front = self.front;
+        let word = self.word;
+        write!(f, "    did you mean {front}{word}?")
     }
 }
 
@@ -75,10 +114,7 @@ fn put_name(text: &mut String, front: &str, word: &[u8]) -> Result<(), AllocErro
         (text.new.bytes.items ≡ text.old.bytes.items ++ name_hint front.now word.now) }
 {
     match command_like(word) {
-        Some(code) => {
-            let name = code.name();
-            writeln!(text, "    did you mean {front}{name}?")
-        }
+        Some(code) => put_words(text, front, code.name()),
         None => Ok(()),
     }
 }
@@ -109,10 +145,10 @@ fn put_password(alloc: Global, text: &mut String, token: &[u8]) -> Result<(), Al
 {
     match token.strip_prefix(b"pw:") {
         None => Ok(()),
-        Some([]) => text.push_str("    did you mean pw:-?\n"),
+        Some([]) => put_words(text, "pw:", "-"),
         Some(password) => {
             let digits = hex::encode(alloc, password)?;
-            writeln!(text, "    did you mean pw:{digits}?")
+            put_words(text, "pw:", digits.as_str())
         }
     }
 }
@@ -125,7 +161,7 @@ fn put_handle(alloc: Global, text: &mut String, token: &[u8]) -> Result<(), Allo
         Ok(number) if is_handle_number(number) => {
             let bytes = (number as u32).to_be_bytes();
             let digits = hex::encode(alloc, bytes)?;
-            writeln!(text, "    did you mean {digits}?")
+            put_words(text, "", digits.as_str())
         }
         _ => Ok(()),
     }

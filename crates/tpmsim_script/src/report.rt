@@ -41,13 +41,21 @@ const FOREIGN: &str =
     "not a script: no line begins with do, cmd, loc, wait, entropy or power; tpmsim-explain FILE \
      explains traces, dumps and arrays\n";
 
+/// The report of a text that is not a script.
+#[tactic(auto, unfolding(crate::specs::Report::foreign_text))]
+fn foreign_report(alloc: Global) -> Result<String, AllocError>
+    ensures { IfOk result (λ report. report.bytes.items ≡ foreign_text) }
+{
+    String::from_str(alloc, FOREIGN)
+}
+
 /// The reports of a text's bad lines, unless the text is not a script.
 fn unless_foreign(alloc: Global, text: &[u8], faults: String) -> Result<String, AllocError>
     ensures { IfOk result (λ report. report.bytes.items
-        ≡ (if is_foreign text.now then foreign_text else faults.entry.bytes.items)) }
+        ≡ (if is_foreign text.now then foreign_text else faults.bytes.items)) }
 {
     if is_foreign(text) {
-        String::from_str(alloc, FOREIGN)
+        foreign_report(alloc)
     } else {
         Ok(faults)
     }
