@@ -5,8 +5,10 @@ ghost use Rattle.clap.specs.Words.{found_of, rows_of};
 ghost use Rattle.tpmsim_arguments.specs.Invocation.{past_in, run_in, service_in};
 ghost use Rattle.tpmsim_arguments.specs.Slip.{has_slip, numbers_slip};
 
-use crate::arguments::{completes_by, connections_by, locality_by, log_by, needed_by, past_by};
-use crate::arguments::{is_set, place_of, profile_of, script_of, storage_of, value};
+use crate::arguments::{
+    completes_by, connections_by, is_set, locality_by, log_by, needed_by, past_by, place_of,
+    profile_of, script_of, storage_of, value,
+};
 use clap::ArgMatches;
 use std::fmt;
 use tpm_commands::Profile;

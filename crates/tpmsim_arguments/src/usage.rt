@@ -70,8 +70,18 @@ fn is_command(name: &str) -> bool
     ensures { result ≡ is_command name.now }
 {
     match name {
-        "run" | "check" | "asm" | "line" | "lines" | "code" | "serve" | "power" | "snapshot"
-        | "restore" | "script" | "replay" => true,
+        "run"
+        | "check"
+        | "asm"
+        | "line"
+        | "lines"
+        | "code"
+        | "serve"
+        | "power"
+        | "snapshot"
+        | "restore"
+        | "script"
+        | "replay" => true,
         _ => false,
     }
 }
