@@ -2,7 +2,7 @@
 """Tries the wrong bodies (mutants) under tests/wrong/. Each wrong body changes the meaning of one
 function or definition, and the prover must refuse it. The gate tries only the wrong bodies in the
 must-fail/ folders of crates. Those under tests/wrong/ are tried before a piece of work is declared done;
-docs/gate.json names the commit at which they were last tried.
+docs/gate.json says how many were known to be refused, and when.
 
     tools/soak/wrong_bodies.py                       all wrong bodies under tests/wrong/
     tools/soak/wrong_bodies.py tpm_pcr               the wrong bodies of one crate, or of several
