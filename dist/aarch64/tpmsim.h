@@ -61,9 +61,9 @@ enum tpmsim_told {
     /* The next six results say why bytes are not an image. The checks are made in this order. */
     /* There are fewer than 42 bytes. */
     TPMSIM_IMAGE_SHORT = 4,
-    /* The bytes do not begin with TPMI. */
+    /* The bytes begin neither with TPMI nor with TPMC. */
     TPMSIM_IMAGE_MAGIC = 5,
-    /* The version of the image is not 1 or 2. */
+    /* The version of the image is not 1 or 2; after TPMC, it is not 1. */
     TPMSIM_IMAGE_VERSION = 6,
     /* The length field does not match the number of bytes. */
     TPMSIM_IMAGE_LENGTH = 7,
@@ -111,7 +111,7 @@ typedef struct tpmsim_answered {
     /* The number of random bytes that the command drew, counted from the beginning of the 256; 0 if
        the command was refused. The bytes after these were not used, and may be passed again. */
     size_t drawn;
-    /* The command code, TPM_CC; 0 if the buffer contains none. */
+    /* The command code, TPM_CC; 0 if the buffer contains none that the device serves. */
     uint32_t code;
     /* The check that refused the command, as a number: n for the general check Gn, 20 + n for the
        command's own check An, 255 if memory was exhausted (which never happens here), and 0 if no
