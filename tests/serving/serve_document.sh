@@ -1,5 +1,5 @@
 # Runs the lines of docs/SERVE.md that serve a device, in a folder and in an image, and the lines of docs/TOOLS.md
-# that seal a key with tpm2-tools, exactly as written there. The last line prints the key.
+# that seal a key on a served device with tpm2-tools, exactly as written there. The last line prints the key.
 tests=$(cd "$(dirname "$0")/.." && pwd -P)
 . "$tests/common/cases.sh"
 needs tpm2 socat
@@ -18,7 +18,7 @@ seals() {
     mkdir "$1"
     ln -s "$program" "$1/tpmsim"
     # shellcheck disable=SC2016 # the extracted shell lines expand it
-    { cat "$1.lines" && echo 'echo "$!" >served' && block TOOLS tpm2-tools; } >"$1/lines"
+    { cat "$1.lines" && echo 'echo "$!" >served' && block TOOLS tpm2-tools 2; } >"$1/lines"
     (cd "$1" && timeout 600 sh lines) >"$room/output" 2>"$room/told" || cat "$room/told"
     kill "$(cat "$1/served")"
     echo "$1: $(grep -c . "$1/lines") lines"
